@@ -1,0 +1,12 @@
+pub mod NumberLaws
+pub mod CutLaws
+pub mod HexLaws
+pub mod FormLaws
+pub mod SpellLaws
+pub mod LineLaws
+pub mod WritingLaws
+pub mod MachineLaws
+pub mod ReadingLaws
+pub mod TableLaws
+pub mod RowLaws
+pub mod StepLaws

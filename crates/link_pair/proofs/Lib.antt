@@ -1,0 +1,13 @@
+pub mod Words
+pub mod StepForms
+pub mod HandshakeSteps
+pub mod OfferSteps
+pub mod PollSteps
+pub mod StepsKeepPair
+pub mod AloneKept
+pub mod RingLayoutLaws
+pub mod SingleSessionKept
+pub mod FoldAlong
+pub mod RowsOfHonestEnds
+pub mod SessionNumbers
+pub mod SessionsKept

@@ -1,0 +1,11 @@
+pub mod Layout
+pub mod Standing
+pub mod Pair
+pub mod Moves
+pub mod Alone
+pub mod RingLayout
+pub mod SingleSession
+pub mod Fold
+pub mod HonestRows
+pub mod PairedSessions
+pub mod Laws

@@ -1,0 +1,13 @@
+use Rattle.std.proofs.Common.{◌+◌, ◌-◌, ◌≤◌, length}
+use Rattle.ivs_base.specs.Ends.{Gave}
+use Rattle.ivs_base.proofs.ends.read_all.Given as goal
+
+abbrev pub invariant-loop-chunk : goal.invariant-loop-chunk
+invariant-loop-chunk g l = record {
+  read : Gave (g.S.Source.input l.initial.source) l.bytes.items (g.S.Source.input l.source);
+  within : length l.bytes.items ≤ l.limit + 1;
+  later : (g.S.Source.input l.initial.source).faults ≤ (g.S.Source.input l.source).faults;
+}
+
+abbrev pub decreases-loop-chunk : goal.decreases-loop-chunk
+decreases-loop-chunk g l = l.limit + 1 - length l.bytes.items

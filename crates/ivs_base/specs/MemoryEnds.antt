@@ -1,0 +1,58 @@
+-- Sources and sinks in memory, which fail at the calls that they were told to fail at (profile).
+use Rattle.std.specs.Prelude.{ℕ, ◌+◌, ◌-◌, ◌^◌, ◌==◌, List, ◌++◌, Some, length, drop, min}
+use Rattle.ivs_base.specs.Ends.{Input, Output}
+
+-- a source: the bytes left, the most that a call gives, the numbers of the calls that fail, and the
+-- calls and the faults so far
+pub record MemoryInput : Type 0 where
+  pub left : List ℕ
+  pub piece : ℕ
+  pub fails : List ℕ
+  pub calls : ℕ
+  pub faults : ℕ
+
+-- a sink: the bytes written, the room for them, the most that a call takes, the numbers of the calls
+-- that fail, and the calls and the faults so far
+pub record MemoryOutput : Type 0 where
+  pub written : List ℕ
+  pub room : ℕ
+  pub piece : ℕ
+  pub fails : List ℕ
+  pub calls : ℕ
+  pub faults : ℕ
+
+-- one more, up to the last number that a count reaches
+abbrev pub counted : ℕ → ℕ
+counted count = min (count + 1) (2 ^ 64 - 1)
+
+-- what is known of a source in memory: it tells its bytes, and has ended where none is left
+abbrev pub input_of : MemoryInput → Input
+input_of source = record { left = Some source.left; ended = length source.left == 0; faults = source.faults }
+
+-- how many bytes a call gives into this much room
+abbrev pub given_count : MemoryInput → ℕ → ℕ
+given_count source room = min (min (length source.left) source.piece) room
+
+-- the source behind a call that gave so many bytes
+abbrev pub source_behind : MemoryInput → ℕ → MemoryInput
+source_behind source count = record source { left = drop count source.left; calls = counted source.calls }
+
+-- the source behind a call that failed
+abbrev pub source_failed : MemoryInput → MemoryInput
+source_failed source = record source { calls = counted source.calls; faults = counted source.faults }
+
+-- what is known of a sink in memory: it tells its bytes
+abbrev pub output_of : MemoryOutput → Output
+output_of sink = record { written = Some sink.written; faults = sink.faults }
+
+-- how many of these bytes a call takes
+abbrev pub taken_count : MemoryOutput → List ℕ → ℕ
+taken_count sink bytes = min (length bytes) sink.piece
+
+-- the sink behind a call that took these bytes
+abbrev pub sink_behind : MemoryOutput → List ℕ → MemoryOutput
+sink_behind sink bytes = record sink { written = sink.written ++ bytes; calls = counted sink.calls }
+
+-- the sink behind a call that failed
+abbrev pub sink_failed : MemoryOutput → MemoryOutput
+sink_failed sink = record sink { calls = counted sink.calls; faults = counted sink.faults }

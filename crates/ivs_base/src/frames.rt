@@ -1,0 +1,59 @@
+//! Ethernet frames, and the want of memory.
+ghost use Rattle.std.specs.Prelude.{◌≡◌, ℕ, List, IfOk};
+ghost use Rattle.std.specs.Str.{bytes_eq};
+ghost use Rattle.std.specs.Cmp.Rules.{comparing};
+ghost use Rattle.std.proofs.Common.{rules};
+
+use std::alloc::Global;
+use std::marker::Model;
+use thiserror::Error;
+
+/// There was no memory left. Nothing was kept of what the call was to make.
+#[derive(Clone, Copy, Debug, PartialEq, Eq, Error)]
+#[error("out of memory")]
+pub struct NoMemory;
+
+/// An Ethernet frame without its check sequence: any list of bytes.
+#[derive(Debug, Drop)]
+pub struct Frame {
+    bytes: Vec<u8>,
+}
+
+impl Model for Frame {
+    ghost Value = { List ℕ };
+
+    ghost view = { λ frame. frame.bytes.items };
+}
+
+impl Frame {
+    /// A frame of these bytes. NoMemory comes only where memory ran out.
+    pub fn of(alloc: Global, bytes: &[u8]) -> Result<Frame, NoMemory>
+        ensures { IfOk result (λ frame. frame ≡ bytes.now) }
+    {
+        match bytes.to_vec(alloc) {
+            Ok(bytes) => Ok(Frame { bytes }),
+            Err(_) => Err(NoMemory),
+        }
+    }
+
+    /// The bytes of the frame, from its first.
+    pub fn bytes(&self) -> &[u8]
+        ensures { result.now ≡ self.now }
+    {
+        self.bytes.as_slice()
+    }
+}
+
+impl PartialEq for Frame {
+    ghost eq = { bytes_eq };
+
+    ghost laws = { Prim.search (comparing, rules) };
+
+    fn eq(&self, other: &Frame) -> bool {
+        self.bytes() == other.bytes()
+    }
+}
+
+impl Eq for Frame {
+    ghost laws = { Prim.search (comparing, rules) };
+}

@@ -1,0 +1,197 @@
+//! A source and a sink in memory, which fail at the calls that they were told to fail at. Their calls
+//! are told exactly, so that a test can follow what a fault does to whoever reads or writes.
+ghost use Rattle.std.specs.Prelude.{◌≡◌, ◌<◌, ◌≤◌, ◌+◌, ◌↔◌, ◌⊎◌, [], IfOk, OnErr, IsErr, Contains, length, take};
+ghost use Rattle.ivs_base.specs.Ends.{Gave, HasEnded, Took, SourceFailed, SinkFailed};
+ghost use Rattle.ivs_base.specs.MemoryEnds.{counted, input_of, given_count, source_behind, source_failed, output_of, taken_count, sink_behind, sink_failed};
+
+use super::ends::{Failed, Sink, Source};
+use super::frames::NoMemory;
+use std::alloc::Global;
+use std::marker::Model;
+
+/// A source over bytes in memory. A call gives the least of `piece`, the room handed in and what is
+/// left. It fails exactly where its number, from 1, is listed.
+#[derive(Debug, Drop)]
+pub struct MemorySource {
+    bytes: Vec<u8>,
+    at: usize,
+    piece: usize,
+    fails: Vec<u64>,
+    calls: u64,
+    faults: u64,
+}
+
+impl Model for MemorySource {
+    ghost use Rattle.std.specs.Prelude.{◌<◌, ◌≤◌, drop, vec_len};
+    ghost use Rattle.ivs_base.specs.MemoryEnds.{MemoryInput};
+
+    ghost Value = { MemoryInput };
+
+    ghost view = { λ s. record { left = drop s.at s.bytes.items; piece = s.piece; fails = s.fails.items; calls = s.calls; faults = s.faults } };
+
+    ghost invariant = { λ s. (s.at ≤ vec_len s.bytes) × (0 < s.piece) };
+}
+
+impl MemorySource {
+    /// A source of these bytes that gives at most `piece` of them in one call, and fails at the calls
+    /// whose numbers, from 1, are in `fails`.
+    pub fn new(
+        alloc: Global,
+        bytes: &[u8],
+        piece: usize,
+        fails: &[u64],
+    ) -> Result<MemorySource, NoMemory>
+        requires { 0 < piece }
+        ensures { IfOk result (λ s. s ≡ record { left = bytes.now; piece = piece; fails = fails.now; calls = 0; faults = 0 }) }
+    {
+        let Ok(bytes) = bytes.to_vec(alloc) else {
+            return Err(NoMemory);
+        };
+        let Ok(fails) = fails.to_vec(alloc) else {
+            return Err(NoMemory);
+        };
+        Ok(MemorySource {
+            bytes,
+            at: 0,
+            piece,
+            fails,
+            calls: 0,
+            faults: 0,
+        })
+    }
+
+    /// How many calls failed so far.
+    pub fn faults(&self) -> u64
+        ensures { result ≡ self.now.faults }
+    {
+        self.faults
+    }
+}
+
+impl Source for MemorySource {
+    ghost input = { input_of };
+
+    fn read(&mut self, into: &mut [u8]) -> Result<usize, Failed>
+        requires { 0 < length into.old }
+        ensures fails { IsErr result ↔ Contains self.old.fails (counted self.old.calls) }
+        ensures given { IfOk result (λ k. k ≡ given_count self.old (length into.old)) }
+        ensures bytes { IfOk result (λ k. take k into.new ≡ take k self.old.left) }
+        ensures behind { IfOk result (λ k. self.new ≡ source_behind self.old k) }
+        ensures failed { OnErr result (self.new ≡ source_failed self.old) }
+
+        // what every source ensures
+        ensures fits { IfOk result (λ k. k ≤ length into.old) }
+        ensures gives { IfOk result (λ k. Gave (input_of self.old) (take k into.new) (input_of self.new)) }
+        ensures end { IfOk result (λ k. k ≡ 0 → HasEnded (input_of self.new)) }
+        ensures later { (input_of self.old).faults ≤ (input_of self.new).faults }
+        ensures cause { OnErr result (SourceFailed (input_of self.old) (input_of self.new)) }
+    {
+        self.calls = self.calls.saturating_add(1);
+        if self.fails.contains(&self.calls) {
+            self.faults = self.faults.saturating_add(1);
+            return Err(Failed);
+        }
+        let left = self.bytes.len() - self.at;
+        let count = left.min(self.piece).min(into.len());
+        into[..count].copy_from_slice(&self.bytes[self.at..self.at + count]);
+        self.at += count;
+        Ok(count)
+    }
+}
+
+/// A sink into memory that was reserved for it. A call takes the lesser of `piece` and what is handed
+/// in. It fails exactly where its number, from 1, is listed, or where the bytes that it would take
+/// pass the room.
+#[derive(Debug, Drop)]
+pub struct MemorySink {
+    bytes: Vec<u8>,
+    room: usize,
+    piece: usize,
+    fails: Vec<u64>,
+    calls: u64,
+    faults: u64,
+}
+
+impl Model for MemorySink {
+    ghost use Rattle.std.specs.Prelude.{◌<◌, ◌≤◌, vec_len, vec_capacity};
+    ghost use Rattle.ivs_base.specs.MemoryEnds.{MemoryOutput};
+
+    ghost Value = { MemoryOutput };
+
+    ghost view = { λ s. record { written = s.bytes.items; room = s.room; piece = s.piece; fails = s.fails.items; calls = s.calls; faults = s.faults } };
+
+    ghost invariant = { λ s. (s.room ≤ vec_capacity s.bytes) × (vec_len s.bytes ≤ s.room) × (0 < s.piece) };
+}
+
+impl MemorySink {
+    /// An empty sink with `room` bytes of room that takes at most `piece` bytes in one call, and fails
+    /// at the calls whose numbers, from 1, are in `fails`.
+    pub fn new(
+        alloc: Global,
+        room: usize,
+        piece: usize,
+        fails: &[u64],
+    ) -> Result<MemorySink, NoMemory>
+        requires { 0 < piece }
+        ensures { IfOk result (λ s. s ≡ record { written = []; room = room; piece = piece; fails = fails.now; calls = 0; faults = 0 }) }
+    {
+        let Ok(bytes) = Vec::with_capacity(alloc, room) else {
+            return Err(NoMemory);
+        };
+        let Ok(fails) = fails.to_vec(alloc) else {
+            return Err(NoMemory);
+        };
+        Ok(MemorySink {
+            bytes,
+            room,
+            piece,
+            fails,
+            calls: 0,
+            faults: 0,
+        })
+    }
+
+    /// The bytes written so far.
+    pub fn bytes(&self) -> &[u8]
+        ensures { result.now ≡ self.now.written }
+    {
+        self.bytes.as_slice()
+    }
+
+    /// How many calls failed so far.
+    pub fn faults(&self) -> u64
+        ensures { result ≡ self.now.faults }
+    {
+        self.faults
+    }
+}
+
+impl Sink for MemorySink {
+    ghost output = { output_of };
+
+    fn write(&mut self, bytes: &[u8]) -> Result<usize, Failed>
+        requires { 0 < length bytes.now }
+        ensures fails { IsErr result ↔ (Contains self.old.fails (counted self.old.calls)
+            ⊎ (self.old.room < length self.old.written + taken_count self.old bytes.now)) }
+        ensures taken { IfOk result (λ k. k ≡ taken_count self.old bytes.now) }
+        ensures behind { IfOk result (λ k. self.new ≡ sink_behind self.old (take k bytes.now)) }
+        ensures failed { OnErr result (self.new ≡ sink_failed self.old) }
+
+        // what every sink ensures
+        ensures some { IfOk result (λ k. 0 < k) }
+        ensures fits { IfOk result (λ k. k ≤ length bytes.now) }
+        ensures appends { IfOk result (λ k. Took (output_of self.old) (take k bytes.now) (output_of self.new)) }
+        ensures nothing { OnErr result ((output_of self.new).written ≡ (output_of self.old).written) }
+        ensures later { (output_of self.old).faults ≤ (output_of self.new).faults }
+        ensures cause { OnErr result (SinkFailed (output_of self.old) (output_of self.new)) }
+    {
+        self.calls = self.calls.saturating_add(1);
+        let count = bytes.len().min(self.piece);
+        if self.fails.contains(&self.calls) || count > self.room - self.bytes.len() {
+            self.faults = self.faults.saturating_add(1);
+            return Err(Failed);
+        }
+        self.bytes.extend_from_slice(&bytes[..count]).unwrap();
+        Ok(count)
+    }
+}

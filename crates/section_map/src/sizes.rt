@@ -1,0 +1,213 @@
+//! The sizes of a region, and whose each of its words is.
+ghost use Rattle.std.specs.Prelude.{◌≡◌, ◌+◌, ◌<◌, ◌≤◌, ◌↔◌, IfOk, IfErr, IsTrue};
+ghost use Rattle.section_map.specs.Geometry.{Shape, IsShape, section_start, word_count};
+ghost use Rattle.section_map.specs.MayWrite.{MayWrite, IsSectionOf};
+ghost use Rattle.section_map.specs.Faults.{IsFirstFault, IsPages, IsSomePages, shape_of};
+
+use std::marker::Model;
+use thiserror::Error;
+
+/// The bytes of a page. Every size is whole pages (profile).
+const PAGE: u64 = 4096;
+
+/// The most peers of a region.
+const MOST_PEERS: u32 = 65_536;
+
+/// The most bytes of a region, which are 4,194,304 words (profile).
+const MOST_BYTES: u128 = 16_777_216;
+
+/// A part of a region that has a size of its own.
+#[derive(Clone, Copy, Debug, PartialEq, Eq)]
+pub enum Part {
+    /// The State Table.
+    Table,
+    /// The section that every peer may write.
+    Common,
+    /// Each peer's output section.
+    Out,
+}
+
+/// Where a word of a region lies.
+#[derive(Clone, Copy, Debug, PartialEq, Eq)]
+pub enum Section {
+    /// In the State Table, which no peer may write.
+    Table,
+    /// In the common section, which every peer may write.
+    Common,
+    /// In the output section of this peer, which it alone may write.
+    Output(u32),
+}
+
+/// Why sizes make no region. All sizes are in bytes.
+#[derive(Clone, Copy, Debug, PartialEq, Eq, Error)]
+pub enum GeometryFault {
+    /// The number of peers isn't 2 to 65,536.
+    #[error("{0} peers: a region serves 2 to 65536")]
+    BadPeers(u32),
+    /// The size isn't whole pages of 4,096 bytes, or is 0 where it may not be.
+    #[error("the {part:?} size {size} isn't whole pages of 4096 bytes")]
+    BadPage { part: Part, size: u64 },
+    /// The State Table has no word for each peer.
+    #[error("the table needs {need} bytes and has {found}")]
+    TableTooSmall { need: u64, found: u32 },
+    /// The region has more than 16,777,216 bytes.
+    #[error("{bytes} bytes are more than a region has")]
+    TooLarge { bytes: u128 },
+}
+
+/// How many peers a region serves and how large its parts are: from the base upwards the State Table,
+/// the common section, and the output sections of peer 0, peer 1 and so on.
+#[derive(Clone, Copy, Debug, PartialEq, Eq)]
+pub struct Geometry {
+    peers: u32,
+    table: u32,
+    common: u32,
+    out: u32,
+}
+
+impl Model for Geometry {
+    ghost use Rattle.section_map.specs.Geometry.{Shape, IsShape};
+
+    ghost Value = { Shape };
+
+    ghost view = { λ g. record { peers = g.peers; table = g.table; common = g.common; out = g.out } };
+
+    ghost invariant = { λ g. IsShape (record { peers = g.peers; table = g.table; common = g.common; out = g.out }) };
+
+    ghost inverse = { λ g. record { peers = g.peers; table = g.table; common = g.common; out = g.out } };
+}
+
+/// Is the size whole pages?
+fn is_pages(size: u64) -> bool
+    ensures { IsTrue result ↔ IsPages size }
+{
+    size % PAGE == 0
+}
+
+/// Is the size whole pages, and one at least?
+fn is_some_pages(size: u64) -> bool
+    ensures { IsTrue result ↔ IsSomePages size }
+{
+    size > 0 && is_pages(size)
+}
+
+impl Geometry {
+    /// The geometry of these sizes, all in bytes but for the number of peers. The error is the first
+    /// thing that is wrong with them, with the number that is wrong.
+    pub fn new(peers: u32, table: u32, common: u64, out: u64) -> Result<Geometry, GeometryFault>
+        ensures made { IfOk result (λ g. g ≡ shape_of peers table common out) }
+        ensures shape { IfOk result (λ g. IsShape g) }
+        ensures fault { IfErr result (IsFirstFault peers table common out) }
+    {
+        if !(2..=MOST_PEERS).contains(&peers) {
+            return Err(GeometryFault::BadPeers(peers));
+        }
+        if !is_some_pages(u64::from(table)) {
+            return Err(GeometryFault::BadPage {
+                part: Part::Table,
+                size: u64::from(table),
+            });
+        }
+        if !is_pages(common) {
+            return Err(GeometryFault::BadPage {
+                part: Part::Common,
+                size: common,
+            });
+        }
+        if !is_some_pages(out) {
+            return Err(GeometryFault::BadPage {
+                part: Part::Out,
+                size: out,
+            });
+        }
+        let need = 4 * u64::from(peers);
+        if u64::from(table) < need {
+            return Err(GeometryFault::TableTooSmall { need, found: table });
+        }
+        let bytes = u128::from(table) + u128::from(common) + u128::from(peers) * u128::from(out);
+        if bytes > MOST_BYTES {
+            return Err(GeometryFault::TooLarge { bytes });
+        }
+        Ok(Geometry {
+            peers,
+            table: table / 4,
+            common: (common / 4) as u32,
+            out: (out / 4) as u32,
+        })
+    }
+
+    /// How many peers the region serves.
+    pub fn peers(&self) -> u32
+        ensures value { result ≡ self.now.peers }
+        ensures shape { IsShape self.now }
+    {
+        self.peers
+    }
+
+    /// The words of the State Table.
+    pub fn table_words(&self) -> u32
+        ensures value { result ≡ self.now.table }
+        ensures shape { IsShape self.now }
+    {
+        self.table
+    }
+
+    /// The words of the common section, 0 where there is none.
+    pub fn common_words(&self) -> u32
+        ensures value { result ≡ self.now.common }
+        ensures shape { IsShape self.now }
+    {
+        self.common
+    }
+
+    /// The words of each output section.
+    pub fn out_words(&self) -> u32
+        ensures value { result ≡ self.now.out }
+        ensures shape { IsShape self.now }
+    {
+        self.out
+    }
+
+    /// The words of the region.
+    pub fn words(&self) -> u32
+        ensures value { result ≡ word_count self.now }
+        ensures shape { IsShape self.now }
+    {
+        self.table + self.common + self.peers * self.out
+    }
+
+    /// The word at which the output section of `peer` starts.
+    pub fn section_start(&self, peer: u32) -> u32
+        requires { peer < self.now.peers }
+        ensures value { result ≡ section_start self.now peer }
+        ensures within { result + self.now.out ≤ word_count self.now }
+        ensures shape { IsShape self.now }
+    {
+        self.table + self.common + peer * self.out
+    }
+
+    /// Where `word` lies.
+    pub fn section_of(&self, word: u32) -> Section
+        requires { word < word_count self.now }
+        ensures { IsSectionOf self.now word result }
+    {
+        let outputs = self.table + self.common;
+        if word < self.table {
+            Section::Table
+        } else if word < outputs {
+            Section::Common
+        } else {
+            Section::Output((word - outputs) / self.out)
+        }
+    }
+
+    /// May `peer` write `word`? It may in its own output section and in the common section alone.
+    pub fn may_write(&self, peer: u32, word: u32) -> bool
+        requires { peer < self.now.peers }
+        ensures { IsTrue result ↔ MayWrite self.now peer word }
+    {
+        let start = self.section_start(peer);
+        (start <= word && word - start < self.out)
+            || (self.table <= word && word - self.table < self.common)
+    }
+}

@@ -1,56 +1,159 @@
 -- Where each field of an output section stands.
--- Source: VIRTIO 1.1 section 2.6 for the parts of a split virtqueue, their order and their widths; profile for the
--- alignments to 64 bytes, the queue's size, the slots and the limit in flight.
-use Rattle.std.specs.Prelude.{ℕ, ◌+◌, ◌-◌, ◌*◌, ◌/◌, ◌<◌, min, List, [], ◌∷◌, Option, find, nat_lt, unwrap_or}
+-- Source: VIRTIO 1.1 section 2.6 for the parts of a split virtqueue, their order and the widths of their fields;
+-- profile for the alignments to 64 bytes, the queue's size, the slots and the limit in flight.
+use Rattle.std.specs.Prelude.{◌≡◌, ℕ, ◌+◌, ◌-◌, ◌*◌, ◌/◌, ◌%◌, ◌^◌, ◌<◌, ◌≤◌, min, List, [], ◌∷◌, Option, Some, None, find, nat_lt, unwrap_or, MatchOption}
 
--- the two sizes that fix every place: the bytes of an output section, and the MTU
+-- the two numbers that fix every place: the bytes of an output section, and the MTU
 pub record Sizes : Type 0 where
   pub out : ℕ
   pub mtu : ℕ
 
+-- the least multiple of 64 that isn't below x
 abbrev pub up64 : ℕ → ℕ
 up64 x = (x + 63) / 64 * 64
 
--- the available ring stands behind the descriptors, which have 16 bytes each
+-- Places are bytes from the start of the section. The descriptors of a queue of n stand first and have 16 bytes each;
+-- behind them stands the available ring
 abbrev pub available_place : ℕ → ℕ
 available_place n = 16 * n
 
--- the used ring stands behind the available ring, which has 6 bytes and 2 for each entry (profile: at the next multiple of 64)
+-- the available ring has 6 bytes and 2 for each entry; the used ring stands at the next multiple of 64
 abbrev pub used_place : ℕ → ℕ
 used_place n = up64 (18 * n + 6)
 
--- the ring part ends behind the used ring, which has 6 bytes and 8 for each element (profile: at the next multiple of 64)
+-- the used ring has 6 bytes and 8 for each element; the data area stands at the next multiple of 64
 abbrev pub ring_part : ℕ → ℕ
 ring_part n = up64 (used_place n + 6 + 8 * n)
 
--- the ring part of a queue of n is less than an eighth of the section (profile)
+-- the ring part of a queue of n is less than an eighth of the section
 abbrev pub Fits : ℕ → ℕ → Type 0
 Fits out n = 8 * ring_part n < out
 
--- the sizes that a queue may have (profile)
+-- the powers of two from 4,096 down to 64
 abbrev pub queue_sizes : List ℕ
 queue_sizes = 4096 ∷ 2048 ∷ 1024 ∷ 512 ∷ 256 ∷ 128 ∷ 64 ∷ []
 
--- the first of these sizes that fits
+-- the queue's size for a section of so many bytes: the greatest of them that fits
 unfoldable pub queue_size : ℕ → Option ℕ
 queue_size out = find (λ n. nat_lt (8 * ring_part n) out) queue_sizes
 
--- the number of descriptors, entries and elements
-abbrev pub size : Sizes → ℕ
-size q = unwrap_or (queue_size q.out) 0
+-- the number of descriptors, of entries and of elements
+abbrev pub size_of : Sizes → ℕ
+size_of q = unwrap_or (queue_size q.out) 0
 
 -- the place of the data area
-abbrev pub payload : Sizes → ℕ
-payload q = ring_part (size q)
+abbrev pub payload_of : Sizes → ℕ
+payload_of q = ring_part (size_of q)
 
 -- the bytes of the data area
-abbrev pub room : Sizes → ℕ
-room q = q.out - payload q
+abbrev pub room_of : Sizes → ℕ
+room_of q = q.out - payload_of q
 
--- the bytes of a slot: the longest frame, which has 18 bytes beyond the MTU, to the next multiple of 64 (profile)
-abbrev pub slot : Sizes → ℕ
-slot q = up64 (18 + q.mtu)
+-- the bytes of a slot, which holds the longest frame: 18 bytes more than the MTU
+abbrev pub slot_of : Sizes → ℕ
+slot_of q = up64 (18 + q.mtu)
 
--- how many frames may be in flight (profile)
-unfoldable pub limit : Sizes → ℕ
-limit q = min (size q) (room q / slot q)
+-- how many frames may be in flight: as many as have a descriptor and a slot
+unfoldable pub limit_of : Sizes → ℕ
+limit_of q = min (size_of q) (room_of q / slot_of q)
+
+-- the sizes of a queue: a queue size fits, and the data area has a slot
+pub record IsQueue (q : Sizes) : Type 0 where
+  pub mtu_least : 256 ≤ q.mtu
+  pub mtu_most : q.mtu ≤ 65535
+  pub section : q.out ≤ 2 ^ 24
+  pub fits : queue_size q.out ≡ Some (size_of q)
+  pub one_slot : slot_of q ≤ room_of q
+
+-- the fields of a section: of descriptor i, of the available ring with its entries, of the used ring with its elements, and the slots
+pub data Field : Type 0 where
+  Address : (i : ℕ) → Field
+  Length : (i : ℕ) → Field
+  Flags : (i : ℕ) → Field
+  Next : (i : ℕ) → Field
+  AvailableFlags : Field
+  AvailableIndex : Field
+  Entry : (k : ℕ) → Field
+  UsedEvent : Field
+  UsedFlags : Field
+  UsedIndex : Field
+  Id : (k : ℕ) → Field
+  Amount : (k : ℕ) → Field
+  AvailableEvent : Field
+  Slot : (i : ℕ) → Field
+
+-- the first byte of a field
+abbrev pub place_of : Sizes → Field → ℕ
+place_of q (Address i) = 16 * i
+place_of q (Length i) = 16 * i + 8
+place_of q (Flags i) = 16 * i + 12
+place_of q (Next i) = 16 * i + 14
+place_of q AvailableFlags = available_place (size_of q)
+place_of q AvailableIndex = available_place (size_of q) + 2
+place_of q (Entry k) = available_place (size_of q) + 4 + 2 * k
+place_of q UsedEvent = available_place (size_of q) + 4 + 2 * size_of q
+place_of q UsedFlags = used_place (size_of q)
+place_of q UsedIndex = used_place (size_of q) + 2
+place_of q (Id k) = used_place (size_of q) + 4 + 8 * k
+place_of q (Amount k) = used_place (size_of q) + 8 + 8 * k
+place_of q AvailableEvent = used_place (size_of q) + 4 + 8 * size_of q
+place_of q (Slot i) = payload_of q + slot_of q * i
+
+-- how many bytes it has
+abbrev pub width_of : Sizes → Field → ℕ
+width_of q (Address i) = 8
+width_of q (Length i) = 4
+width_of q (Id k) = 4
+width_of q (Amount k) = 4
+width_of q (Slot i) = slot_of q
+width_of q f = 2
+
+-- a field of this section
+abbrev pub IsField : Sizes → Field → Type 0
+IsField q (Address i) = i < size_of q
+IsField q (Length i) = i < size_of q
+IsField q (Flags i) = i < size_of q
+IsField q (Next i) = i < size_of q
+IsField q (Entry k) = k < size_of q
+IsField q (Id k) = k < size_of q
+IsField q (Amount k) = k < size_of q
+IsField q (Slot i) = i < limit_of q
+IsField q f = Unit {0}
+
+-- the word of the section in which a field begins
+abbrev pub word_place : Sizes → Field → ℕ
+word_place q f = place_of q f / 4
+
+-- the byte b of the section is one of the field
+abbrev pub HasByte : Sizes → Field → ℕ → Type 0
+HasByte q f b = (place_of q f ≤ b) × (b < place_of q f + width_of q f)
+
+-- no byte belongs to two fields, and each field lies inside the section and behind no part of a word that it leaves out:
+-- a field of two bytes in a half of a word, any other in whole words
+pub record IsLaidOut (q : Sizes) : Type 0 where
+  pub apart : (f g : Field) (b : ℕ) → IsField q f → IsField q g → HasByte q f b → HasByte q g b → f ≡ g
+  pub inside : (f : Field) → IsField q f → place_of q f + width_of q f ≤ q.out
+  pub aligned : (f : Field) → IsField q f → place_of q f % min 4 (width_of q f) ≡ 0
+
+-- how large the numbers of a queue are
+pub record HasBounds (q : Sizes) : Type 0 where
+  pub size_least : 64 ≤ size_of q
+  pub size_most : size_of q ≤ 4096
+  pub limit_least : 0 < limit_of q
+  pub limit_most : limit_of q ≤ size_of q
+  pub rings : 8 * payload_of q < q.out
+  pub slots : payload_of q + slot_of q * limit_of q ≤ q.out
+
+-- n is the greatest power of two from 64 to 4,096 whose ring part is less than an eighth of the section
+pub record IsQueueSize (out n : ℕ) : Type 0 where
+  pub power : (k : ℕ) × ((6 ≤ k) × (k ≤ 12) × (n ≡ 2 ^ k))
+  pub fits : Fits out n
+  pub greatest : (k : ℕ) → 6 ≤ k → k ≤ 12 → Fits out (2 ^ k) → 2 ^ k ≤ n
+
+-- the queue's size is that power of two, and is missing where none of them fits
+abbrev pub QueueSizeIsGreatest : Type 0
+QueueSizeIsGreatest = (out : ℕ) → MatchOption (queue_size out) ((k : ℕ) → 6 ≤ k → k ≤ 12 → Fits out (2 ^ k) → 2 ^ k ≤ 0) (IsQueueSize out)
+
+-- each queue is laid out so
+abbrev pub QueuesAreLaidOut : Type 0
+QueuesAreLaidOut = (q : Sizes) → IsQueue q → IsLaidOut q

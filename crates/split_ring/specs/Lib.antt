@@ -1,2 +1,4 @@
-pub mod Layout
+pub mod Faults
 pub mod Kept
+pub mod Layout
+pub mod Ranges

@@ -1,9 +1,18 @@
 //! Where the fields of an output section stand.
+ghost use Rattle.std.specs.Prelude.{◌≡◌, ◌+◌, ◌*◌, ◌/◌, ◌%◌, ◌<◌, ◌≤◌, ◌^◌, IfOk, IfErr};
+ghost use Rattle.split_ring.specs.Layout.{used_place, ring_part, queue_size, Sizes, size_of, payload_of, slot_of, limit_of, IsQueue, HasBounds, word_place, Address, AvailableIndex, Entry, UsedEvent, UsedIndex, Id, AvailableEvent, QueueSizeIsGreatest, QueuesAreLaidOut};
+ghost use Rattle.split_ring.specs.Faults.{IsQueueFault};
+
+use crate::QueueFault;
 use std::marker::Model;
+
+/// The queue sizes, the greatest first.
+const SIZES: [u32; 7] = [4096, 2048, 1024, 512, 256, 128, 64];
 
 /// The queue of a link: for the bytes of an output section and the MTU, its size and the place of each field.
 ///
-/// A contract sees the two sizes, and each number is a function of them (`specs/Layout`).
+/// A contract sees the two sizes, and each number is a function of them (`specs/Layout`). Both sections of a link
+/// have this layout. Words are numbered from the start of the section.
 #[derive(Clone, Copy, Debug)]
 pub struct Queue {
     out: u32,
@@ -27,4 +36,196 @@ impl Model for Queue {
     ghost invariant = { IsKept };
 
     ghost inverse = { inside_of };
+}
+
+impl Queue {
+    /// The queue of sections of `out` bytes for frames of at most `mtu` bytes and 18 more.
+    ///
+    /// The first test that fails is the error: BadMtu where the MTU isn't 256 to 65,535, TooSmall where no queue
+    /// size fits the section, NoSlot where the data area is shorter than a slot.
+    pub fn of(out: u64, mtu: u32) -> Result<Queue, QueueFault>
+        requires { out ≤ 2 ^ 24 }
+        ensures queue { IfOk result (λ q. (q ≡ record { out = out; mtu = mtu }) × IsQueue q) }
+        ensures fault { IfErr result (IsQueueFault (record { out = out; mtu = mtu })) }
+    {
+        if !(256..=65_535).contains(&mtu) {
+            return Err(QueueFault::BadMtu(mtu));
+        }
+        let Some(size) = queue_size(out) else {
+            return Err(QueueFault::TooSmall(out));
+        };
+        let payload = ring_part(size);
+        let slot = up64(18 + mtu);
+        let out = out as u32;
+        let room = out - payload;
+        if room < slot {
+            return Err(QueueFault::NoSlot {
+                slot: u64::from(slot),
+                room: u64::from(room),
+            });
+        }
+        Ok(Queue {
+            out,
+            mtu,
+            size,
+            used: used_place(size),
+            payload,
+            slot,
+            limit: size.min(room / slot),
+        })
+    }
+
+    /// The number of descriptors, of available entries and of used elements.
+    pub fn size(&self) -> u32
+        ensures value { result ≡ size_of self.now }
+        ensures queue { IsQueue self.now }
+        ensures bounds { HasBounds self.now }
+    {
+        self.size
+    }
+
+    /// The bytes of a slot, which holds one frame.
+    pub fn slot(&self) -> u32
+        ensures value { result ≡ slot_of self.now }
+        ensures bounds { HasBounds self.now }
+    {
+        self.slot
+    }
+
+    /// How many frames may be in flight.
+    pub fn limit(&self) -> u32
+        ensures value { result ≡ limit_of self.now }
+        ensures bounds { HasBounds self.now }
+    {
+        self.limit
+    }
+
+    /// The MTU. A frame has at most 18 bytes more.
+    pub fn mtu(&self) -> u32
+        ensures value { result ≡ self.now.mtu }
+        ensures queue { IsQueue self.now }
+    {
+        self.mtu
+    }
+
+    /// The bytes of a section.
+    pub fn out(&self) -> u32
+        ensures value { result ≡ self.now.out }
+        ensures queue { IsQueue self.now }
+    {
+        self.out
+    }
+
+    /// The byte at which the data area begins.
+    pub fn payload(&self) -> u32
+        ensures value { result ≡ payload_of self.now }
+        ensures bounds { HasBounds self.now }
+    {
+        self.payload
+    }
+
+    /// The first of the four words of descriptor `i`: the address's two, the length, then flags and next.
+    pub fn descriptor(&self, i: u32) -> u32
+        requires { i < size_of self.now }
+        ensures place { result ≡ word_place self.now (Address i) }
+        ensures inside { 4 * result + 16 ≤ self.now.out }
+    {
+        4 * i
+    }
+
+    /// The word with the flags and the index of the available ring.
+    pub fn avail_word(&self) -> u32
+        ensures place { result ≡ word_place self.now AvailableIndex }
+        ensures inside { 4 * result + 4 ≤ self.now.out }
+    {
+        4 * self.size
+    }
+
+    /// The word with available entry `k`, taken modulo the queue's size: in its low half where that is even.
+    pub fn entry_word(&self, k: u32) -> u32
+        ensures place { result ≡ word_place self.now (Entry (k % size_of self.now)) }
+        ensures inside { 4 * result + 4 ≤ self.now.out }
+    {
+        4 * self.size + 1 + k % self.size / 2
+    }
+
+    /// The word with the flags and the index of the used ring.
+    pub fn used_word(&self) -> u32
+        ensures place { result ≡ word_place self.now UsedIndex }
+        ensures inside { 4 * result + 4 ≤ self.now.out }
+    {
+        self.used / 4
+    }
+
+    /// The word with the id of used element `k`, taken modulo the queue's size. Its length is the next word.
+    pub fn used_id(&self, k: u32) -> u32
+        ensures place { result ≡ word_place self.now (Id (k % size_of self.now)) }
+        ensures inside { 4 * result + 8 ≤ self.now.out }
+    {
+        self.used / 4 + 1 + 2 * (k % self.size)
+    }
+
+    /// The word with used_event, in its low half.
+    pub fn used_event_word(&self) -> u32
+        ensures place { result ≡ word_place self.now UsedEvent }
+        ensures inside { 4 * result + 4 ≤ self.now.out }
+    {
+        4 * self.size + 1 + self.size / 2
+    }
+
+    /// The word with avail_event, in its low half.
+    pub fn avail_event_word(&self) -> u32
+        ensures place { result ≡ word_place self.now AvailableEvent }
+        ensures inside { 4 * result + 4 ≤ self.now.out }
+    {
+        self.used / 4 + 1 + 2 * self.size
+    }
+}
+
+/// The least multiple of 64 that isn't below `bytes`.
+fn up64(bytes: u32) -> u32
+    requires { bytes < 2 ^ 31 }
+    ensures { result ≡ (bytes + 63) / 64 * 64 }
+{
+    bytes.div_ceil(64) * 64
+}
+
+/// The byte at which the used ring of a queue of `size` begins.
+fn used_place(size: u32) -> u32
+    requires { size ≤ 4096 }
+    ensures { result ≡ used_place size }
+{
+    up64(18 * size + 6)
+}
+
+/// The bytes of the ring part of a queue of `size`.
+fn ring_part(size: u32) -> u32
+    requires { size ≤ 4096 }
+    ensures { result ≡ ring_part size }
+{
+    up64(used_place(size) + 6 + 8 * size)
+}
+
+/// The greatest queue size whose ring part is less than an eighth of a section of `out` bytes.
+fn queue_size(out: u64) -> Option<u32>
+    requires { out ≤ 2 ^ 24 }
+    ensures { result ≡ queue_size out }
+{
+    SIZES
+        .iter()
+        .copied()
+        .find(|&size| 8 * u64::from(ring_part(size)) < out)
+}
+
+/// Law: the queue's size is the greatest power of two from 64 to 4,096 whose ring part is less than an eighth of
+/// the section.
+pub fn queue_size_is_greatest()
+    ensures { QueueSizeIsGreatest }
+{
+}
+
+/// Law: in each queue no byte belongs to two fields, and each field lies inside the section.
+pub fn queues_are_laid_out()
+    ensures { QueuesAreLaidOut }
+{
 }

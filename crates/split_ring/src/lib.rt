@@ -10,5 +10,5 @@ mod ranges;
 pub mod steps;
 
 pub use faults::QueueFault;
-pub use layout::Queue;
-pub use ranges::{FieldName, Refused};
+pub use layout::{Queue, queue_size_is_greatest, queues_are_laid_out};
+pub use ranges::{FieldName, Refused, need_event};

@@ -1,1 +1,4 @@
+pub mod Bounds
+pub mod Keeps
+pub mod Places
 pub mod QueueSizes

@@ -1,7 +1,8 @@
 -- The queue's size is the greatest power of two that fits.
-use Rattle.std.proofs.Common.{◌≡◌, ℕ, ◌*◌, ◌^◌, ◌<◌, ◌≤◌, List, [], ◌∷◌, Bool, true, false, cond, Option, Some, None, refl, sym, subst, arith, ◌⊎◌, inl, inr, MatchOption, lit≤}
+use Rattle.std.proofs.Common.{◌≡◌, ℕ, ◌*◌, ◌^◌, ◌<◌, ◌≤◌, List, [], ◌∷◌, Bool, true, false, cond, Option, Some, None, refl, sym, subst, arith, ◌⊎◌, inl, inr, MatchOption, lit≤, ap, ◌%◌}
 use Rattle.std.specs.Prelude.{find, nat_lt}
 use Rattle.std.proofs.lemmas.Bool.Decides.{nat_tests}
+use Rattle.std.proofs.lemmas.Option.{MatchOption-at_some}
 use mathlib.Core.Logic.{dite}
 use native.Mathlib.Decide.{ℕ_discrete}
 use Rattle.split_ring.specs.Layout.{ring_part, queue_sizes, queue_size, Fits, IsQueueSize, QueueSizeIsGreatest}
@@ -26,27 +27,27 @@ abbrev NonePasses : (ℕ → Bool) → List ℕ → Type 0
 NonePasses p xs = (m : ℕ) → Among m xs → p m ≡ true → ⊥
 
 not_first : (p : ℕ → Bool) (x m : ℕ) → p x ≡ false → p m ≡ true → m ≡ x → ⊥
-not_first p x m fails yes e = let h : p x ≡ true = subst (λ n. p n ≡ true) e yes in grind arith
+not_first p x m fails passes e = let h : p x ≡ true = subst (λ n. p n ≡ true) e passes in grind arith
 
 behind_one : (p : ℕ → Bool) (x : ℕ) (xs : List ℕ) (o : Option ℕ) → p x ≡ false → MatchOption o (NonePasses p xs) (IsGreatest p xs) → MatchOption o (NonePasses p (x ∷ xs)) (IsGreatest p (x ∷ xs))
-behind_one p x xs None fails h = λ m a yes. elim a [ inl e ↦ not_first p x m fails yes e | inr b ↦ h m b yes ]
+behind_one p x xs None fails h = λ m a passes. elim a [ inl e ↦ not_first p x m fails passes e | inr b ↦ h m b passes ]
 behind_one p x xs (Some n) fails h = record {
   among = inr h.among;
   passes = h.passes;
-  greatest = λ m a yes. elim a [ inl e ↦ absurd (not_first p x m fails yes e) | inr b ↦ h.greatest m b yes ];
+  greatest = λ m a passes. elim a [ inl e ↦ absurd (not_first p x m fails passes e) | inr b ↦ h.greatest m b passes ];
 }
 
 at_one : (p : ℕ → Bool) (x : ℕ) (xs : List ℕ) (b : Bool) → p x ≡ b → Descends (x ∷ xs) → MatchOption (find p xs) (NonePasses p xs) (IsGreatest p xs) → MatchOption (cond b (Some x) (find p xs)) (NonePasses p (x ∷ xs)) (IsGreatest p (x ∷ xs))
 at_one p x xs true is d h = record {
   among = inl refl;
   passes = is;
-  greatest = λ m a yes. elim a [ inl e ↦ omega arith | inr b ↦ d.0 m b ];
+  greatest = λ m a passes. elim a [ inl e ↦ omega arith | inr b ↦ d.0 m b ];
 }
 at_one p x xs false is d h = behind_one p x xs (find p xs) is h
 
 -- the first that passes is the greatest, where the list descends
 find_greatest : (p : ℕ → Bool) (xs : List ℕ) → Descends xs → MatchOption (find p xs) (NonePasses p xs) (IsGreatest p xs)
-find_greatest p [] d = λ m a yes. a
+find_greatest p [] d = λ m a passes. a
 find_greatest p (x ∷ xs) d = at_one p x xs (p x) refl d (find_greatest p xs d.1)
 
 sizes_descend : Descends queue_sizes
@@ -54,13 +55,24 @@ sizes_descend = (λ m a. grind arith, (λ m a. grind arith, (λ m a. grind arith
 
 power_of : (m : ℕ) → Among m queue_sizes → (k : ℕ) × ((6 ≤ k) × (k ≤ 12) × (m ≡ 2 ^ k))
 power_of m a = elim a [
-    inl e ↦ (12, (lit≤ tt, lit≤ tt, e))
-  | inr a ↦ elim a [ inl e ↦ (11, (lit≤ tt, lit≤ tt, e))
-  | inr a ↦ elim a [ inl e ↦ (10, (lit≤ tt, lit≤ tt, e))
-  | inr a ↦ elim a [ inl e ↦ (9, (lit≤ tt, lit≤ tt, e))
-  | inr a ↦ elim a [ inl e ↦ (8, (lit≤ tt, lit≤ tt, e))
-  | inr a ↦ elim a [ inl e ↦ (7, (lit≤ tt, lit≤ tt, e))
-  | inr a ↦ elim a [ inl e ↦ (6, (lit≤ tt, lit≤ tt, e)) | inr a ↦ absurd a ] ] ] ] ] ] ]
+  | inl e ↦ (12, (lit≤ tt, lit≤ tt, e))
+  | inr a ↦ elim a [
+    | inl e ↦ (11, (lit≤ tt, lit≤ tt, e))
+    | inr a ↦ elim a [
+      | inl e ↦ (10, (lit≤ tt, lit≤ tt, e))
+      | inr a ↦ elim a [
+        | inl e ↦ (9, (lit≤ tt, lit≤ tt, e))
+        | inr a ↦ elim a [
+          | inl e ↦ (8, (lit≤ tt, lit≤ tt, e))
+          | inr a ↦ elim a [
+            | inl e ↦ (7, (lit≤ tt, lit≤ tt, e))
+            | inr a ↦ elim a [ inl e ↦ (6, (lit≤ tt, lit≤ tt, e)) | inr a ↦ absurd a ]
+          ]
+        ]
+      ]
+    ]
+  ]
+]
 
 power_among : (k : ℕ) → 6 ≤ k → k ≤ 12 → Among (2 ^ k) queue_sizes
 power_among k least most =
@@ -89,3 +101,44 @@ is_queue_size out (Some n) h = record {
 pub queue_size_lem : QueueSizeIsGreatest
 unfolding queue_size
 queue_size_lem out = is_queue_size out (find (λ n. nat_lt (8 * ring_part n) out) queue_sizes) (find_greatest (λ n. nat_lt (8 * ring_part n) out) queue_sizes sizes_descend)
+
+size_range : (m : ℕ) → Among m queue_sizes → (64 ≤ m) × (m ≤ 4096)
+size_range m a = (grind arith, grind arith)
+
+size_whole : (m : ℕ) → Among m queue_sizes → m % 64 ≡ 0
+size_whole m a = grind arith
+
+size_turns : (m : ℕ) → Among m queue_sizes → 65536 % m ≡ 0
+size_turns m a = elim a [
+  | inl e ↦ ap (λ n. 65536 % n) e
+  | inr a ↦ elim a [
+    | inl e ↦ ap (λ n. 65536 % n) e
+    | inr a ↦ elim a [
+      | inl e ↦ ap (λ n. 65536 % n) e
+      | inr a ↦ elim a [
+        | inl e ↦ ap (λ n. 65536 % n) e
+        | inr a ↦ elim a [
+          | inl e ↦ ap (λ n. 65536 % n) e
+          | inr a ↦ elim a [
+            | inl e ↦ ap (λ n. 65536 % n) e
+            | inr a ↦ elim a [ inl e ↦ ap (λ n. 65536 % n) e | inr a ↦ absurd a ]
+          ]
+        ]
+      ]
+    ]
+  ]
+]
+
+-- a queue size that was found fits, and is one of the powers of two
+pub record IsFound (out n : ℕ) : Type 0 where
+  pub fits : Fits out n
+  pub least : 64 ≤ n
+  pub most : n ≤ 4096
+  pub whole : n % 64 ≡ 0
+  pub turns : 65536 % n ≡ 0
+
+pub found : (out n : ℕ) → queue_size out ≡ Some n → IsFound out n
+unfolding queue_size
+found out n e =
+    let h : IsGreatest (λ m. nat_lt (8 * ring_part m) out) queue_sizes n = MatchOption-at_some _ _ n e (find_greatest (λ m. nat_lt (8 * ring_part m) out) queue_sizes sizes_descend) in
+    record { fits = is_test _ _ h.passes; least = (size_range n h.among).0; most = (size_range n h.among).1; whole = size_whole n h.among; turns = size_turns n h.among }

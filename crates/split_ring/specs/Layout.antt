@@ -2,15 +2,12 @@
 -- Source: VIRTIO 1.1 section 2.6 for the parts of a split virtqueue, their order and the widths of their fields;
 -- profile for the alignments to 64 bytes, the queue's size, the slots and the limit in flight.
 use Rattle.std.specs.Prelude.{◌≡◌, ℕ, ◌+◌, ◌-◌, ◌*◌, ◌/◌, ◌%◌, ◌^◌, ◌<◌, ◌≤◌, min, List, [], ◌∷◌, Option, Some, None, find, nat_lt, unwrap_or, MatchOption}
+use Rattle.ivs_base.specs.Numbers.{up64}
 
 -- the two numbers that fix every place: the bytes of an output section, and the MTU
 pub record Sizes : Type 0 where
   pub out : ℕ
   pub mtu : ℕ
-
--- the least multiple of 64 that isn't below x
-abbrev pub up64 : ℕ → ℕ
-up64 x = (x + 63) / 64 * 64
 
 -- Places are bytes from the start of the section. The descriptors of a queue of n stand first and have 16 bytes each;
 -- behind them stands the available ring
@@ -128,17 +125,35 @@ word_place q f = place_of q f / 4
 abbrev pub HasByte : Sizes → Field → ℕ → Type 0
 HasByte q f b = (place_of q f ≤ b) × (b < place_of q f + width_of q f)
 
--- no byte belongs to two fields, and each field lies inside the section and behind no part of a word that it leaves out:
--- a field of two bytes in a half of a word, any other in whole words
+-- a field of two bytes begins at a half of a word, any other at a word
+abbrev pub alignment_of : Field → ℕ
+alignment_of (Address i) = 4
+alignment_of (Length i) = 4
+alignment_of (Id k) = 4
+alignment_of (Amount k) = 4
+alignment_of (Slot i) = 4
+alignment_of f = 2
+
+-- no byte belongs to two fields, each field lies inside the section, and the halves of words are these: flags and event
+-- indices stand in the low one, next and indices in the high one, and entries in either in turn
 pub record IsLaidOut (q : Sizes) : Type 0 where
   pub apart : (f g : Field) (b : ℕ) → IsField q f → IsField q g → HasByte q f b → HasByte q g b → f ≡ g
   pub inside : (f : Field) → IsField q f → place_of q f + width_of q f ≤ q.out
-  pub aligned : (f : Field) → IsField q f → place_of q f % min 4 (width_of q f) ≡ 0
+  pub aligned : (f : Field) → place_of q f % alignment_of f ≡ 0
+  pub flags : (i : ℕ) → place_of q (Flags i) % 4 ≡ 0
+  pub next : (i : ℕ) → place_of q (Next i) % 4 ≡ 2
+  pub available_index : place_of q AvailableIndex % 4 ≡ 2
+  pub entries : (k : ℕ) → place_of q (Entry k) % 4 ≡ 2 * (k % 2)
+  pub used_event : place_of q UsedEvent % 4 ≡ 0
+  pub used_index : place_of q UsedIndex % 4 ≡ 2
+  pub available_event : place_of q AvailableEvent % 4 ≡ 0
 
--- how large the numbers of a queue are
+-- how large the numbers of a queue are; an index that goes on from 65,535 to 0 goes on from the last entry to the first
 pub record HasBounds (q : Sizes) : Type 0 where
   pub size_least : 64 ≤ size_of q
   pub size_most : size_of q ≤ 4096
+  pub size_whole : size_of q % 64 ≡ 0
+  pub turns : 65536 % size_of q ≡ 0
   pub limit_least : 0 < limit_of q
   pub limit_most : limit_of q ≤ size_of q
   pub rings : 8 * payload_of q < q.out

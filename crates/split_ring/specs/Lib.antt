@@ -2,3 +2,4 @@ pub mod Faults
 pub mod Kept
 pub mod Layout
 pub mod Ranges
+pub mod Spelling

@@ -1,11 +1,8 @@
 -- The values that a peer takes from the fields that the other one writes, one definition a field.
 -- Source: VIRTIO 1.1 section 2.6 for the fields; profile for the ranges.
 use Rattle.std.specs.Prelude.{◌≡◌, ℕ, ◌+◌, ◌-◌, ◌%◌, ◌<◌, ◌≤◌}
+use Rattle.ivs_base.specs.Numbers.{distance}
 use Rattle.split_ring.specs.Layout.{Sizes, size_of, payload_of}
-
--- how far a free index has come on its way between these two, modulo 65,536
-abbrev pub distance : ℕ → ℕ → ℕ
-distance from to = (to + 65536 - from) % 65536
 
 -- available index: at most n frames stand behind the last one taken
 abbrev pub IsAvailIndex : Sizes → (last index : ℕ) → Type 0
@@ -37,4 +34,4 @@ IsUsedId expected id = id ≡ expected
 
 -- the other peer asked for a notification as the index went from old to new (VIRTIO 1.1 section 2.6.7.2)
 abbrev pub NeedsEvent : (event new old : ℕ) → Type 0
-NeedsEvent event new old = (new + 65536 - event - 1) % 65536 < (new + 65536 - old) % 65536
+NeedsEvent event new old = (new + 65536 - event - 1) % 65536 < distance old new

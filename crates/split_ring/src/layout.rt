@@ -4,6 +4,7 @@ ghost use Rattle.split_ring.specs.Layout.{used_place, ring_part, queue_size, Siz
 ghost use Rattle.split_ring.specs.Faults.{IsQueueFault};
 
 use crate::QueueFault;
+use ivs_base::up64;
 use std::marker::Model;
 
 /// The queue sizes, the greatest first.
@@ -55,7 +56,7 @@ impl Queue {
             return Err(QueueFault::TooSmall(out));
         };
         let payload = ring_part(size);
-        let slot = up64(18 + mtu);
+        let slot = up64(18 + u64::from(mtu)) as u32;
         let out = out as u32;
         let room = out - payload;
         if room < slot {
@@ -130,6 +131,7 @@ impl Queue {
         ensures place { result ≡ word_place self.now (Address i) }
         ensures inside { 4 * result + 16 ≤ self.now.out }
     {
+        prove!(i < self.size);
         4 * i
     }
 
@@ -182,20 +184,12 @@ impl Queue {
     }
 }
 
-/// The least multiple of 64 that isn't below `bytes`.
-fn up64(bytes: u32) -> u32
-    requires { bytes < 2 ^ 31 }
-    ensures { result ≡ (bytes + 63) / 64 * 64 }
-{
-    bytes.div_ceil(64) * 64
-}
-
 /// The byte at which the used ring of a queue of `size` begins.
 fn used_place(size: u32) -> u32
     requires { size ≤ 4096 }
     ensures { result ≡ used_place size }
 {
-    up64(18 * size + 6)
+    up64(u64::from(18 * size + 6)) as u32
 }
 
 /// The bytes of the ring part of a queue of `size`.
@@ -203,10 +197,11 @@ fn ring_part(size: u32) -> u32
     requires { size ≤ 4096 }
     ensures { result ≡ ring_part size }
 {
-    up64(used_place(size) + 6 + 8 * size)
+    up64(u64::from(used_place(size) + 6 + 8 * size)) as u32
 }
 
 /// The greatest queue size whose ring part is less than an eighth of a section of `out` bytes.
+#[tactic(auto, unfolding(crate::specs::Layout::queue_size))]
 fn queue_size(out: u64) -> Option<u32>
     requires { out ≤ 2 ^ 24 }
     ensures { result ≡ queue_size out }
@@ -221,11 +216,9 @@ fn queue_size(out: u64) -> Option<u32>
 /// the section.
 pub fn queue_size_is_greatest()
     ensures { QueueSizeIsGreatest }
-{
-}
+{}
 
 /// Law: in each queue no byte belongs to two fields, and each field lies inside the section.
 pub fn queues_are_laid_out()
     ensures { QueuesAreLaidOut }
-{
-}
+{}

@@ -1,8 +1,10 @@
 //! What a peer takes from the fields that the other one writes.
 ghost use Rattle.std.specs.Prelude.{◌≡◌, ◌↔◌, IsTrue, IfOk, IfErr, OnOk};
-ghost use Rattle.split_ring.specs.Ranges.{distance, IsAvailIndex, IsAvailEntry, IsDescAddress, IsDescLength, IsDescFlags, IsUsedIndex, IsUsedId, NeedsEvent};
+ghost use Rattle.ivs_base.specs.Numbers.{distance};
+ghost use Rattle.split_ring.specs.Ranges.{IsAvailIndex, IsAvailEntry, IsDescAddress, IsDescLength, IsDescFlags, IsUsedIndex, IsUsedId, NeedsEvent};
 
 use crate::Queue;
+use ivs_base::distance;
 
 /// A field that the other peer writes, by the name that a refusal gives it.
 #[derive(Clone, Copy, Debug, PartialEq, Eq)]
@@ -47,11 +49,11 @@ impl Queue {
         ensures outside { IfErr result (λ r. (¬ IsAvailIndex self.now last index)
             × (r ≡ record { field = FieldName.AvailIndex; value = index })) }
     {
-        let distance = u32::from(index.wrapping_sub(last));
-        if distance > self.size() {
+        let found = u32::from(distance(last, index));
+        if found > self.size() {
             return Err(Refused::of(FieldName::AvailIndex, u64::from(index)));
         }
-        Ok(distance)
+        Ok(found)
     }
 
     /// Can the other peer have returned up to `index` where this one has freed `last` and has `in_flight` more
@@ -61,11 +63,11 @@ impl Queue {
         ensures outside { IfErr result (λ r. (¬ IsUsedIndex last index in_flight)
             × (r ≡ record { field = FieldName.UsedIndex; value = index })) }
     {
-        let distance = u32::from(index.wrapping_sub(last));
-        if distance > in_flight {
+        let found = u32::from(distance(last, index));
+        if found > in_flight {
             return Err(Refused::of(FieldName::UsedIndex, u64::from(index)));
         }
-        Ok(distance)
+        Ok(found)
     }
 
     /// Is this available entry the number of a descriptor? Ok has that number.
@@ -136,5 +138,5 @@ impl Queue {
 pub fn need_event(event: u16, new: u16, old: u16) -> bool
     ensures { IsTrue result ↔ NeedsEvent event new old }
 {
-    new.wrapping_sub(event).wrapping_sub(1) < new.wrapping_sub(old)
+    distance(event, new).wrapping_sub(1) < distance(old, new)
 }

@@ -1,0 +1,35 @@
+-- How large the numbers of a queue are.
+use Rattle.std.proofs.Common.{◌≡◌, ℕ, ◌+◌, ◌-◌, ◌*◌, ◌/◌, ◌%◌, ◌<◌, ◌≤◌, min, Option, Some, None, refl, arith}
+use Rattle.std.proofs.Math.Nat.{mul-le-mul_left, mul-div-le, le-div_iff_mul-le}
+use Rattle.std.proofs.lemmas.Grind.{common_steps}
+use Rattle.split_ring.specs.Layout.{Sizes, size_of, payload_of, room_of, slot_of, limit_of, queue_size, IsQueue, HasBounds}
+use Rattle.split_ring.proofs.QueueSizes.{found}
+
+slots_fit : (size room slot : ℕ) → slot * min size (room / slot) ≤ room
+slots_fit size room slot =
+    let few : min size (room / slot) ≤ room / slot = omega arith in
+    let h : slot * min size (room / slot) ≤ slot * (room / slot) = mul-le-mul_left slot few in
+    let g = mul-div-le room slot in
+    omega arith
+
+some_slot : (room slot : ℕ) → 0 < slot → slot ≤ room → 0 < room / slot
+some_slot room slot some fits = let h : 1 ≤ room / slot = (le-div_iff_mul-le {k = slot} {x = 1} {y = room} some).1 (omega arith) in omega arith
+
+pub bounds : (q : Sizes) → IsQueue q → HasBounds q
+unfolding limit_of
+bounds q h =
+    let f = found q.out (size_of q) h.fits in
+    let fits = f.fits in
+    let least = f.least in
+    let room = slots_fit (size_of q) (room_of q) (slot_of q) in
+    let one = some_slot (room_of q) (slot_of q) (omega arith) h.one_slot in
+    record {
+      size_least = f.least;
+      size_most = f.most;
+      size_whole = f.whole;
+      turns = f.turns;
+      limit_least = omega arith;
+      limit_most = omega arith;
+      rings = f.fits;
+      slots = omega arith;
+    }

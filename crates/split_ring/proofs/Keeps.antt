@@ -1,0 +1,32 @@
+-- The fields of a new queue are the numbers of its layout.
+use Rattle.std.proofs.Common.{◌≡◌, ℕ, ◌+◌, ◌-◌, ◌*◌, ◌/◌, ◌^◌, ◌<◌, ◌≤◌, min, Option, Some, None, refl, sym, ap, subst, arith, unwrap_or, ◌∙◌}
+use Rattle.ivs_base.specs.Numbers.{up64}
+use Rattle.split_ring.specs.Layout.{Sizes, size_of, queue_size, ring_part, used_place, limit_of, IsQueue}
+use Rattle.split_ring.specs.Kept.{IsKept}
+use Rattle.split_ring.specs.declared.layout.Queue.TheInside.{Inside}
+use Rattle.split_ring.proofs.Bounds.{bounds}
+
+pub kept : (out mtu n used payload slot limit : ℕ)
+    → queue_size out ≡ Some n → 256 ≤ mtu → mtu ≤ 65535 → out ≤ 2 ^ 24
+    → used ≡ used_place n → payload ≡ ring_part n → slot ≡ up64 (18 + mtu) → slot ≤ out - payload → limit ≡ min n ((out - payload) / slot)
+    → IsKept (record { out = out; mtu = mtu; size = n; used = used; payload = payload; slot = slot; limit = limit })
+unfolding limit_of
+kept out mtu n used payload slot limit found least most section used_is payload_is slot_is fits limit_is =
+    let q : Sizes = record { out = out; mtu = mtu } in
+    let n_is : size_of q ≡ n = ap (λ o. unwrap_or o 0) found in
+    let h : IsQueue q = record {
+      mtu_least = least;
+      mtu_most = most;
+      section = section;
+      fits = found ∙ ap Some (sym n_is);
+      one_slot = rw (n_is, ← payload_is, ← slot_is) fits;
+    } in
+    record {
+      is_queue = h;
+      bounds = bounds q h;
+      size_is = sym n_is;
+      used_is = used_is ∙ ap used_place (sym n_is);
+      payload_is = payload_is ∙ ap ring_part (sym n_is);
+      slot_is = slot_is;
+      limit_is = rw (n_is, ← payload_is, ← slot_is) limit_is;
+    }

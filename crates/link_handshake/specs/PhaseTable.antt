@@ -1,0 +1,34 @@
+-- The phase table of a link's end (profile, in the manner of the ivshmem-net driver): states are RESET 0,
+-- INIT 1, READY 2 and RUN 3, and a state is read as a whole word, so 7 counts as READY or more.
+use Rattle.std.specs.Prelude.{ℕ, zero, suc}
+use Rattle.link_handshake.specs.declared.Phase.{Phase}
+use Rattle.link_handshake.specs.declared.Phase.TheVariants.{Reset, Init, Ready, Run}
+use Rattle.link_handshake.specs.declared.Move.{Move}
+use Rattle.link_handshake.specs.declared.Move.TheVariants.{Stay, Set, ClearThenSet}
+
+-- the move of an end in this phase that reads this state of the other
+abbrev pub move_on : Phase → ℕ → Move
+move_on Reset zero = Set 1
+move_on Reset (suc zero) = Set 1
+move_on Reset (suc (suc more)) = Stay
+move_on Init zero = Stay
+move_on Init (suc more) = ClearThenSet 2
+move_on Ready zero = Set 0
+move_on Ready (suc zero) = Stay
+move_on Ready (suc (suc more)) = Set 3
+move_on Run zero = Set 0
+move_on Run (suc more) = Stay
+
+-- the phase that a state stands for, 3 and above as RUN
+abbrev pub phase_at : ℕ → Phase
+phase_at zero = Reset
+phase_at (suc zero) = Init
+phase_at (suc (suc zero)) = Ready
+phase_at (suc (suc (suc more))) = Run
+
+-- the state that a phase is set by
+abbrev pub state_of : Phase → ℕ
+state_of Reset = 0
+state_of Init = 1
+state_of Ready = 2
+state_of Run = 3

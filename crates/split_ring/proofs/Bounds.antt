@@ -1,8 +1,7 @@
 -- How large the numbers of a queue are.
-use Rattle.std.proofs.Common.{◌≡◌, ℕ, ◌+◌, ◌-◌, ◌*◌, ◌/◌, ◌%◌, ◌<◌, ◌≤◌, min, Option, Some, None, refl, arith}
+use Rattle.std.proofs.Common.{ℕ, ◌*◌, ◌/◌, ◌<◌, ◌≤◌, min, arith}
 use Rattle.std.proofs.Math.Nat.{mul-le-mul_left, mul-div-le, le-div_iff_mul-le}
-use Rattle.std.proofs.lemmas.Grind.{common_steps}
-use Rattle.split_ring.specs.Layout.{Sizes, size_of, payload_of, room_of, slot_of, limit_of, queue_size, IsQueue, HasBounds}
+use Rattle.split_ring.specs.Layout.{Sizes, size_of, room_of, slot_of, limit_of, IsQueue, HasBounds}
 use Rattle.split_ring.proofs.QueueSizes.{found}
 
 slots_fit : (size room slot : ℕ) → slot * min size (room / slot) ≤ room

@@ -1,9 +1,8 @@
 -- The fields of a new queue are the numbers of its layout.
-use Rattle.std.proofs.Common.{◌≡◌, ℕ, ◌+◌, ◌-◌, ◌*◌, ◌/◌, ◌^◌, ◌<◌, ◌≤◌, min, Option, Some, None, refl, sym, ap, subst, arith, unwrap_or, ◌∙◌}
+use Rattle.std.proofs.Common.{◌≡◌, ℕ, ◌+◌, ◌-◌, ◌/◌, ◌^◌, ◌≤◌, min, Some, sym, ap, unwrap_or, ◌∙◌}
 use Rattle.ivs_base.specs.Numbers.{up64}
 use Rattle.split_ring.specs.Layout.{Sizes, size_of, queue_size, ring_part, used_place, limit_of, IsQueue}
 use Rattle.split_ring.specs.Kept.{IsKept}
-use Rattle.split_ring.specs.declared.layout.Queue.TheInside.{Inside}
 use Rattle.split_ring.proofs.Bounds.{bounds}
 
 pub kept : (out mtu n used payload slot limit : ℕ)

@@ -1,9 +1,9 @@
 -- The places of a queue's fields share no byte, and lie inside the section.
-use Rattle.std.proofs.Common.{◌≡◌, ℕ, ◌+◌, ◌-◌, ◌*◌, ◌/◌, ◌%◌, ◌<◌, ◌≤◌, refl, ap, arith}
+use Rattle.std.proofs.Common.{◌≡◌, ℕ, ◌+◌, ◌-◌, ◌*◌, ◌%◌, ◌<◌, ◌≤◌, refl, ap, arith}
 use mathlib.Core.Logic.{dite}
 use native.Mathlib.Decide.{dec_lt}
 use Rattle.std.proofs.Math.Nat.{mul-le-mul_left}
-use Rattle.split_ring.specs.Layout.{Sizes, Field, Address, Length, Flags, Next, AvailableFlags, AvailableIndex, Entry, UsedEvent, UsedFlags, UsedIndex, Id, Amount, AvailableEvent, Slot, size_of, limit_of, slot_of, payload_of, place_of, width_of, alignment_of, IsField, HasByte, IsQueue, IsLaidOut, HasBounds, QueuesAreLaidOut}
+use Rattle.split_ring.specs.Layout.{Sizes, Field, Address, Length, Flags, Next, AvailableFlags, AvailableIndex, Entry, UsedEvent, UsedFlags, UsedIndex, Id, Amount, AvailableEvent, Slot, limit_of, slot_of, payload_of, place_of, width_of, alignment_of, IsField, HasByte, HasBounds, QueuesAreLaidOut}
 use Rattle.split_ring.proofs.Bounds.{bounds}
 
 -- slots of one size share no byte

@@ -1,7 +1,7 @@
 -- Where each field of an output section stands.
 -- Source: VIRTIO 1.1 section 2.6 for the parts of a split virtqueue, their order and the widths of their fields;
 -- profile for the alignments to 64 bytes, the queue's size, the slots and the limit in flight.
-use Rattle.std.specs.Prelude.{◌≡◌, ℕ, ◌+◌, ◌-◌, ◌*◌, ◌/◌, ◌%◌, ◌^◌, ◌<◌, ◌≤◌, min, List, [], ◌∷◌, Option, Some, None, find, nat_lt, unwrap_or, MatchOption}
+use Rattle.std.specs.Prelude.{◌≡◌, ℕ, ◌+◌, ◌-◌, ◌*◌, ◌/◌, ◌%◌, ◌^◌, ◌<◌, ◌≤◌, min, List, [], ◌∷◌, Option, Some, find, nat_lt, unwrap_or, MatchOption}
 use Rattle.ivs_base.specs.Numbers.{up64}
 
 -- the two numbers that fix every place: the bytes of an output section, and the MTU

@@ -1,7 +1,7 @@
 -- The foreign fields of a section, and the frame that they spell at a position.
 -- Source: VIRTIO 1.1 section 2.6 for the fields, which are little-endian; profile for the ranges and for frames in one descriptor.
-use Rattle.std.specs.Prelude.{◌≡◌, ℕ, ◌+◌, ◌*◌, ◌/◌, ◌%◌, ◌^◌, ◌==◌, List, [], ◌∷◌, if◌then◌else◌}
-use Rattle.split_ring.specs.Layout.{Sizes, Field, Address, Length, Flags, AvailableIndex, Entry, UsedIndex, Id, size_of, word_place}
+use Rattle.std.specs.Prelude.{◌≡◌, ℕ, ◌+◌, ◌*◌, ◌/◌, ◌%◌, ◌^◌, ◌==◌, zero, suc, List, [], ◌∷◌, if◌then◌else◌}
+use Rattle.split_ring.specs.Layout.{Sizes, Address, Length, Flags, AvailableIndex, Entry, UsedIndex, Id, size_of, word_place}
 use Rattle.split_ring.specs.Ranges.{IsAvailEntry, IsDescAddress, IsDescLength, IsDescFlags}
 
 -- A field of two bytes stands in a half of its word. Flags stand in the low one

@@ -1,6 +1,5 @@
-use Rattle.std.proofs.Common.{◌≡◌, ◌+◌, ◌-◌, ◌/◌, ◌≤◌, min, Some, sym, ap, ◌∙◌, arith, rules}
+use Rattle.std.proofs.Common.{◌+◌, sym, ap, ◌∙◌, arith, rules}
 use Rattle.ivs_base.specs.Numbers.{up64}
-use Rattle.split_ring.specs.Layout.{queue_size, ring_part}
 use Rattle.split_ring.proofs.QueueSizes.{found}
 use Rattle.split_ring.proofs.Keeps.{kept}
 use Rattle.split_ring.proofs.layout.Queue.of.Goals as goal

@@ -1,0 +1,242 @@
+//! What the lines behind `begin` ask for.
+ghost use Rattle.std.specs.Prelude.{◌≡◌, ◌++◌, [], ◌∷◌, OnOk, OnErr};
+ghost use Rattle.scenario_text.specs.Acts.{cost, peer_of};
+
+use ivs_base::{Frame, NoMemory};
+use std::alloc::Global;
+use std::marker::Model;
+
+/// One line behind `begin`: what happens next in the world. `peer` is the peer that the line names.
+#[derive(Debug, Drop)]
+pub enum Act {
+    /// Queues a call that looks at the other's state. The peer is an honest link peer.
+    Tick {
+        peer: u32,
+    },
+    /// Queues a call that sends this frame; an automatic peer takes it into its list. The peer is an honest link peer.
+    Offer {
+        peer: u32,
+        frame: Frame,
+    },
+    /// Queues a call that takes what the other sent. The peer is an honest link peer.
+    Poll {
+        peer: u32,
+    },
+    /// Queues a call that leaves the link. The peer is an honest link peer.
+    Stop {
+        peer: u32,
+    },
+    /// The peer, an honest link peer, chooses its calls from now on, until it has delivered this many frames.
+    Auto {
+        peer: u32,
+        expect: u64,
+    },
+    /// The turns of the peer, a hostile one, are generated writes from now on.
+    Storm {
+        peer: u32,
+        seed: u64,
+    },
+    /// This many steps of the peer, at most 4,000,000.
+    Turn {
+        peer: u32,
+        steps: u32,
+    },
+    /// A device reset of the peer.
+    Reset {
+        peer: u32,
+    },
+    /// The peer, a hostile one, writes a word of the region, or is denied.
+    Poke {
+        peer: u32,
+        word: u32,
+        value: u32,
+    },
+    /// The peer, a hostile one, reads a word of the region.
+    Peek {
+        peer: u32,
+        word: u32,
+    },
+    /// The peer, a hostile one, writes its State.
+    Set {
+        peer: u32,
+        value: u32,
+    },
+    /// The peer writes its Doorbell. Target and vector are below 65,536.
+    Ring {
+        peer: u32,
+        target: u32,
+        vector: u32,
+    },
+    /// The peer reads `width` bytes of its configuration space.
+    CfgRead {
+        peer: u32,
+        offset: u16,
+        width: u16,
+    },
+    /// The peer writes `width` bytes of its configuration space.
+    CfgWrite {
+        peer: u32,
+        offset: u16,
+        width: u16,
+        value: u32,
+    },
+    /// The peer reads a register.
+    MmioRead {
+        peer: u32,
+        offset: u32,
+    },
+    /// The peer writes a register; State, at 16, is for hostile peers alone.
+    MmioWrite {
+        peer: u32,
+        offset: u32,
+        value: u32,
+    },
+    /// The peer reads a word of its MSI-X region.
+    MsixRead {
+        peer: u32,
+        offset: u32,
+    },
+    /// The peer writes a word of its MSI-X region.
+    MsixWrite {
+        peer: u32,
+        offset: u32,
+        value: u32,
+    },
+    /// The next delivery to the peer that isn't lost already is lost.
+    Lose {
+        peer: u32,
+    },
+    /// An interrupt with this vector, below 64, comes to the peer once more.
+    Again {
+        peer: u32,
+        vector: u32,
+    },
+}
+
+impl Act {
+    /// The peer that the line names.
+    pub fn peer(&self) -> u32
+        ensures { result ≡ peer_of self.now }
+    {
+        match self {
+            Act::Tick { peer }
+            | Act::Offer { peer, .. }
+            | Act::Poll { peer }
+            | Act::Stop { peer }
+            | Act::Auto { peer, .. }
+            | Act::Storm { peer, .. }
+            | Act::Turn { peer, .. }
+            | Act::Reset { peer }
+            | Act::Poke { peer, .. }
+            | Act::Peek { peer, .. }
+            | Act::Set { peer, .. }
+            | Act::Ring { peer, .. }
+            | Act::CfgRead { peer, .. }
+            | Act::CfgWrite { peer, .. }
+            | Act::MmioRead { peer, .. }
+            | Act::MmioWrite { peer, .. }
+            | Act::MsixRead { peer, .. }
+            | Act::MsixWrite { peer, .. }
+            | Act::Lose { peer }
+            | Act::Again { peer, .. } => *peer,
+        }
+    }
+
+    /// How many acts the line counts for: `turn P K` for K, any other for 1.
+    pub fn cost(&self) -> u64
+        ensures { result ≡ cost self.now }
+    {
+        match self {
+            Act::Turn { steps, .. } => u64::from(*steps),
+            _ => 1,
+        }
+    }
+}
+
+/// One flag for each peer, from peer 0.
+#[derive(Debug, Drop)]
+pub struct Flags {
+    items: Vec<bool>,
+}
+
+impl Model for Flags {
+    ghost use Rattle.std.specs.Prelude.{List, Bool};
+
+    ghost Value = { List Bool };
+
+    ghost view = { λ flags. flags.items.items };
+}
+
+impl Flags {
+    /// The empty list. It takes no memory.
+    pub fn new(alloc: Global) -> Self
+        ensures { result ≡ [] }
+    {
+        Flags {
+            items: Vec::new(alloc),
+        }
+    }
+
+    /// Puts the flag last. After NoMemory, which comes only where memory ran out, the list is unchanged.
+    pub fn push(&mut self, item: bool) -> Result<(), NoMemory>
+        ensures ok { OnOk result (self.new ≡ self.old ++ item ∷ []) }
+        ensures err { OnErr result (self.new ≡ self.old) }
+    {
+        match self.items.push(item) {
+            Ok(()) => Ok(()),
+            Err(_) => Err(NoMemory),
+        }
+    }
+
+    /// The whole list.
+    pub fn items(&self) -> &[bool]
+        ensures { result.now ≡ self.now }
+    {
+        self.items.as_slice()
+    }
+}
+
+/// Acts in their order.
+#[derive(Debug, Drop)]
+pub struct Acts {
+    items: Vec<Act>,
+}
+
+impl Model for Acts {
+    ghost use Rattle.std.specs.Prelude.{List};
+    ghost use Rattle.scenario_text.specs.declared.acts.Act.{Act};
+
+    ghost Value = { List Act };
+
+    ghost view = { λ acts. acts.items.items };
+}
+
+impl Acts {
+    /// The empty list. It takes no memory.
+    pub fn new(alloc: Global) -> Self
+        ensures { result ≡ [] }
+    {
+        Acts {
+            items: Vec::new(alloc),
+        }
+    }
+
+    /// Puts the act last. After NoMemory, which comes only where memory ran out, the list is unchanged and the act
+    /// is dropped.
+    pub fn push(&mut self, item: Act) -> Result<(), NoMemory>
+        ensures ok { OnOk result (self.new ≡ self.old ++ item ∷ []) }
+        ensures err { OnErr result (self.new ≡ self.old) }
+    {
+        match self.items.push(item) {
+            Ok(()) => Ok(()),
+            Err(_) => Err(NoMemory),
+        }
+    }
+
+    /// The whole list.
+    pub fn items(&self) -> &[Act]
+        ensures { result.now ≡ self.now }
+    {
+        self.items.as_slice()
+    }
+}

@@ -1,0 +1,36 @@
+//! What is wrong with a scenario's text.
+use thiserror::Error;
+
+/// What is wrong with a text that spells no scenario. A number is that of the first bad line, from 1. Where several
+/// of these fit a line, the first of them in the order BadLine, BadOrder, BadNumber, BadPeer, BadFrame, BadGeometry,
+/// TooManyTurns is the answer.
+#[derive(Clone, Copy, Debug, PartialEq, Eq, Error)]
+pub enum ScenarioFault {
+    /// The line is none of the forms, has a byte outside of 20h to 7Eh, or stands behind `end`.
+    #[error("line {0} has no form")]
+    BadLine(u64),
+    /// A number field is no number or is out of its range.
+    #[error("line {0} has a number out of its range")]
+    BadNumber(u64),
+    /// The hexadecimal digits are no frame of 14 to MTU + 18 bytes.
+    #[error("line {0} has no frame that fits")]
+    BadFrame(u64),
+    /// The peer isn't there, or isn't of the kind that the act asks for.
+    #[error("line {0} names a peer that cannot do this")]
+    BadPeer(u64),
+    /// The `out` line with which the geometry is refused, or the `mtu` line with which the queue is.
+    #[error("line {0} gives sizes that do not fit")]
+    BadGeometry(u64),
+    /// The form isn't allowed at this place.
+    #[error("line {0} is out of order")]
+    BadOrder(u64),
+    /// With this line the acts are more than 4,000,000.
+    #[error("line {0} makes too many turns")]
+    TooManyTurns(u64),
+    /// All whole lines are good, and there is no `end` line.
+    #[error("the text has no end")]
+    NoEnd,
+    /// There was no memory left.
+    #[error("out of memory")]
+    NoMemory,
+}

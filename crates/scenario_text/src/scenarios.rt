@@ -1,0 +1,33 @@
+//! A scenario as one value.
+ghost use Rattle.scenario_text.specs.Scenario.{IsWorld};
+ghost use Rattle.scenario_text.specs.Props.{IsWorld-prop};
+
+use crate::acts::{Acts, Flags};
+use pci_space::Wiring;
+use section_map::Geometry;
+use split_ring::Queue;
+
+/// A world, its kinds of peers, and what happens in it. There are just the scenarios that have a spelling.
+#[derive(Debug, Drop)]
+pub struct Scenario {
+    /// The sizes of the region.
+    pub geometry: Geometry,
+    /// The layout of an output section and the MTU.
+    pub queue: Queue,
+    /// How the devices raise interrupts.
+    pub wiring: Wiring,
+    /// For each peer, from peer 0, whether it is honest.
+    pub honest: Flags,
+    /// The schedule.
+    pub acts: Acts,
+    /// The version of the format that the text names: 1.
+    pub version: u32,
+    pub ghost world: { IsWorld (record {
+      version = version;
+      geometry = geometry;
+      queue = queue;
+      wiring = wiring;
+      honest = honest;
+      acts = acts;
+    }) } by { IsWorld-prop _ },
+}

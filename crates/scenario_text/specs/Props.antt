@@ -1,5 +1,5 @@
 -- That something is a scenario has one proof at most.
-use Rattle.std.proofs.Common.{◌≡◌, ℕ, List, [], ◌∷◌}
+use Rattle.std.proofs.Common.{ℕ, List, [], ◌∷◌}
 use Rattle.std.proofs.Props.{props}
 use mathlib.Core.List.{is_set}
 use Rattle.line_text.specs.Forms.{Piece, Word, Number, Hex, Fit, FitBytes}

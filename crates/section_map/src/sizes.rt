@@ -97,6 +97,7 @@ impl Geometry {
     pub fn new(peers: u32, table: u32, common: u64, out: u64) -> Result<Geometry, GeometryFault>
         ensures made { IfOk result (λ g. g ≡ shape_of peers table common out) }
         ensures shape { IfOk result (λ g. IsShape g) }
+        ensures pages { IfOk result (λ _. IsSomePages table × IsPages common × IsSomePages out) }
         ensures fault { IfErr result (IsFirstFault peers table common out) }
     {
         if !(2..=MOST_PEERS).contains(&peers) {

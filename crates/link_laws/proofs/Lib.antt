@@ -1,0 +1,5 @@
+pub mod Cuts
+pub mod Lists
+pub mod Phases
+pub mod Reaching
+pub mod Rowing

@@ -1,0 +1,55 @@
+-- A call as a tree and as a list.
+use Rattle.std.proofs.Common.{◌≡◌, ℕ, zero, suc, ◌+◌, List, [], ◌∷◌, ◌++◌, refl, sym, ap, subst}
+use Rattle.link_handshake.specs.declared.Move.{Move}
+use Rattle.link_handshake.specs.declared.Move.TheVariants.{Stay, Set, ClearThenSet}
+use Rattle.split_ring.specs.declared.steps.Access.TheVariants.{Read}
+use Rattle.link_laws.specs.Steps.{Step, step_of}
+use Rattle.link_laws.specs.Trees.{CallTree, Makes}
+use Rattle.link_laws.specs.Standings.{Standing}
+use Rattle.link_laws.specs.Calls.{Who, Call, Tick, Stop, move_of, clear, set_state, tick_marks, after_tick, tree_of, clear_steps, state_step, tick_steps, IsCall, CallsAreLists}
+
+set_listed : (state : ℕ) (steps : List Step) → Makes (set_state state) steps → steps ≡ state_step state ∷ []
+set_listed state [] makes = absurd makes
+set_listed state (step ∷ steps) makes = let first = makes.0 in let none = makes.1 in cc
+
+clear_listed : (at more state : ℕ) (steps : List Step) → Makes (clear at more (set_state state)) steps → steps ≡ clear_steps at more ++ state_step state ∷ []
+clear_listed at zero state steps makes = set_listed state steps makes
+clear_listed at (suc more) state [] makes = absurd makes
+clear_listed at (suc more) state (step ∷ steps) makes = let first = makes.0 in let others = clear_listed (at + 1) more state steps makes.1 in cc
+
+clear_made : (at more state : ℕ) → Makes (clear at more (set_state state)) (clear_steps at more ++ state_step state ∷ [])
+clear_made at zero state = (refl, refl)
+clear_made at (suc more) state = (refl, clear_made (at + 1) more state)
+
+tick_listed : (who : Who) (value : ℕ) (move : Move) (step : Step) (steps : List Step) → step ≡ step_of (Read who.other) value (tick_marks value move) → Makes (after_tick who move) steps →
+    step ∷ steps ≡ tick_steps who value move
+tick_listed who value Stay step steps is makes = let none = makes in cc
+tick_listed who value (Set state) step steps is makes = let last = set_listed state steps makes in cc
+tick_listed who value (ClearThenSet state) step steps is makes = let others = clear_listed who.own who.words state steps makes in cc
+
+-- these steps are a Tick that read this value and makes this move
+abbrev TicksBy : Who → ℕ → Move → List Step → Type 0
+TicksBy who value move [] = ⊥
+TicksBy who value move (step ∷ steps) = (step ≡ step_of (Read who.other) value (tick_marks value move)) × Makes (after_tick who move) steps
+
+ticks_by : (who : Who) (value : ℕ) (move : Move) → TicksBy who value move (tick_steps who value move)
+ticks_by who value Stay = (refl, refl)
+ticks_by who value (Set state) = (refl, (refl, refl))
+ticks_by who value (ClearThenSet state) = (refl, clear_made who.own who.words state)
+
+tick_made : (who : Who) (standing : Standing) (value : ℕ) (steps : List Step) → TicksBy who value (move_of standing value) steps → Makes (tree_of who standing Tick) steps
+tick_made who standing value [] ticks = absurd ticks
+tick_made who standing value (step ∷ steps) ticks = (value, ticks.0, ticks.1)
+
+listed_lem : (who : Who) (standing : Standing) (call : Call) (steps : List Step) → Makes (tree_of who standing call) steps → IsCall who standing call steps
+listed_lem who standing Tick [] makes = absurd makes
+listed_lem who standing Tick (step ∷ steps) makes = (makes.0, tick_listed who makes.0 (move_of standing makes.0) step steps makes.1 makes.2)
+listed_lem who standing Stop steps makes = set_listed 0 steps makes
+
+made_lem : (who : Who) (standing : Standing) (call : Call) (steps : List Step) → IsCall who standing call steps → Makes (tree_of who standing call) steps
+made_lem who standing Tick steps is =
+    subst (λ (list : List Step). Makes (tree_of who standing Tick) list) (sym is.1) (tick_made who standing is.0 (tick_steps who is.0 (move_of standing is.0)) (ticks_by who is.0 (move_of standing is.0)))
+made_lem who standing Stop steps is = subst (λ (list : List Step). Makes (set_state 0) list) (sym is) (refl, refl)
+
+pub lists : CallsAreLists
+lists = record { listed = listed_lem; made = made_lem }

@@ -1,0 +1,81 @@
+-- The call grammar: which steps a call of a link peer takes (profile), as a tree and as a table of lists.
+-- Offer and Poll will join `Call`, `tree_of` and `IsCall`; their trees are written like these, each part with what comes after it as its last argument.
+use Rattle.std.specs.Prelude.{ℕ, zero, suc, ◌≡◌, ◌+◌, if◌then◌else◌, List, [], ◌∷◌, ◌++◌}
+use Rattle.link_handshake.specs.declared.Move.{Move}
+use Rattle.link_handshake.specs.declared.Move.TheVariants.{Stay, Set, ClearThenSet}
+use Rattle.link_handshake.specs.Table.{move_on}
+use Rattle.split_ring.specs.declared.steps.Access.TheVariants.{Read, Write, State}
+use Rattle.split_ring.specs.Layout.{Sizes}
+use Rattle.link_laws.specs.Steps.{Mark, Saw, Over, Step, step_of}
+use Rattle.link_laws.specs.Trees.{CallTree, Ended, Does, Reads, Makes}
+use Rattle.link_laws.specs.Standings.{Standing}
+
+-- who makes the calls: a peer and its partner, the first words of their sections and the words of each, the sizes of the queue in them, and the vector of the traffic doorbell
+pub record Who : Type 0 where
+  pub me : ℕ
+  pub other : ℕ
+  pub own : ℕ
+  pub theirs : ℕ
+  pub words : ℕ
+  pub sizes : Sizes
+  pub vector : ℕ
+
+-- what an end may be told to do
+pub data Call : Type 0 where
+  Tick : Call
+  Stop : Call
+
+-- the move of an end that reads this state of the other: that of the phase table, and none where it refused the link
+abbrev pub move_of : Standing → ℕ → Move
+move_of standing value = if standing.refused then Stay else move_on standing.phase value
+
+-- The tree of a call
+
+-- writes of 0 to so many words from this one on, ascending, and then what comes after
+abbrev pub clear : ℕ → ℕ → CallTree → CallTree
+clear at zero after = after
+clear at (suc more) after = Does (Write at 0) [] (clear (at + 1) more after)
+
+-- a write of State, which ends the call
+abbrev pub set_state : ℕ → CallTree
+set_state state = Does (State state) (Over ∷ []) Ended
+
+abbrev pub tick_marks : ℕ → Move → List Mark
+tick_marks value Stay = Saw value ∷ Over ∷ []
+tick_marks value (Set state) = Saw value ∷ []
+tick_marks value (ClearThenSet state) = Saw value ∷ []
+
+abbrev pub after_tick : Who → Move → CallTree
+after_tick who Stay = Ended
+after_tick who (Set state) = set_state state
+after_tick who (ClearThenSet state) = clear who.own who.words (set_state state)
+
+-- a call that begins in this standing
+abbrev pub tree_of : Who → Standing → Call → CallTree
+tree_of who standing Tick = Reads who.other (λ value. tick_marks value (move_of standing value)) (λ value. after_tick who (move_of standing value))
+tree_of who standing Stop = set_state 0
+
+-- The table of finished calls
+
+abbrev pub clear_steps : ℕ → ℕ → List Step
+clear_steps at zero = []
+clear_steps at (suc more) = step_of (Write at 0) 0 [] ∷ clear_steps (at + 1) more
+
+abbrev pub state_step : ℕ → Step
+state_step state = step_of (State state) 0 (Over ∷ [])
+
+-- a Tick that read this value, by the move that it makes: no more; the State step; or 0 to each own word ascending and then the State step
+abbrev pub tick_steps : Who → ℕ → Move → List Step
+tick_steps who value Stay = step_of (Read who.other) value (Saw value ∷ Over ∷ []) ∷ []
+tick_steps who value (Set state) = step_of (Read who.other) value (Saw value ∷ []) ∷ state_step state ∷ []
+tick_steps who value (ClearThenSet state) = step_of (Read who.other) value (Saw value ∷ []) ∷ (clear_steps who.own who.words ++ state_step state ∷ [])
+
+-- a finished call, begun in this standing, is one of these lists of steps
+abbrev pub IsCall : Who → Standing → Call → List Step → Type 0
+IsCall who standing Tick steps = (value : ℕ) × (steps ≡ tick_steps who value (move_of standing value))
+IsCall who standing Stop steps = steps ≡ state_step 0 ∷ []
+
+-- a list of steps runs the tree of a call to its end exactly where it is one of the call's lists
+pub record CallsAreLists : Type 0 where
+  pub listed : (who : Who) (standing : Standing) (call : Call) (steps : List Step) → Makes (tree_of who standing call) steps → IsCall who standing call steps
+  pub made : (who : Who) (standing : Standing) (call : Call) (steps : List Step) → IsCall who standing call steps → Makes (tree_of who standing call) steps

@@ -1,0 +1,44 @@
+-- What a call touches: it writes its own section and its own state alone, and rings nobody but the other end.
+use Rattle.std.specs.Prelude.{ℕ, ◌≡◌, ◌+◌, ◌<◌, ◌≤◌, ◌⊎◌, List, All}
+use Rattle.split_ring.specs.declared.steps.Access.{Access}
+use Rattle.split_ring.specs.declared.steps.Access.TheVariants as access
+use Rattle.link_laws.specs.Steps.{Step}
+use Rattle.link_laws.specs.Trees.{CallTree, Ended, Does, Reads, Goes, GoesAlong}
+use Rattle.link_laws.specs.Standings.{Standing}
+use Rattle.link_laws.specs.Calls.{Who, Call, tree_of}
+
+-- a word that an end reads: the state of the other, or a word of the other's section
+abbrev pub MayRead : Who → ℕ → Type 0
+MayRead who word = (word ≡ who.other) ⊎ ((who.theirs ≤ word) × (word < who.theirs + who.words))
+
+-- a word that an end writes: one of its own section
+abbrev pub MayStore : Who → ℕ → Type 0
+MayStore who word = (who.own ≤ word) × (word < who.own + who.words)
+
+-- an access that gives no value: a write in the own section, a write of the own state, a doorbell to the other, or nothing
+abbrev pub MayDo : Who → Access → Type 0
+MayDo who (access.Read word) = ⊥
+MayDo who (access.Write word written) = MayStore who word
+MayDo who (access.State state) = Unit {0}
+MayDo who (access.Ring target vector) = target ≡ who.other
+MayDo who access.Nothing = Unit {0}
+
+-- an access of an end: one of those, or a read of the other's words
+abbrev pub InReach : Who → Access → Type 0
+InReach who (access.Read word) = MayRead who word
+InReach who (access.Write word written) = MayStore who word
+InReach who (access.State state) = Unit {0}
+InReach who (access.Ring target vector) = target ≡ who.other
+InReach who access.Nothing = Unit {0}
+
+-- each access of the call is in reach, whatever its reads give
+abbrev pub StaysInReach : Who → CallTree → Type 0
+StaysInReach who Ended = Unit {0}
+StaysInReach who (Does access marks rest) = MayDo who access × StaysInReach who rest
+StaysInReach who (Reads word marks rest) = MayRead who word × ((value : ℕ) → StaysInReach who (rest value))
+
+-- every call stays in reach, and so does what a step leaves of it; each of its steps is then in reach
+pub record CallsStayInReach : Type 0 where
+  pub calls : (who : Who) (standing : Standing) (call : Call) → StaysInReach who (tree_of who standing call)
+  pub step : (who : Who) (tree new : CallTree) (step : Step) → StaysInReach who tree → Goes tree step new → InReach who step.access × StaysInReach who new
+  pub steps : (who : Who) (standing : Standing) (call : Call) (steps : List Step) (left : CallTree) → GoesAlong (tree_of who standing call) steps left → All (λ step. InReach who step.access) steps

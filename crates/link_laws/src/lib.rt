@@ -1,0 +1,35 @@
+//! The laws of the link that engines, simulator, checker and running peers share: steps, call trees, the call grammar
+//! and what a call touches. It stands on `split_ring` for accesses and notes and on `link_handshake` for the phases.
+//! It holds no code: each law about the definitions of `specs/` is the contract of a function with an empty body.
+#![tactic(auto)]
+
+ghost use Rattle.link_laws.specs.Trees.{CutsBegin};
+ghost use Rattle.link_laws.specs.Standings.{PhaseFollowsState};
+ghost use Rattle.link_laws.specs.Calls.{CallsAreLists};
+ghost use Rattle.link_laws.specs.Reach.{CallsStayInReach};
+ghost use Rattle.link_laws.specs.Rows.{CallsKeepRows};
+
+/// A call that is cut has the first steps of a whole one.
+pub fn cuts_begin()
+    ensures { CutsBegin }
+{}
+
+/// A list of steps runs the tree of a call to its end exactly where the table of calls has it.
+pub fn calls_are_lists()
+    ensures { CallsAreLists }
+{}
+
+/// The phase of an end changes at a State step alone.
+pub fn phase_follows_state()
+    ensures { PhaseFollowsState }
+{}
+
+/// A call writes its own section and its own state word alone, and reads the other's words alone, whatever it reads.
+pub fn calls_stay_in_reach()
+    ensures { CallsStayInReach }
+{}
+
+/// An end writes 0, or the state to which the phase table moves on from what it saw last, which is the other's state.
+pub fn calls_keep_rows()
+    ensures { CallsKeepRows }
+{}

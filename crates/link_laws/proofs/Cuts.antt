@@ -1,7 +1,7 @@
 -- A call that is cut, and the rest of it.
-use Rattle.std.proofs.Common.{◌≡◌, List, [], ◌∷◌, ◌++◌, refl, subst}
+use Rattle.std.proofs.Common.{List, [], ◌∷◌, ◌++◌, refl, subst}
 use Rattle.link_laws.specs.Steps.{Step}
-use Rattle.link_laws.specs.Trees.{CallTree, Ended, Does, Reads, Goes, GoesAlong, Makes, CutsBegin}
+use Rattle.link_laws.specs.Trees.{CallTree, Ended, Does, Reads, GoesAlong, Makes, CutsBegin}
 
 splits : (tree : CallTree) (steps others : List Step) → Makes tree (steps ++ others) → (left : CallTree) × GoesAlong tree steps left × Makes left others
 splits tree [] others makes = (tree, refl, makes)

@@ -1,12 +1,13 @@
 -- A call as a tree and as a list.
-use Rattle.std.proofs.Common.{◌≡◌, ℕ, zero, suc, ◌+◌, List, [], ◌∷◌, ◌++◌, refl, sym, ap, subst}
+use Rattle.std.proofs.Common.{◌≡◌, ℕ, zero, suc, ◌+◌, List, [], ◌∷◌, ◌++◌, refl, sym, subst}
+use Rattle.link_handshake.specs.Standing.{move_of}
 use Rattle.link_handshake.specs.declared.Move.{Move}
 use Rattle.link_handshake.specs.declared.Move.TheVariants.{Stay, Set, ClearThenSet}
 use Rattle.split_ring.specs.declared.steps.Access.TheVariants.{Read}
 use Rattle.link_laws.specs.Steps.{Step, step_of}
-use Rattle.link_laws.specs.Trees.{CallTree, Makes}
-use Rattle.link_laws.specs.Standings.{Standing}
-use Rattle.link_laws.specs.Calls.{Who, Call, Tick, Stop, move_of, clear, set_state, tick_marks, after_tick, tree_of, clear_steps, state_step, tick_steps, IsCall, CallsAreLists}
+use Rattle.link_laws.specs.Trees.{Makes}
+use Rattle.link_laws.specs.Ends.{End}
+use Rattle.link_laws.specs.Calls.{Who, Call, Tick, Stop, clear, set_state, tick_marks, after_tick, tree_of, clear_steps, state_step, tick_steps, IsCall, CallsAreLists}
 
 set_listed : (state : ℕ) (steps : List Step) → Makes (set_state state) steps → steps ≡ state_step state ∷ []
 set_listed state [] makes = absurd makes
@@ -37,19 +38,19 @@ ticks_by who value Stay = (refl, refl)
 ticks_by who value (Set state) = (refl, (refl, refl))
 ticks_by who value (ClearThenSet state) = (refl, clear_made who.own who.words state)
 
-tick_made : (who : Who) (standing : Standing) (value : ℕ) (steps : List Step) → TicksBy who value (move_of standing value) steps → Makes (tree_of who standing Tick) steps
-tick_made who standing value [] ticks = absurd ticks
-tick_made who standing value (step ∷ steps) ticks = (value, ticks.0, ticks.1)
+tick_made : (who : Who) (end : End) (value : ℕ) (steps : List Step) → TicksBy who value (move_of end.handshake value) steps → Makes (tree_of who end Tick) steps
+tick_made who end value [] ticks = absurd ticks
+tick_made who end value (step ∷ steps) ticks = (value, ticks.0, ticks.1)
 
-listed_lem : (who : Who) (standing : Standing) (call : Call) (steps : List Step) → Makes (tree_of who standing call) steps → IsCall who standing call steps
-listed_lem who standing Tick [] makes = absurd makes
-listed_lem who standing Tick (step ∷ steps) makes = (makes.0, tick_listed who makes.0 (move_of standing makes.0) step steps makes.1 makes.2)
-listed_lem who standing Stop steps makes = set_listed 0 steps makes
+listed_lem : (who : Who) (end : End) (call : Call) (steps : List Step) → Makes (tree_of who end call) steps → IsCall who end call steps
+listed_lem who end Tick [] makes = absurd makes
+listed_lem who end Tick (step ∷ steps) makes = (makes.0, tick_listed who makes.0 (move_of end.handshake makes.0) step steps makes.1 makes.2)
+listed_lem who end Stop steps makes = set_listed 0 steps makes
 
-made_lem : (who : Who) (standing : Standing) (call : Call) (steps : List Step) → IsCall who standing call steps → Makes (tree_of who standing call) steps
-made_lem who standing Tick steps is =
-    subst (λ (list : List Step). Makes (tree_of who standing Tick) list) (sym is.1) (tick_made who standing is.0 (tick_steps who is.0 (move_of standing is.0)) (ticks_by who is.0 (move_of standing is.0)))
-made_lem who standing Stop steps is = subst (λ (list : List Step). Makes (set_state 0) list) (sym is) (refl, refl)
+made_lem : (who : Who) (end : End) (call : Call) (steps : List Step) → IsCall who end call steps → Makes (tree_of who end call) steps
+made_lem who end Tick steps is =
+    subst (λ (list : List Step). Makes (tree_of who end Tick) list) (sym is.1) (tick_made who end is.0 (tick_steps who is.0 (move_of end.handshake is.0)) (ticks_by who is.0 (move_of end.handshake is.0)))
+made_lem who end Stop steps is = subst (λ (list : List Step). Makes (set_state 0) list) (sym is) (refl, refl)
 
 pub lists : CallsAreLists
 lists = record { listed = listed_lem; made = made_lem }

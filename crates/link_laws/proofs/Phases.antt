@@ -1,38 +1,36 @@
 -- The phase along a step.
 use Rattle.std.proofs.Common.{◌≡◌, ◌≢◌, ℕ, List, [], ◌∷◌, refl, ◌∙◌, ap}
-use Rattle.link_handshake.specs.declared.Phase.{Phase}
-use Rattle.link_handshake.specs.Table.{phase_at}
 use Rattle.split_ring.specs.declared.steps.Access.{Access}
 use Rattle.split_ring.specs.declared.steps.Access.TheVariants as access
-use Rattle.link_laws.specs.Steps.{Mark, Saw, Reclaim, Full, Accept, Look, Deliver, Return, Done, Down, Refuse, Over, Step}
-use Rattle.link_laws.specs.Standings.{Standing, stated, noted, noted_all, stands_after, PhaseFollowsState}
+use Rattle.link_laws.specs.Steps.{Mark, Saw, Reclaim, Full, Accept, Look, Deliver, Return, Done, Down, Refuse, Over}
+use Rattle.link_laws.specs.Ends.{End, stated, noted, noted_all, PhaseFollowsState}
 
-note_keeps : (standing : Standing) (mark : Mark) → (noted standing mark).phase ≡ standing.phase
-note_keeps standing (Saw value) = refl
-note_keeps standing (Reclaim count) = refl
-note_keeps standing Full = refl
-note_keeps standing (Accept frame) = refl
-note_keeps standing (Look count) = refl
-note_keeps standing (Deliver frame) = refl
-note_keeps standing Return = refl
-note_keeps standing Done = refl
-note_keeps standing Down = refl
-note_keeps standing (Refuse refused) = refl
-note_keeps standing Over = refl
+note_keeps : (end : End) (mark : Mark) → (noted end mark).handshake.phase ≡ end.handshake.phase
+note_keeps end (Saw value) = refl
+note_keeps end (Reclaim count) = refl
+note_keeps end Full = refl
+note_keeps end (Accept frame) = refl
+note_keeps end (Look count) = refl
+note_keeps end (Deliver frame) = refl
+note_keeps end Return = refl
+note_keeps end Done = refl
+note_keeps end Down = refl
+note_keeps end (Refuse refused) = refl
+note_keeps end Over = refl
 
-notes_keep : (standing : Standing) (marks : List Mark) → (noted_all standing marks).phase ≡ standing.phase
-notes_keep standing [] = refl
-notes_keep standing (mark ∷ marks) = notes_keep (noted standing mark) marks ∙ note_keeps standing mark
+notes_keep : (end : End) (marks : List Mark) → (noted_all end marks).handshake.phase ≡ end.handshake.phase
+notes_keep end [] = refl
+notes_keep end (mark ∷ marks) = notes_keep (noted end mark) marks ∙ note_keeps end mark
 
-access_keeps : (standing : Standing) (a : Access) → ((state : ℕ) → a ≢ access.State state) → (stated standing a).phase ≡ standing.phase
-access_keeps standing (access.Read word) other = refl
-access_keeps standing (access.Write word written) other = refl
-access_keeps standing (access.State state) other = absurd (other state refl)
-access_keeps standing (access.Ring target vector) other = refl
-access_keeps standing access.Nothing other = refl
+access_keeps : (end : End) (a : Access) → ((state : ℕ) → a ≢ access.State state) → (stated end a).handshake.phase ≡ end.handshake.phase
+access_keeps end (access.Read word) other = refl
+access_keeps end (access.Write word written) other = refl
+access_keeps end (access.State state) other = absurd (other state refl)
+access_keeps end (access.Ring target vector) other = refl
+access_keeps end access.Nothing other = refl
 
 pub phases : PhaseFollowsState
 phases = record {
-  kept = λ standing step other. notes_keep (stated standing step.access) step.marks ∙ access_keeps standing step.access other;
-  written = λ standing step state is. notes_keep (stated standing step.access) step.marks ∙ ap (λ (a : Access). (stated standing a).phase) is;
+  kept = λ end step other. notes_keep (stated end step.access) step.marks ∙ access_keeps end step.access other;
+  written = λ end step state is. notes_keep (stated end step.access) step.marks ∙ ap (λ (a : Access). (stated end a).handshake.phase) is;
 }

@@ -1,15 +1,16 @@
 -- Every call stays in reach.
-use Rattle.std.proofs.Common.{◌≡◌, ℕ, zero, suc, ◌+◌, ◌<◌, ◌≤◌, true, false, List, [], ◌∷◌, refl, sym, subst, arith, inl, inr, All}
+use Rattle.std.proofs.Common.{ℕ, zero, suc, ◌+◌, ◌≤◌, List, [], ◌∷◌, refl, sym, subst, arith, inl, All}
 use Rattle.std.proofs.lemmas.List.Elements.{All-nil, All-cons}
+use Rattle.link_handshake.specs.Standing.{move_of}
 use Rattle.link_handshake.specs.declared.Move.{Move}
 use Rattle.link_handshake.specs.declared.Move.TheVariants.{Stay, Set, ClearThenSet}
 use Rattle.split_ring.specs.declared.steps.Access.{Access}
 use Rattle.split_ring.specs.declared.steps.Access.TheVariants as access
-use Rattle.link_laws.specs.Steps.{Step, value_given}
+use Rattle.link_laws.specs.Steps.{Step}
 use Rattle.link_laws.specs.Trees.{CallTree, Ended, Does, Reads, Goes, GoesAlong}
-use Rattle.link_laws.specs.Standings.{Standing}
-use Rattle.link_laws.specs.Calls.{Who, Call, Tick, Stop, move_of, clear, set_state, after_tick, tree_of}
-use Rattle.link_laws.specs.Reach.{MayDo, MayRead, InReach, StaysInReach, CallsStayInReach}
+use Rattle.link_laws.specs.Ends.{End}
+use Rattle.link_laws.specs.Calls.{Who, Call, Tick, Stop, clear, set_state, after_tick, tree_of}
+use Rattle.link_laws.specs.Reach.{MayDo, InReach, StaysInReach, CallsStayInReach}
 
 clear_stays : (who : Who) (at more : ℕ) (after : CallTree) → who.own ≤ at → at + more ≤ who.own + who.words → StaysInReach who after → StaysInReach who (clear at more after)
 clear_stays who at zero after low high stays = stays
@@ -20,9 +21,9 @@ after_tick_stays who Stay = tt
 after_tick_stays who (Set state) = (tt, tt)
 after_tick_stays who (ClearThenSet state) = clear_stays who who.own who.words (set_state state) (omega arith) (omega arith) (tt, tt)
 
-pub call_stays : (who : Who) (standing : Standing) (call : Call) → StaysInReach who (tree_of who standing call)
-call_stays who standing Tick = (inl refl, λ value. after_tick_stays who (move_of standing value))
-call_stays who standing Stop = (tt, tt)
+pub call_stays : (who : Who) (end : End) (call : Call) → StaysInReach who (tree_of who end call)
+call_stays who end Tick = (inl refl, λ value. after_tick_stays who (move_of end.handshake value))
+call_stays who end Stop = (tt, tt)
 
 reach_of : (who : Who) (a : Access) → MayDo who a → InReach who a
 reach_of who (access.Read word) may = absurd may
@@ -48,5 +49,5 @@ pub reaching : CallsStayInReach
 reaching = record {
   calls = call_stays;
   step = step_stays;
-  steps = λ who standing call steps left along. steps_stay who (tree_of who standing call) left steps (call_stays who standing call) along;
+  steps = λ who end call steps left along. steps_stay who (tree_of who end call) left steps (call_stays who end call) along;
 }

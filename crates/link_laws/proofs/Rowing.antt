@@ -1,16 +1,17 @@
 -- Every call keeps the state rows.
-use Rattle.std.proofs.Common.{◌≡◌, ℕ, zero, suc, ◌+◌, true, false, Bool, List, [], ◌∷◌, refl, sym, subst, inl, inr}
+use Rattle.std.proofs.Common.{◌≡◌, ℕ, zero, suc, ◌+◌, true, false, Bool, List, refl, sym, subst, inl, inr}
 use Rattle.std.specs.Prelude.{if◌then◌else◌}
 use Rattle.link_handshake.specs.declared.Phase.{Phase}
+use Rattle.link_handshake.specs.Standing.{move_of}
 use Rattle.link_handshake.specs.declared.Move.{Move}
 use Rattle.link_handshake.specs.declared.Move.TheVariants.{Stay, Set, ClearThenSet}
-use Rattle.link_handshake.specs.Table.{move_on}
+use Rattle.link_handshake.specs.PhaseTable.{move_on}
 use Rattle.split_ring.specs.declared.steps.Access.{Access}
 use Rattle.split_ring.specs.declared.steps.Access.TheVariants as access
 use Rattle.link_laws.specs.Steps.{Mark, Step, value_given, step_of}
 use Rattle.link_laws.specs.Trees.{CallTree, Ended, Does, Reads, Goes}
-use Rattle.link_laws.specs.Standings.{Standing}
-use Rattle.link_laws.specs.Calls.{Who, Call, Tick, Stop, move_of, clear, set_state, tick_marks, after_tick, tree_of}
+use Rattle.link_laws.specs.Ends.{End}
+use Rattle.link_laws.specs.Calls.{Who, Call, Tick, Stop, clear, set_state, tick_marks, after_tick, tree_of}
 use Rattle.link_laws.specs.Rows.{MovesTo, phase_with, seen_with, RowHolds, KeepsRows, CallsKeepRows}
 
 -- the move of an end is none, or that of the table
@@ -38,9 +39,9 @@ tick_keeps who phase value Stay seen is = ((refl, refl, tt), tt)
 tick_keeps who phase value (Set state) seen is = ((refl, refl, tt), ((inr is, tt), tt))
 tick_keeps who phase value (ClearThenSet state) seen is = ((refl, refl, tt), clear_keeps who phase value who.own who.words state is)
 
-call_keeps : (who : Who) (standing : Standing) (seen : ℕ) (call : Call) → KeepsRows who standing.phase seen (tree_of who standing call)
-call_keeps who standing seen Tick = λ value. tick_keeps who standing.phase value (move_of standing value) seen (move_moves standing.phase value standing.refused)
-call_keeps who standing seen Stop = ((inl refl, tt), tt)
+call_keeps : (who : Who) (end : End) (seen : ℕ) (call : Call) → KeepsRows who end.handshake.phase seen (tree_of who end call)
+call_keeps who end seen Tick = λ value. tick_keeps who end.handshake.phase value (move_of end.handshake value) seen (move_moves end.handshake.phase value end.handshake.mark)
+call_keeps who end seen Stop = ((inl refl, tt), tt)
 
 -- the row of a step that gives its own value
 row_of : (who : Who) (phase : Phase) (seen : ℕ) (a : Access) (value : ℕ) (marks : List Mark) → RowHolds who phase seen a 0 marks → RowHolds who phase seen a (value_given a 0) marks

@@ -1,14 +1,14 @@
 -- The call grammar: which steps a call of a link peer takes (profile), as a tree and as a table of lists.
 -- Offer and Poll will join `Call`, `tree_of` and `IsCall`; their trees are written like these, each part with what comes after it as its last argument.
-use Rattle.std.specs.Prelude.{ℕ, zero, suc, ◌≡◌, ◌+◌, if◌then◌else◌, List, [], ◌∷◌, ◌++◌}
+use Rattle.std.specs.Prelude.{ℕ, zero, suc, ◌≡◌, ◌+◌, List, [], ◌∷◌, ◌++◌}
 use Rattle.link_handshake.specs.declared.Move.{Move}
 use Rattle.link_handshake.specs.declared.Move.TheVariants.{Stay, Set, ClearThenSet}
-use Rattle.link_handshake.specs.Table.{move_on}
+use Rattle.link_handshake.specs.Standing.{move_of}
 use Rattle.split_ring.specs.declared.steps.Access.TheVariants.{Read, Write, State}
 use Rattle.split_ring.specs.Layout.{Sizes}
 use Rattle.link_laws.specs.Steps.{Mark, Saw, Over, Step, step_of}
 use Rattle.link_laws.specs.Trees.{CallTree, Ended, Does, Reads, Makes}
-use Rattle.link_laws.specs.Standings.{Standing}
+use Rattle.link_laws.specs.Ends.{End}
 
 -- who makes the calls: a peer and its partner, the first words of their sections and the words of each, the sizes of the queue in them, and the vector of the traffic doorbell
 pub record Who : Type 0 where
@@ -24,10 +24,6 @@ pub record Who : Type 0 where
 pub data Call : Type 0 where
   Tick : Call
   Stop : Call
-
--- the move of an end that reads this state of the other: that of the phase table, and none where it refused the link
-abbrev pub move_of : Standing → ℕ → Move
-move_of standing value = if standing.refused then Stay else move_on standing.phase value
 
 -- The tree of a call
 
@@ -50,10 +46,10 @@ after_tick who Stay = Ended
 after_tick who (Set state) = set_state state
 after_tick who (ClearThenSet state) = clear who.own who.words (set_state state)
 
--- a call that begins in this standing
-abbrev pub tree_of : Who → Standing → Call → CallTree
-tree_of who standing Tick = Reads who.other (λ value. tick_marks value (move_of standing value)) (λ value. after_tick who (move_of standing value))
-tree_of who standing Stop = set_state 0
+-- the tree of a call that this end begins
+abbrev pub tree_of : Who → End → Call → CallTree
+tree_of who end Tick = Reads who.other (λ value. tick_marks value (move_of end.handshake value)) (λ value. after_tick who (move_of end.handshake value))
+tree_of who end Stop = set_state 0
 
 -- The table of finished calls
 
@@ -70,12 +66,12 @@ tick_steps who value Stay = step_of (Read who.other) value (Saw value ∷ Over �
 tick_steps who value (Set state) = step_of (Read who.other) value (Saw value ∷ []) ∷ state_step state ∷ []
 tick_steps who value (ClearThenSet state) = step_of (Read who.other) value (Saw value ∷ []) ∷ (clear_steps who.own who.words ++ state_step state ∷ [])
 
--- a finished call, begun in this standing, is one of these lists of steps
-abbrev pub IsCall : Who → Standing → Call → List Step → Type 0
-IsCall who standing Tick steps = (value : ℕ) × (steps ≡ tick_steps who value (move_of standing value))
-IsCall who standing Stop steps = steps ≡ state_step 0 ∷ []
+-- a finished call that this end began is one of these lists of steps
+abbrev pub IsCall : Who → End → Call → List Step → Type 0
+IsCall who end Tick steps = (value : ℕ) × (steps ≡ tick_steps who value (move_of end.handshake value))
+IsCall who end Stop steps = steps ≡ state_step 0 ∷ []
 
 -- a list of steps runs the tree of a call to its end exactly where it is one of the call's lists
 pub record CallsAreLists : Type 0 where
-  pub listed : (who : Who) (standing : Standing) (call : Call) (steps : List Step) → Makes (tree_of who standing call) steps → IsCall who standing call steps
-  pub made : (who : Who) (standing : Standing) (call : Call) (steps : List Step) → IsCall who standing call steps → Makes (tree_of who standing call) steps
+  pub listed : (who : Who) (end : End) (call : Call) (steps : List Step) → Makes (tree_of who end call) steps → IsCall who end call steps
+  pub made : (who : Who) (end : End) (call : Call) (steps : List Step) → IsCall who end call steps → Makes (tree_of who end call) steps

@@ -1,6 +1,6 @@
 pub mod Steps
 pub mod Trees
-pub mod Standings
+pub mod Ends
 pub mod Calls
 pub mod Reach
 pub mod Rows

@@ -4,7 +4,7 @@ use Rattle.split_ring.specs.declared.steps.Access.{Access}
 use Rattle.split_ring.specs.declared.steps.Access.TheVariants as access
 use Rattle.link_laws.specs.Steps.{Step}
 use Rattle.link_laws.specs.Trees.{CallTree, Ended, Does, Reads, Goes, GoesAlong}
-use Rattle.link_laws.specs.Standings.{Standing}
+use Rattle.link_laws.specs.Ends.{End}
 use Rattle.link_laws.specs.Calls.{Who, Call, tree_of}
 
 -- a word that an end reads: the state of the other, or a word of the other's section
@@ -39,6 +39,6 @@ StaysInReach who (Reads word marks rest) = MayRead who word × ((value : ℕ) �
 
 -- every call stays in reach, and so does what a step leaves of it; each of its steps is then in reach
 pub record CallsStayInReach : Type 0 where
-  pub calls : (who : Who) (standing : Standing) (call : Call) → StaysInReach who (tree_of who standing call)
+  pub calls : (who : Who) (end : End) (call : Call) → StaysInReach who (tree_of who end call)
   pub step : (who : Who) (tree new : CallTree) (step : Step) → StaysInReach who tree → Goes tree step new → InReach who step.access × StaysInReach who new
-  pub steps : (who : Who) (standing : Standing) (call : Call) (steps : List Step) (left : CallTree) → GoesAlong (tree_of who standing call) steps left → All (λ step. InReach who step.access) steps
+  pub steps : (who : Who) (end : End) (call : Call) (steps : List Step) (left : CallTree) → GoesAlong (tree_of who end call) steps left → All (λ step. InReach who step.access) steps

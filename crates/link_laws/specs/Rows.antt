@@ -2,12 +2,12 @@
 use Rattle.std.specs.Prelude.{ℕ, ◌≡◌, ◌⊎◌, List, [], ◌∷◌}
 use Rattle.link_handshake.specs.declared.Phase.{Phase}
 use Rattle.link_handshake.specs.declared.Move.TheVariants.{Set, ClearThenSet}
-use Rattle.link_handshake.specs.Table.{move_on, phase_at}
+use Rattle.link_handshake.specs.PhaseTable.{move_on, phase_at}
 use Rattle.split_ring.specs.declared.steps.Access.{Access}
 use Rattle.split_ring.specs.declared.steps.Access.TheVariants as access
 use Rattle.link_laws.specs.Steps.{Mark, Saw, Step}
 use Rattle.link_laws.specs.Trees.{CallTree, Ended, Does, Reads, Goes}
-use Rattle.link_laws.specs.Standings.{Standing}
+use Rattle.link_laws.specs.Ends.{End}
 use Rattle.link_laws.specs.Calls.{Who, Call, tree_of}
 
 -- from this phase, an end that saw this value moves on to this state
@@ -54,8 +54,8 @@ KeepsRows who phase seen Ended = Unit {0}
 KeepsRows who phase seen (Does access marks rest) = RowHolds who phase seen access 0 marks × KeepsRows who (phase_with phase access) (seen_with seen marks) rest
 KeepsRows who phase seen (Reads word marks rest) = (value : ℕ) → RowHolds who phase seen (access.Read word) value (marks value) × KeepsRows who phase (seen_with seen (marks value)) (rest value)
 
--- every call keeps the rows, and so does what a step leaves of it; the phase goes with the standing
+-- every call keeps the rows, and so does what a step leaves of it; its phase is that of the end
 pub record CallsKeepRows : Type 0 where
-  pub calls : (who : Who) (standing : Standing) (seen : ℕ) (call : Call) → KeepsRows who standing.phase seen (tree_of who standing call)
+  pub calls : (who : Who) (end : End) (seen : ℕ) (call : Call) → KeepsRows who end.handshake.phase seen (tree_of who end call)
   pub step : (who : Who) (phase : Phase) (seen : ℕ) (tree new : CallTree) (step : Step) → KeepsRows who phase seen tree → Goes tree step new →
       RowHolds who phase seen step.access step.value step.marks × KeepsRows who (phase_with phase step.access) (seen_with seen step.marks) new

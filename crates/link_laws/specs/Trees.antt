@@ -1,5 +1,5 @@
 -- A call as a tree of steps, whose reads branch on the value read.
-use Rattle.std.specs.Prelude.{ℕ, ◌≡◌, ◌↔◌, List, [], ◌∷◌, ◌++◌}
+use Rattle.std.specs.Prelude.{ℕ, ◌≡◌, List, [], ◌∷◌, ◌++◌}
 use Rattle.split_ring.specs.declared.steps.Access.{Access}
 use Rattle.split_ring.specs.declared.steps.Access.TheVariants.{Read}
 use Rattle.link_laws.specs.Steps.{Mark, Step, step_of}

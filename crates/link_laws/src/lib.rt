@@ -4,7 +4,7 @@
 #![tactic(auto)]
 
 ghost use Rattle.link_laws.specs.Trees.{CutsBegin};
-ghost use Rattle.link_laws.specs.Standings.{PhaseFollowsState};
+ghost use Rattle.link_laws.specs.Ends.{PhaseFollowsState};
 ghost use Rattle.link_laws.specs.Calls.{CallsAreLists};
 ghost use Rattle.link_laws.specs.Reach.{CallsStayInReach};
 ghost use Rattle.link_laws.specs.Rows.{CallsKeepRows};

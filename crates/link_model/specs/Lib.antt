@@ -1,0 +1,9 @@
+pub mod Sides
+pub mod Memory
+pub mod Schedule
+pub mod Entries
+pub mod Peers
+pub mod Device
+pub mod Lawful
+pub mod History
+pub mod Link

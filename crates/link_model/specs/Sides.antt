@@ -1,0 +1,40 @@
+-- What a scenario says of its world, and a link peer and its partner in it.
+use Rattle.std.specs.Prelude.{ℕ, ◌==◌, nat_le, if◌then◌else◌}
+use Rattle.section_map.specs.Geometry.{section_start}
+use Rattle.pci_space.specs.declared.wiring.Wiring.{Wiring}
+use Rattle.pci_space.specs.declared.wiring.Wiring.TheVariants.{Msix, Intx}
+use Rattle.scenario_text.specs.Scenario.{World}
+use Rattle.scenario_text.specs.declared.scenarios.Scenario.{Scenario}
+use Rattle.link_laws.specs.Calls.{Who}
+
+-- what a scenario says, without the proof that it is one
+abbrev pub world_of : Scenario → World
+world_of scenario = record {
+  version = scenario.version;
+  geometry = scenario.geometry;
+  queue = scenario.queue;
+  wiring = scenario.wiring;
+  honest = scenario.honest;
+  acts = scenario.acts;
+}
+
+-- peers 0 and 1 are the two ends of the link (profile)
+abbrev pub partner : ℕ → ℕ
+partner peer = if peer == 0 then 1 else 0
+
+-- the vector of the doorbells of offers and polls: 1 where MSI-X has two vectors or more, else 0 (profile)
+abbrev pub traffic_vector : Wiring → ℕ
+traffic_vector (Msix vectors) = if nat_le 2 vectors then 1 else 0
+traffic_vector Intx = 0
+
+-- a peer of the scenario, as the call grammar sees it
+abbrev pub who_of : World → ℕ → Who
+who_of world peer = record {
+  me = peer;
+  other = partner peer;
+  own = section_start world.geometry peer;
+  theirs = section_start world.geometry (partner peer);
+  words = world.geometry.out;
+  sizes = world.queue;
+  vector = traffic_vector world.wiring;
+}

@@ -4,6 +4,13 @@
 //! changes exactly the bits that the table opens, and that a walk ends with the one answer that its bytes have.
 #![tactic(auto)]
 
+mod field;
+mod number;
+mod space;
+mod table;
 mod wiring;
 
+pub use field::{Field, FieldFault};
+pub use space::{BadAccess, Space};
+pub use table::FieldTable;
 pub use wiring::Wiring;

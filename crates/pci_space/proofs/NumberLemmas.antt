@@ -1,0 +1,40 @@
+-- Numbers and their bytes.
+use Rattle.std.proofs.Common.{◌≡◌, ℕ, zero, suc, ◌+◌, ◌*◌, ◌/◌, ◌%◌, ◌^◌, ◌<◌, ◌≤◌, List, drop, refl, sym, ◌∙◌, ap, ap₂, subst, arith}
+use Rattle.std.specs.Prelude.{slice_index}
+use Rattle.std.proofs.lemmas.List.{get_or-drop}
+use Rattle.std.proofs.Math.Nat.{div-eq_of_lt, pow-le-pow_right}
+use Rattle.byteorder.specs.Endian.{little_from}
+use Rattle.byteorder.specs.Numbers.{little_from-lt}
+use Rattle.pci_space.specs.Numbers.{number_byte, number_from}
+
+-- A number below 2 ^ 64 has no ninth byte.
+pub number_byte-past : (n i : ℕ) → n < 2 ^ 64 → 8 ≤ i → 0 ≡ number_byte n i
+number_byte-past n i small past =
+    let grows : 256 ^ 8 ≤ 256 ^ i = pow-le-pow_right {n = 256} (omega arith) past in
+    let none : n / 256 ^ i ≡ 0 = div-eq_of_lt (omega arith) in
+    sym (ap (λ q. q % 256) none)
+
+-- The number in the bytes behind a place.
+pub little_from-drop : (at i n : ℕ) (xs : List ℕ) → little_from i n (drop at xs) ≡ number_from (slice_index xs) (at + i) n
+little_from-drop at i zero xs = refl
+little_from-drop at i (suc n) xs =
+    let next : at + suc i ≡ suc (at + i) = omega arith in
+    ap₂ (λ (b r : ℕ). b + 256 * r) (get_or-drop at xs i 0)
+        (little_from-drop at (suc i) n xs ∙ ap (λ a. number_from (slice_index xs) a n) next)
+
+-- The same number, from the place itself.
+pub little_number-drop : (at n : ℕ) (xs : List ℕ) → little_from 0 n (drop at xs) ≡ number_from (slice_index xs) at n
+little_number-drop at n xs =
+    let same : at + 0 ≡ at = omega arith in
+    little_from-drop at 0 n xs ∙ ap (λ a. number_from (slice_index xs) a n) same
+
+-- Equal bytes make equal numbers.
+pub number_from-same : (f g : ℕ → ℕ) (at n : ℕ) → ((k : ℕ) → f k ≡ g k) → number_from f at n ≡ number_from g at n
+number_from-same f g at zero same = refl
+number_from-same f g at (suc n) same = ap₂ (λ (b r : ℕ). b + 256 * r) (same at) (number_from-same f g (suc at) n same)
+
+-- A number in so many bytes fits them.
+pub number_from-fits : (xs : List ℕ) (at n : ℕ) → ((k : ℕ) → slice_index xs k < 256) → number_from (slice_index xs) at n < 256 ^ n
+number_from-fits xs at n small =
+    subst (λ v. v < 256 ^ n) (little_number-drop at n xs)
+        (little_from-lt 0 n (drop at xs) (λ k. subst (λ b. b < 256) (sym (get_or-drop at xs k 0)) (small (at + k))))

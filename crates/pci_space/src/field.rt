@@ -1,0 +1,74 @@
+ghost use Rattle.std.specs.Prelude.{◌≡◌, ◌<◌, IsTrue};
+ghost use Rattle.pci_space.specs.Fields.{covers, shares, is_width, fits_width};
+
+use thiserror::Error;
+
+/// A field of a space.
+#[derive(Clone, Copy, Debug, PartialEq, Eq)]
+pub struct Field {
+    /// Its first byte.
+    pub place: u16,
+    /// Its number of bytes: 1, 2, 4 or 8.
+    pub width: u16,
+    /// What it holds at reset.
+    pub reset: u64,
+    /// The bits that a write changes.
+    pub mask: u64,
+}
+
+/// Why rows make no table. Rows are numbered from 0, and each fault has the number of its row.
+#[derive(Clone, Copy, Debug, PartialEq, Eq, Error)]
+pub enum FieldFault {
+    /// The width isn't 1, 2, 4 or 8.
+    #[error("row {0} has a width other than 1, 2, 4 and 8")]
+    BadWidth(u32),
+    /// The reset value or the mask doesn't fit the width.
+    #[error("row {0} has a reset value or a mask that doesn't fit its width")]
+    TooWide(u32),
+    /// The field ends past the space.
+    #[error("row {0} ends past the space")]
+    Outside(u32),
+    /// The field shares a byte with an earlier row, the first of which is the second number.
+    #[error("row {0} overlaps row {1}")]
+    Overlap(u32, u32),
+}
+
+impl Field {
+    /// Does the field have byte k of the space?
+    pub(crate) fn has_byte(&self, k: usize) -> bool
+        requires { k < 65536 }
+        ensures { result ≡ covers self.now k }
+    {
+        let place = usize::from(self.place);
+        place <= k && k < place + usize::from(self.width)
+    }
+
+    /// Does it share a byte with another?
+    pub(crate) fn shares_with(&self, other: &Field) -> bool
+        ensures { result ≡ shares self.now other.now }
+    {
+        let end = u32::from(self.place) + u32::from(self.width);
+        let other_end = u32::from(other.place) + u32::from(other.width);
+        u32::from(self.place) < other_end && u32::from(other.place) < end
+    }
+
+    /// Has it a width that a field may have?
+    pub(crate) fn has_good_width(&self) -> bool
+        ensures { result ≡ is_width self.now.width }
+    {
+        matches!(self.width, 1 | 2 | 4 | 8)
+    }
+}
+
+/// Does a number fit so many bytes?
+pub(crate) fn fits(number: u64, width: u16) -> bool
+    requires { IsTrue (is_width width) }
+    ensures { result ≡ fits_width number width }
+{
+    match width {
+        1 => number < 1 << 8,
+        2 => number < 1 << 16,
+        4 => number < 1 << 32,
+        _ => true,
+    }
+}

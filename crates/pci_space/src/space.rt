@@ -1,0 +1,173 @@
+ghost use Rattle.std.specs.Prelude.{◌≡◌, ℕ, ◌+◌, ◌<◌, ◌≤◌, ◌↔◌, length, slice_index, IfOk, IfErr, OnOk, IsOk, IsTrue};
+ghost use Rattle.pci_space.specs.Numbers.{number_from};
+ghost use Rattle.pci_space.specs.Fields.{reset_byte, mask_byte, merged, is_access, byte_behind, KeepsUnmasked};
+
+use std::marker::Model;
+
+use thiserror::Error;
+
+use crate::field::Field;
+use crate::number::{byte_of, number_in};
+use crate::table::FieldTable;
+
+/// An access that a space refuses: its width isn't 1, 2 or 4, its offset isn't a multiple of the width, or it
+/// ends past the space.
+#[derive(Clone, Copy, Debug, PartialEq, Eq, Error)]
+#[error("no access of {width} bytes at offset {offset}")]
+pub struct BadAccess {
+    /// The first byte.
+    pub offset: u16,
+    /// The number of bytes.
+    pub width: u16,
+}
+
+/// A space of B bytes, filled by a table of N fields.
+///
+/// A contract sees it as the rows of the table and the bytes that it reads as.
+#[derive(Clone, Copy, Debug)]
+pub struct Space<const N: usize, const B: usize> {
+    table: FieldTable<N>,
+    bytes: [u8; B],
+}
+
+impl<const N: usize, const B: usize> Model for Space<N, B> {
+    ghost use Rattle.std.specs.Prelude.{◌≡◌};
+    ghost use Rattle.std.proofs.Common.{ap, sym};
+    ghost use Rattle.pci_space.specs.Fields.{Contents, KeepsUnmasked};
+
+    ghost Value = { Contents };
+
+    ghost view = { λ s. record { rows = s.table.rows; bytes = s.bytes } };
+
+    ghost invariant = { λ s. (s.table.size ≡ B) × KeepsUnmasked s.table.rows s.bytes };
+
+    ghost inverse = { λ s. record { table = record { rows = s.rows; size = B }; bytes = s.bytes } };
+
+    ghost inverse_ok = { λ s holds. ap (λ size. record { table = record { rows = s.table.rows; size = size }; bytes = s.bytes }) (sym holds.0) };
+}
+
+impl<const N: usize, const B: usize> Space<N, B> {
+    /// A space at reset. The table was made for B bytes.
+    pub fn new(table: FieldTable<N>) -> Space<N, B>
+        requires { table.size ≡ B }
+        ensures rows { result.rows ≡ table.entry.rows }
+        ensures bytes { (k : ℕ) → slice_index result.bytes k ≡ reset_byte table.entry.rows k }
+    {
+        let bytes = bytes_at_reset(table.rows());
+        Space { table, bytes }
+    }
+
+    /// Gives every field its reset value.
+    pub fn reset(&mut self)
+        ensures rows { self.new.rows ≡ self.old.rows }
+        ensures bytes { (k : ℕ) → slice_index self.new.bytes k ≡ reset_byte self.old.rows k }
+    {
+        self.bytes = bytes_at_reset(self.table.rows());
+    }
+
+    /// The number in the `width` bytes from `offset` on, the lowest byte first.
+    ///
+    /// Where no field is, the bytes are 0.
+    pub fn read(&self, offset: u16, width: u16) -> Result<u32, BadAccess>
+        ensures allowed { IsOk result ↔ IsTrue (is_access B offset width) }
+        ensures value { IfOk result (λ v. v ≡ number_from (slice_index self.now.bytes) offset width) }
+        ensures refused { IfErr result (λ e. e ≡ record { offset = offset; width = width }) }
+        ensures kept { OnOk result (KeepsUnmasked self.now.rows self.now.bytes) }
+    {
+        if !is_allowed(B, offset, width) {
+            return Err(BadAccess { offset, width });
+        }
+        let bytes = &self.bytes[..];
+        let number = number_in(bytes, usize::from(offset), usize::from(width));
+        Ok(number as u32)
+    }
+
+    /// Changes the masked bits of the `width` bytes from `offset` on to those of the value, the lowest byte first.
+    ///
+    /// Nothing else changes, and after BadAccess nothing at all.
+    pub fn write(&mut self, offset: u16, width: u16, value: u32) -> Result<(), BadAccess>
+        ensures allowed { IsOk result ↔ IsTrue (is_access B offset width) }
+        ensures written { OnOk result ((k : ℕ) → slice_index self.new.bytes k ≡ byte_behind self.old.rows offset width value k (slice_index self.old.bytes k)) }
+        ensures rows { self.new.rows ≡ self.old.rows }
+        ensures refused { IfErr result (λ e. (e ≡ record { offset = offset; width = width }) × (self.new ≡ self.old)) }
+    {
+        if !is_allowed(B, offset, width) {
+            return Err(BadAccess { offset, width });
+        }
+        write_bytes(
+            &mut self.bytes[..],
+            self.table.rows(),
+            usize::from(offset),
+            usize::from(width),
+            value,
+        );
+        Ok(())
+    }
+}
+
+/// Is this an access of a space of so many bytes?
+fn is_allowed(size: usize, offset: u16, width: u16) -> bool
+    ensures { result ≡ is_access size offset width }
+{
+    matches!(width, 1 | 2 | 4)
+        && offset % width == 0
+        && usize::from(offset) + usize::from(width) <= size
+}
+
+/// Writes the low bytes of a value through the masks.
+fn write_bytes(bytes: &mut [u8], rows: &[Field], at: usize, count: usize, value: u32)
+    requires inside { at + count ≤ length bytes.old }
+    requires small { at + count < 65536 }
+    ensures { (k : ℕ) → slice_index bytes.new k ≡ byte_behind rows.now at count value k (slice_index bytes.old k) }
+{
+    for k in at..at + count {
+        let new = byte_of(u64::from(value), k - at);
+        bytes[k] = merge(bytes[k], new, mask_at(rows, k));
+    }
+}
+
+/// The masked bits of `new`, and the others of `old`.
+fn merge(old: u8, new: u8, mask: u8) -> u8
+    ensures { result ≡ merged old new mask }
+{
+    (old & !mask) | (new & mask)
+}
+
+/// The bits of byte k that a write changes.
+fn mask_at(rows: &[Field], k: usize) -> u8
+    requires { k < 65536 }
+    ensures { result ≡ mask_byte rows.now k }
+{
+    for row in rows {
+        if row.has_byte(k) {
+            return byte_of(row.mask, k - usize::from(row.place));
+        }
+    }
+    0
+}
+
+/// Byte k at reset.
+fn reset_at(rows: &[Field], k: usize) -> u8
+    requires { k < 65536 }
+    ensures { result ≡ reset_byte rows.now k }
+{
+    for row in rows {
+        if row.has_byte(k) {
+            return byte_of(row.reset, k - usize::from(row.place));
+        }
+    }
+    0
+}
+
+/// All bytes at reset.
+fn bytes_at_reset<const B: usize>(rows: &[Field]) -> [u8; B]
+    requires { B < 65536 }
+    ensures long { length result ≡ B }
+    ensures bytes { (k : ℕ) → k < B → slice_index result k ≡ reset_byte rows.now k }
+{
+    let mut bytes = [0; B];
+    for k in 0..B {
+        bytes[k] = reset_at(rows, k);
+    }
+    bytes
+}

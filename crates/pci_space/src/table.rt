@@ -1,0 +1,86 @@
+ghost use Rattle.std.specs.Prelude.{◌≡◌, ◌^◌, ◌<◌, Some, None, length, IfOk, IfErr};
+ghost use Rattle.pci_space.specs.Fields.{row_fault, table_fault, overlap};
+
+use std::marker::Model;
+
+use crate::field::{Field, FieldFault, fits};
+
+/// A table of N fields, for a space of a certain number of bytes, in which no fault was found.
+///
+/// A contract sees it as its rows and that number.
+#[derive(Clone, Copy, Debug)]
+pub struct FieldTable<const N: usize> {
+    rows: [Field; N],
+    bytes: u16,
+}
+
+impl<const N: usize> Model for FieldTable<N> {
+    ghost use Rattle.std.specs.Prelude.{◌≡◌, None};
+    ghost use Rattle.pci_space.specs.Fields.{Rows, table_fault};
+
+    ghost Value = { Rows };
+
+    ghost view = { λ t. record { rows = t.rows; size = t.bytes } };
+
+    ghost invariant = { λ t. table_fault t.rows t.bytes ≡ None };
+
+    ghost inverse = { λ t. record { rows = t.rows; bytes = t.size } };
+}
+
+impl<const N: usize> FieldTable<N> {
+    /// A table of these rows for a space of so many bytes.
+    ///
+    /// Rows are tested in order, and for each row its width, then its reset value and mask, then its end, then the
+    /// rows before it. The answer is the first fault.
+    pub fn of(rows: [Field; N], bytes: u16) -> Result<FieldTable<N>, FieldFault>
+        requires { N < 2 ^ 32 }
+        ensures sound { IfOk result (λ _. table_fault rows.entry bytes ≡ None) }
+        ensures made { IfOk result (λ table. table ≡ record { rows = rows.entry; size = bytes }) }
+        ensures fault { IfErr result (λ fault. table_fault rows.entry bytes ≡ Some fault) }
+    {
+        for (n, row) in rows.iter().enumerate() {
+            if let Some(fault) = fault_of_row(bytes, &rows[..n], n as u32, row) {
+                return Err(fault);
+            }
+        }
+        Ok(FieldTable { rows, bytes })
+    }
+
+    /// The rows of the table.
+    pub(crate) fn rows(&self) -> &[Field]
+        ensures rows { result.now ≡ self.now.rows }
+        ensures sound { table_fault self.now.rows self.now.size ≡ None }
+    {
+        &self.rows
+    }
+}
+
+/// What is wrong with row n, behind the earlier rows?
+fn fault_of_row(bytes: u16, earlier: &[Field], n: u32, row: &Field) -> Option<FieldFault>
+    requires { n ≡ length earlier.now }
+    ensures { result ≡ row_fault bytes earlier.now n row.now }
+{
+    if !row.has_good_width() {
+        return Some(FieldFault::BadWidth(n));
+    }
+    if !fits(row.reset, row.width) || !fits(row.mask, row.width) {
+        return Some(FieldFault::TooWide(n));
+    }
+    if u32::from(row.place) + u32::from(row.width) > u32::from(bytes) {
+        return Some(FieldFault::Outside(n));
+    }
+    first_overlap(n, earlier, row)
+}
+
+/// Which earlier row shares a byte with row n?
+fn first_overlap(n: u32, earlier: &[Field], row: &Field) -> Option<FieldFault>
+    requires { n ≡ length earlier.now }
+    ensures { result ≡ overlap row.now n 0 earlier.now }
+{
+    for (m, other) in earlier.iter().enumerate() {
+        if other.shares_with(row) {
+            return Some(FieldFault::Overlap(n, m as u32));
+        }
+    }
+    None
+}

@@ -1,3 +1,5 @@
 pub mod NumberLemmas
 pub mod Bits
 pub mod Ends
+pub mod Walks
+pub mod OneEnd

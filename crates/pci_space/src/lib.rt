@@ -4,13 +4,17 @@
 //! changes exactly the bits that the table opens, and that a walk ends with the one answer that its bytes have.
 #![tactic(auto)]
 
+mod capabilities;
 mod field;
+mod found;
 mod number;
 mod space;
 mod table;
 mod wiring;
 
+pub use capabilities::{one_walk, walk};
 pub use field::{Field, FieldFault};
+pub use found::{CapabilityFault, Found, MsixFound};
 pub use space::{BadAccess, Space};
 pub use table::FieldTable;
 pub use wiring::Wiring;

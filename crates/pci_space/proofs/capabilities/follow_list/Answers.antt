@@ -1,0 +1,46 @@
+use Rattle.std.proofs.Common.{[], ◌∷◌, sym, ◌∙◌, subst, rules, arith, None, true, false, Ok, length-set}
+use Rattle.std.proofs.lemmas.List.{get_or-replicate, length-replicate}
+use Rattle.pci_space.specs.Walk.{Comes, nothing_listed}
+use Rattle.pci_space.specs.Walk.Comes.{ends, is_low, loops, fails, goes_on}
+use Rattle.pci_space.proofs.Walks.{falls, marks_on}
+use Rattle.pci_space.proofs.capabilities.follow_list.Goals as goal
+
+pub loop-p-init : goal.loop-p-init
+loop-p-init c = record {
+  small = c.pointer-p.ensures.small;
+  marks = length-replicate 256 false;
+  behind = ([], λ q small. get_or-replicate 256 q false false small, λ last h. subst (λ p. Comes c.args.bytes.now [] p nothing_listed last) c.pointer-p.ensures.is h);
+}
+
+pub returns-then-p-lt64 : goal.returns-then-p-lt64
+returns-then-p-lt64 c = let b = c.loop-p.invariant.behind in b.2 _ (is_low b.0 c.loop-p.p c.loop-p.so_far c.loop-p-test.true (search rules))
+
+pub returns-then-met-p : goal.returns-then-met-p
+returns-then-met-p c = let b = c.loop-p.invariant.behind in
+    let met = sym (b.1 c.loop-p.p (omega arith)) ∙ c.if-met-p.true in
+    b.2 _ (loops b.0 c.loop-p.p c.loop-p.so_far (search rules) met)
+
+pub returns-in-Err : goal.returns-in-Err
+returns-in-Err c = let b = c.loop-p.invariant.behind in
+    let unseen = sym (b.1 c.loop-p.p (omega arith)) ∙ c.if-met-p.false in
+    b.2 _ (fails b.0 c.loop-p.p c.loop-p.so_far c.in-Err.fault (search rules) unseen (sym c.with_capability.ensures ∙ c.in-Err.is))
+
+pub loop-p-smaller : goal.loop-p-smaller
+loop-p-smaller c = falls c.loop-p.met c.loop-p.p (search rules) c.if-met-p.false
+
+pub loop-p-preserved : goal.loop-p-preserved
+loop-p-preserved c = let b = c.loop-p.invariant.behind in
+    let unseen = sym (b.1 c.loop-p.p (omega arith)) ∙ c.if-met-p.false in
+    record {
+      small = c.pointer-p-in-loop-p.ensures.small;
+      marks = length-set c.loop-p.met c.loop-p.p true ∙ c.loop-p.invariant.marks;
+      behind = (
+        c.loop-p.p ∷ b.0,
+        marks_on c.loop-p.met b.0 c.loop-p.p (search rules) b.1,
+        λ last h. b.2 last (goes_on b.0 c.loop-p.p c.loop-p.so_far c.in-Ok.next last (search rules) unseen (sym c.with_capability.ensures ∙ c.in-Ok.is)
+            (subst (λ p. Comes c.args.bytes.now (c.loop-p.p ∷ b.0) p c.in-Ok.next last) c.pointer-p-in-loop-p.ensures.is h)),
+      );
+    }
+
+pub returns : goal.returns
+returns c = let b = c.loop-p.invariant.behind in b.2 _ (subst (λ p. Comes c.args.bytes.now b.0 p c.loop-p.so_far (Ok c.loop-p.so_far)) (sym c.loop-p-test.false) (ends b.0 c.loop-p.so_far))

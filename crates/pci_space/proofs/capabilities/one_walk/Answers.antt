@@ -1,0 +1,5 @@
+use Rattle.pci_space.proofs.OneEnd.{one_answer}
+use Rattle.pci_space.proofs.capabilities.one_walk.Goals as goal
+
+pub returns : goal.returns
+returns c = one_answer

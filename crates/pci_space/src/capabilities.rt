@@ -1,0 +1,157 @@
+//! The walk over configuration bytes that somebody else wrote.
+ghost use Rattle.std.specs.Prelude.{◌≡◌, ℕ, ◌<◌, ◌≤◌, List, [], None};
+ghost use Rattle.pci_space.specs.Walk.{pointer_at, vendor_at, msix_at, listed_with, Comes, IsWalk, nothing_listed};
+
+use crate::found::{CapabilityFault, Found, Listed, MsixFound, Vendor};
+use crate::number::number_in;
+
+/// The ID of a vendor-specific capability (PCI 3.0).
+const VENDOR_ID: u8 = 0x09;
+/// The ID of the MSI-X capability (PCI 3.0).
+const MSIX_ID: u8 = 0x11;
+
+/// Finds the device in configuration bytes that can't be trusted.
+///
+/// The first vendor capability and the first MSI-X capability of the list count, and others are passed over. Each
+/// fault is the first in the order of the list, and a walk ends on every input, since a pointer that was met before
+/// is a fault.
+pub fn walk(bytes: &[u8; 256]) -> Result<Found, CapabilityFault>
+    ensures { IsWalk bytes.now result }
+{
+    let vendor = number_in(&bytes[..], 0x00, 2) as u16;
+    let device = number_in(&bytes[..], 0x02, 2) as u16;
+    if vendor != 0x110A || device != 0x4106 {
+        return Err(CapabilityFault::NotThisDevice { vendor, device });
+    }
+    if bytes[0x0B] != 0xFF {
+        return Err(CapabilityFault::BadClass(bytes[0x0B]));
+    }
+    // Status bit 4 says that there is a list.
+    if bytes[0x06] / 16 % 2 == 0 {
+        return Err(CapabilityFault::NoVendor);
+    }
+    match follow_list(bytes) {
+        Err(fault) => Err(fault),
+        Ok(listed) => match listed.vendor {
+            None => Err(CapabilityFault::NoVendor),
+            Some(vendor) => Ok(Found {
+                protocol: number_in(&bytes[..], 0x09, 2) as u16,
+                one_shot: vendor.one_shot,
+                table: vendor.table,
+                common: vendor.common,
+                out: vendor.out,
+                base: vendor.base,
+                msix: listed.msix,
+            }),
+        },
+    }
+}
+
+/// Follows the list of capabilities to its end.
+fn follow_list(bytes: &[u8; 256]) -> Result<Listed, CapabilityFault>
+    ensures { Comes bytes.now [] (pointer_at bytes.now 0x34) nothing_listed result }
+{
+    let mut met = [false; 256];
+    let mut so_far = Listed {
+        vendor: None,
+        msix: None,
+    };
+    let mut p = pointer(bytes, 0x34);
+    while p != 0 {
+        if p < 0x40 {
+            return Err(CapabilityFault::OutOfSpace(p as u16));
+        }
+        if met[p] {
+            return Err(CapabilityFault::Loop(p as u16));
+        }
+        met[p] = true;
+        so_far = match with_capability(bytes, p, so_far) {
+            Ok(next) => next,
+            Err(fault) => return Err(fault),
+        };
+        p = pointer(bytes, p + 1);
+    }
+    Ok(so_far)
+}
+
+/// The pointer at a place, with its low two bits cleared, as PCI asks.
+fn pointer(bytes: &[u8; 256], at: usize) -> usize
+    requires { at < 256 }
+    ensures is { result ≡ pointer_at bytes.now at }
+    ensures small { result ≤ 252 }
+{
+    let byte = usize::from(bytes[at]);
+    byte - byte % 4
+}
+
+/// What the list has said with the capability at p.
+fn with_capability(bytes: &[u8; 256], p: usize, so_far: Listed) -> Result<Listed, CapabilityFault>
+    requires { p ≤ 252 }
+    ensures { result ≡ listed_with bytes.now p so_far }
+{
+    if bytes[p] == VENDOR_ID && so_far.vendor.is_none() {
+        return match read_vendor(bytes, p) {
+            Ok(vendor) => Ok(Listed {
+                vendor: Some(vendor),
+                msix: so_far.msix,
+            }),
+            Err(fault) => Err(fault),
+        };
+    }
+    if bytes[p] == MSIX_ID && so_far.msix.is_none() {
+        return match read_msix(bytes, p) {
+            Ok(msix) => Ok(Listed {
+                vendor: so_far.vendor,
+                msix: Some(msix),
+            }),
+            Err(fault) => Err(fault),
+        };
+    }
+    Ok(so_far)
+}
+
+/// The vendor capability at p.
+fn read_vendor(bytes: &[u8; 256], p: usize) -> Result<Vendor, CapabilityFault>
+    requires { p ≤ 252 }
+    ensures { result ≡ vendor_at bytes.now p }
+{
+    let length = bytes[p + 2];
+    if length != 0x18 && length != 0x20 {
+        return Err(CapabilityFault::BadVendorLength(length));
+    }
+    if p + usize::from(length) > 256 {
+        return Err(CapabilityFault::OutOfSpace(p as u16));
+    }
+    let base = if length == 0x20 {
+        Some(number_in(&bytes[..], p + 24, 8))
+    } else {
+        None
+    };
+    Ok(Vendor {
+        one_shot: bytes[p + 3] % 2 == 1,
+        table: number_in(&bytes[..], p + 4, 4) as u32,
+        common: number_in(&bytes[..], p + 8, 8),
+        out: number_in(&bytes[..], p + 16, 8),
+        base,
+    })
+}
+
+/// The MSI-X capability at p.
+fn read_msix(bytes: &[u8; 256], p: usize) -> Result<MsixFound, CapabilityFault>
+    requires { p ≤ 252 }
+    ensures { result ≡ msix_at bytes.now p }
+{
+    if p + 12 > 256 {
+        return Err(CapabilityFault::OutOfSpace(p as u16));
+    }
+    Ok(MsixFound {
+        vectors: number_in(&bytes[..], p + 2, 2) as u32 % 2048 + 1,
+        table: number_in(&bytes[..], p + 4, 4) as u32,
+        pending: number_in(&bytes[..], p + 8, 4) as u32,
+    })
+}
+
+/// A walk over the same bytes has one answer. This function is that law.
+pub fn one_walk()
+    ensures { (bytes : List ℕ) (first second : _) → IsWalk bytes first → IsWalk bytes second → first ≡ second }
+{}

@@ -3,3 +3,4 @@ pub mod Bits
 pub mod Ends
 pub mod Walks
 pub mod OneEnd
+pub mod DeviceWalk

@@ -1,8 +1,8 @@
 -- Numbers and their bytes.
-use Rattle.std.proofs.Common.{◌≡◌, ℕ, zero, suc, ◌+◌, ◌*◌, ◌/◌, ◌%◌, ◌^◌, ◌<◌, ◌≤◌, List, drop, refl, sym, ◌∙◌, ap, ap₂, subst, arith}
+use Rattle.std.proofs.Common.{◌≡◌, ℕ, zero, suc, ◌+◌, ◌*◌, ◌/◌, ◌%◌, ◌-◌, ◌^◌, ◌<◌, ◌≤◌, List, drop, refl, sym, ◌∙◌, ap, ap₂, subst, arith}
 use Rattle.std.specs.Prelude.{slice_index}
 use Rattle.std.proofs.lemmas.List.{get_or-drop}
-use Rattle.std.proofs.Math.Nat.{div-eq_of_lt, pow-le-pow_right}
+use Rattle.std.proofs.Math.Nat.{div-eq_of_lt, div-div-eq-div-mul, div-one, mod-add-div, mul_comm, pow-le-pow_right, pow-suc}
 use Rattle.byteorder.specs.Endian.{little_from}
 use Rattle.byteorder.specs.Numbers.{little_from-lt}
 use Rattle.pci_space.specs.Numbers.{number_byte, number_from}
@@ -28,13 +28,34 @@ little_number-drop at n xs =
     let same : at + 0 ≡ at = omega arith in
     little_from-drop at 0 n xs ∙ ap (λ a. number_from (slice_index xs) a n) same
 
--- Equal bytes make equal numbers.
-pub number_from-same : (f g : ℕ → ℕ) (at n : ℕ) → ((k : ℕ) → f k ≡ g k) → number_from f at n ≡ number_from g at n
-number_from-same f g at zero same = refl
-number_from-same f g at (suc n) same = ap₂ (λ (b r : ℕ). b + 256 * r) (same at) (number_from-same f g (suc at) n same)
+-- Equal bytes within a space make equal numbers.
+pub number_from-within : (f g : ℕ → ℕ) (size at n : ℕ) → at + n ≤ size → ((k : ℕ) → k < size → f k ≡ g k) → number_from f at n ≡ number_from g at n
+number_from-within f g size at zero inside same = refl
+number_from-within f g size at (suc n) inside same =
+    ap₂ (λ (b r : ℕ). b + 256 * r) (same at (omega arith)) (number_from-within f g size (suc at) n (omega arith) same)
 
 -- A number in so many bytes fits them.
 pub number_from-fits : (xs : List ℕ) (at n : ℕ) → ((k : ℕ) → slice_index xs k < 256) → number_from (slice_index xs) at n < 256 ^ n
 number_from-fits xs at n small =
     subst (λ v. v < 256 ^ n) (little_number-drop at n xs)
         (little_from-lt 0 n (drop at xs) (λ k. subst (λ b. b < 256) (sym (get_or-drop at xs k 0)) (small (at + k))))
+
+-- What is left of a number above its byte j stands in the bytes from that one on.
+number_from-rest : (n at j count : ℕ) → n / 256 ^ j < 256 ^ count → number_from (λ k. number_byte n (k - at)) (at + j) count ≡ n / 256 ^ j
+number_from-rest n at j zero small = omega arith
+number_from-rest n at j (suc count) small =
+    let shift : n / 256 ^ suc j ≡ n / 256 ^ j / 256 = ap (λ (p : ℕ). n / p) (pow-suc 256 j) ∙ sym (div-div-eq-div-mul n (256 ^ j) 256) in
+    let grown : 256 ^ suc count ≡ 256 * 256 ^ count = pow-suc 256 count ∙ mul_comm (256 ^ count) 256 in
+    let less : n / 256 ^ suc j < 256 ^ count = omega arith in
+    let here : (at + j) - at ≡ j = omega arith in
+    let next : suc (at + j) ≡ at + suc j = omega arith in
+    ap₂ (λ (b r : ℕ). b + 256 * r) (ap (number_byte n) here)
+        (ap (λ a. number_from (λ k. number_byte n (k - at)) a count) next ∙ number_from-rest n at (suc j) count less ∙ shift)
+    ∙ mod-add-div (n / 256 ^ j) 256
+
+-- The bytes of a number that fits them make that number.
+pub number_from-bytes : (n at count : ℕ) → n < 256 ^ count → number_from (λ k. number_byte n (k - at)) at count ≡ n
+number_from-bytes n at count small =
+    let from : at + 0 ≡ at = omega arith in
+    ap (λ a. number_from (λ k. number_byte n (k - at)) a count) (sym from)
+    ∙ number_from-rest n at 0 count (subst (λ m. m < 256 ^ count) (sym (div-one n)) small) ∙ div-one n

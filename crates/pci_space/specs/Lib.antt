@@ -1,4 +1,5 @@
 pub mod Numbers
 pub mod Fields
 pub mod Wiring
+pub mod Device
 pub mod Walk

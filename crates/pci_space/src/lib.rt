@@ -5,6 +5,7 @@
 #![tactic(auto)]
 
 mod capabilities;
+mod device;
 mod field;
 mod found;
 mod number;
@@ -13,6 +14,7 @@ mod table;
 mod wiring;
 
 pub use capabilities::{one_walk, walk};
+pub use device::{ConfigSpace, device_space, walk_finds_the_device};
 pub use field::{Field, FieldFault};
 pub use found::{CapabilityFault, Found, MsixFound};
 pub use space::{BadAccess, Space};

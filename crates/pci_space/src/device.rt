@@ -1,0 +1,94 @@
+//! The configuration space of the device.
+ghost use Rattle.std.specs.Prelude.{◌≡◌, ℕ, ◌<◌, ◌^◌, List, Ok, None, slice_index};
+ghost use Rattle.section_map.specs.Geometry.{Shape, IsShape};
+ghost use Rattle.pci_space.specs.declared.found.Found.{Found};
+ghost use Rattle.pci_space.specs.declared.found.CapabilityFault.{CapabilityFault};
+ghost use Rattle.pci_space.specs.declared.wiring.Wiring.{Wiring};
+ghost use Rattle.pci_space.specs.Fields.{table_fault, reset_byte};
+ghost use Rattle.pci_space.specs.Wiring.{IsWiring, if_msix, last_vector};
+ghost use Rattle.pci_space.specs.Device.{device_rows, found_of};
+ghost use Rattle.pci_space.specs.Walk.{IsWalk};
+
+use section_map::Geometry;
+
+use crate::field::Field;
+use crate::space::Space;
+use crate::table::FieldTable;
+use crate::wiring::Wiring;
+
+/// The configuration space of the device: 25 fields in 256 bytes.
+pub type ConfigSpace = Space<25, 256>;
+
+/// Rows of a table: place, width, reset value and mask.
+macro_rules! rows {
+    ($($place:literal $width:literal $reset:expr, $mask:expr;)*) => {
+        [$(Field { place: $place, width: $width, reset: $reset, mask: $mask }),*]
+    };
+}
+
+/// The configuration space of a device at reset. It is the same for every peer of a world.
+pub fn device_space(geometry: &Geometry, protocol: u16, wiring: Wiring) -> ConfigSpace
+    requires { IsWiring wiring }
+    ensures rows { result.rows ≡ device_rows geometry.now protocol wiring }
+    ensures bytes { (k : ℕ) → slice_index result.bytes k ≡ reset_byte (device_rows geometry.now protocol wiring) k }
+{
+    let table = table_of(rows_of(geometry, protocol, wiring));
+    Space::new(table)
+}
+
+/// The fields of a device.
+fn rows_of(geometry: &Geometry, protocol: u16, wiring: Wiring) -> [Field; 25]
+    requires { IsWiring wiring }
+    ensures rows { result ≡ device_rows geometry.now protocol wiring }
+    ensures shape { IsShape geometry.now }
+{
+    rows! {
+        0x00 2 0x110A, 0;
+        0x02 2 0x4106, 0;
+        0x04 2 0, 0x040E;
+        0x06 2 0x0010, 0;
+        0x08 1 0, 0;
+        0x09 1 u64::from(protocol % 256), 0;
+        0x0A 1 u64::from(protocol / 256), 0;
+        0x0B 1 0xFF, 0;
+        0x10 4 0, 0xFFFF_F000;
+        0x14 4 0, wiring.choose(0xFFFF_F000, 0);
+        0x34 1 0x40, 0;
+        0x3D 1 wiring.choose(0, 1), 0;
+        0x40 1 0x09, 0;
+        0x41 1 wiring.choose(0x60, 0), 0;
+        0x42 1 0x20, 0;
+        0x43 1 0, 1;
+        0x44 4 4 * u64::from(geometry.table_words()), 0;
+        0x48 8 4 * u64::from(geometry.common_words()), 0;
+        0x50 8 4 * u64::from(geometry.out_words()), 0;
+        0x58 8 0x1_0000_0000, 0;
+        0x60 1 wiring.choose(0x11, 0), 0;
+        0x61 1 0, 0;
+        0x62 2 wiring.last_vector(), wiring.choose(0xC000, 0);
+        0x64 4 wiring.choose(0x0000_0001, 0), 0;
+        0x68 4 wiring.choose(0x0000_0801, 0), 0;
+    }
+}
+
+/// The table of rows that have no fault in 256 bytes.
+fn table_of<const N: usize>(rows: [Field; N]) -> FieldTable<N>
+    requires small { N < 2 ^ 32 }
+    requires sound { table_fault rows 256 ≡ None }
+    ensures { result ≡ record { rows = rows.entry; size = 256 } }
+{
+    match FieldTable::of(rows, 256) {
+        Ok(table) => table,
+        Err(_) => unreachable!(),
+    }
+}
+
+/// A walk over the bytes of a device's space, at reset, finds what the space was made of. This function is that law.
+pub fn walk_finds_the_device()
+    ensures {
+        (shape : Shape) (protocol : ℕ) (wiring : Wiring) (bytes : List ℕ) (answer : _) →
+        IsShape shape → protocol < 2 ^ 16 → IsWiring wiring →
+        ((k : ℕ) → k < 256 → slice_index bytes k ≡ reset_byte (device_rows shape protocol wiring) k) →
+        IsWalk bytes answer → answer ≡ Ok (found_of shape protocol wiring)
+    }
+{}

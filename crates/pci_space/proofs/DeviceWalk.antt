@@ -1,6 +1,6 @@
 -- A walk over the bytes of a device's space.
 use Rattle.std.proofs.Common.{◌≡◌, ℕ, ◌+◌, ◌-◌, ◌*◌, ◌/◌, ◌%◌, ◌^◌, ◌<◌, ◌≤◌, List, [], ◌∷◌, refl, sym, ◌∙◌, ap, ap₂, subst, arith, lit<, lit≤}
-use Rattle.std.specs.Prelude.{Bool, true, false, ◌&&◌, not, ◌==◌, nat_lt, if◌then◌else◌, slice_index, Option, Some, None, MatchOption, Result, Ok, Err}
+use Rattle.std.specs.Prelude.{false, ◌&&◌, not, ◌==◌, if◌then◌else◌, slice_index, Option, Some, None, MatchOption, Result, Ok, Err}
 use Rattle.pci_space.specs.declared.found.Found.{Found}
 use Rattle.std.proofs.Math.Nat.{mul-le-mul_right}
 use Rattle.section_map.specs.Geometry.{Shape, IsShape}
@@ -14,7 +14,7 @@ use Rattle.pci_space.specs.Numbers.{number_byte, number_from}
 use Rattle.pci_space.specs.Fields.{reset_byte}
 use Rattle.pci_space.specs.Wiring.{IsWiring}
 use Rattle.pci_space.specs.Device.{device_rows, found_of, msix_of}
-use Rattle.pci_space.specs.Walk.{number_at, pointer_at, vendor_at, msix_at, nothing_listed, listed_with, head_fault, found_in, Comes, IsWalk}
+use Rattle.pci_space.specs.Walk.{number_at, pointer_at, nothing_listed, listed_with, head_fault, found_in, Comes, IsWalk}
 use Rattle.pci_space.specs.Walk.Comes.{ends, goes_on}
 use Rattle.pci_space.proofs.NumberLemmas.{number_from-within, number_from-bytes}
 
@@ -36,12 +36,12 @@ module _ (shape : Shape) (protocol : ℕ) (wiring : Wiring) (bytes : List ℕ)
   head : head_fault bytes ≡ None
   head = ap₂ (λ (a b : ℕ). test a b (slice_index bytes 0x0B) (slice_index bytes 0x06)) (number 0 2 (lit≤ tt)) (number 2 2 (lit≤ tt))
       ∙ ap₂ (λ (a b : ℕ). test 0x110A 0x4106 a b) (same 0x0B (lit< tt)) (same 0x06 (lit< tt)) where
-    test : ℕ → ℕ → ℕ → ℕ → Option CapabilityFault
-    test a b c s =
-        if not (a == 0x110A && b == 0x4106) then Some (NotThisDevice a b)
-        else if not (c == 0xFF) then Some (BadClass c)
-        else if s / 16 % 2 == 0 then Some NoVendor
-        else None
+        test : ℕ → ℕ → ℕ → ℕ → Option CapabilityFault
+        test a b c s =
+            if not (a == 0x110A && b == 0x4106) then Some (NotThisDevice a b)
+            else if not (c == 0xFF) then Some (BadClass c)
+            else if s / 16 % 2 == 0 then Some NoVendor
+            else None
 
   pointer : (at : ℕ) → at < 256 → pointer_at bytes at ≡ reset_byte (device_rows shape protocol wiring) at - reset_byte (device_rows shape protocol wiring) at % 4
   pointer at inside = ap (λ (b : ℕ). b - b % 4) (same at inside)
@@ -94,20 +94,20 @@ comes : (shape : Shape) (protocol : ℕ) (wiring : Wiring) (bytes : List ℕ) �
 comes shape protocol (Msix vectors) bytes shaped wired same =
     let last : Result Listed CapabilityFault = Ok (record { vendor = Some (vendor_of shape); msix = msix_of (Msix vectors) }) in
     subst (λ p. Comes bytes [] p nothing_listed last) (sym (pointer shape protocol (Msix vectors) bytes same 0x34 (lit< tt)))
-        (goes_on [] 0x40 nothing_listed _ last (lit≤ tt) refl (vendor shape protocol (Msix vectors) bytes same shaped)
-            (subst (λ p. Comes bytes (0x40 ∷ []) p (record { vendor = Some (vendor_of shape); msix = None }) last)
-                (sym (pointer shape protocol (Msix vectors) bytes same 0x41 (lit< tt)))
-                (goes_on (0x40 ∷ []) 0x60 _ _ last (lit≤ tt) refl (msix shape protocol vectors bytes wired same)
-                    (subst (λ p. Comes bytes (0x60 ∷ 0x40 ∷ []) p (record { vendor = Some (vendor_of shape); msix = msix_of (Msix vectors) }) last)
-                        (sym (pointer shape protocol (Msix vectors) bytes same 0x61 (lit< tt)))
-                        (ends (0x60 ∷ 0x40 ∷ []) (record { vendor = Some (vendor_of shape); msix = msix_of (Msix vectors) }))))))
+    (goes_on [] 0x40 nothing_listed _ last (lit≤ tt) refl (vendor shape protocol (Msix vectors) bytes same shaped)
+    (subst (λ p. Comes bytes (0x40 ∷ []) p (record { vendor = Some (vendor_of shape); msix = None }) last)
+    (sym (pointer shape protocol (Msix vectors) bytes same 0x41 (lit< tt)))
+    (goes_on (0x40 ∷ []) 0x60 _ _ last (lit≤ tt) refl (msix shape protocol vectors bytes wired same)
+    (subst (λ p. Comes bytes (0x60 ∷ 0x40 ∷ []) p (record { vendor = Some (vendor_of shape); msix = msix_of (Msix vectors) }) last)
+    (sym (pointer shape protocol (Msix vectors) bytes same 0x61 (lit< tt)))
+    (ends (0x60 ∷ 0x40 ∷ []) (record { vendor = Some (vendor_of shape); msix = msix_of (Msix vectors) }))))))
 comes shape protocol Intx bytes shaped wired same =
     let last : Result Listed CapabilityFault = Ok (record { vendor = Some (vendor_of shape); msix = None }) in
     subst (λ p. Comes bytes [] p nothing_listed last) (sym (pointer shape protocol Intx bytes same 0x34 (lit< tt)))
-        (goes_on [] 0x40 nothing_listed _ last (lit≤ tt) refl (vendor shape protocol Intx bytes same shaped)
-            (subst (λ p. Comes bytes (0x40 ∷ []) p (record { vendor = Some (vendor_of shape); msix = None }) last)
-                (sym (pointer shape protocol Intx bytes same 0x41 (lit< tt)))
-                (ends (0x40 ∷ []) (record { vendor = Some (vendor_of shape); msix = None }))))
+    (goes_on [] 0x40 nothing_listed _ last (lit≤ tt) refl (vendor shape protocol Intx bytes same shaped)
+    (subst (λ p. Comes bytes (0x40 ∷ []) p (record { vendor = Some (vendor_of shape); msix = None }) last)
+    (sym (pointer shape protocol Intx bytes same 0x41 (lit< tt)))
+    (ends (0x40 ∷ []) (record { vendor = Some (vendor_of shape); msix = None }))))
 
 -- The walk finds what the space was made of.
 pub finds_the_device : (shape : Shape) (protocol : ℕ) (wiring : Wiring) (bytes : List ℕ) → IsShape shape → protocol < 2 ^ 16 → IsWiring wiring →
@@ -117,5 +117,5 @@ finds_the_device shape protocol wiring bytes shaped small wired same =
     let answer : Result Found CapabilityFault = Ok (found_of shape protocol wiring) in
     let found : answer ≡ found_in bytes last = rw (named shape protocol wiring bytes same small) refl in
     subst (λ fault. MatchOption fault
-        ((l : Result Listed CapabilityFault) × Comes bytes [] (pointer_at bytes 0x34) nothing_listed l × (answer ≡ found_in bytes l))
-        (λ f. answer ≡ Err f)) (sym (head shape protocol wiring bytes same)) (last, comes shape protocol wiring bytes shaped wired same, found)
+    ((l : Result Listed CapabilityFault) × Comes bytes [] (pointer_at bytes 0x34) nothing_listed l × (answer ≡ found_in bytes l))
+    (λ f. answer ≡ Err f)) (sym (head shape protocol wiring bytes same)) (last, comes shape protocol wiring bytes shaped wired same, found)

@@ -20,7 +20,7 @@ little_from-drop at i zero xs = refl
 little_from-drop at i (suc n) xs =
     let next : at + suc i ≡ suc (at + i) = omega arith in
     ap₂ (λ (b r : ℕ). b + 256 * r) (get_or-drop at xs i 0)
-        (little_from-drop at (suc i) n xs ∙ ap (λ a. number_from (slice_index xs) a n) next)
+    (little_from-drop at (suc i) n xs ∙ ap (λ a. number_from (slice_index xs) a n) next)
 
 -- The same number, from the place itself.
 pub little_number-drop : (at n : ℕ) (xs : List ℕ) → little_from 0 n (drop at xs) ≡ number_from (slice_index xs) at n
@@ -38,7 +38,7 @@ number_from-within f g size at (suc n) inside same =
 pub number_from-fits : (xs : List ℕ) (at n : ℕ) → ((k : ℕ) → slice_index xs k < 256) → number_from (slice_index xs) at n < 256 ^ n
 number_from-fits xs at n small =
     subst (λ v. v < 256 ^ n) (little_number-drop at n xs)
-        (little_from-lt 0 n (drop at xs) (λ k. subst (λ b. b < 256) (sym (get_or-drop at xs k 0)) (small (at + k))))
+    (little_from-lt 0 n (drop at xs) (λ k. subst (λ b. b < 256) (sym (get_or-drop at xs k 0)) (small (at + k))))
 
 -- What is left of a number above its byte j stands in the bytes from that one on.
 number_from-rest : (n at j count : ℕ) → n / 256 ^ j < 256 ^ count → number_from (λ k. number_byte n (k - at)) (at + j) count ≡ n / 256 ^ j
@@ -50,7 +50,7 @@ number_from-rest n at j (suc count) small =
     let here : (at + j) - at ≡ j = omega arith in
     let next : suc (at + j) ≡ at + suc j = omega arith in
     ap₂ (λ (b r : ℕ). b + 256 * r) (ap (number_byte n) here)
-        (ap (λ a. number_from (λ k. number_byte n (k - at)) a count) next ∙ number_from-rest n at (suc j) count less ∙ shift)
+    (ap (λ a. number_from (λ k. number_byte n (k - at)) a count) next ∙ number_from-rest n at (suc j) count less ∙ shift)
     ∙ mod-add-div (n / 256 ^ j) 256
 
 -- The bytes of a number that fits them make that number.

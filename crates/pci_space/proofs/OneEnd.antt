@@ -1,5 +1,5 @@
 -- A list of capabilities comes to one end.
-use Rattle.std.proofs.Common.{◌≡◌, ◌≢◌, ℕ, ◌+◌, ◌<◌, ◌≤◌, List, ◌∷◌, refl, sym, ◌∙◌, ap, subst, arith, [], true, false, ◌==◌}
+use Rattle.std.proofs.Common.{◌≡◌, ◌≢◌, ℕ, ◌+◌, ◌<◌, ◌≤◌, List, ◌∷◌, refl, sym, ◌∙◌, ap, subst, arith, [], true, false}
 use Rattle.std.specs.Prelude.{Result, Ok, Err, Option, Some, None, MatchOption}
 use Rattle.pci_space.specs.declared.found.Found.{Found}
 use Rattle.pci_space.specs.Walk.{is_met}
@@ -62,6 +62,7 @@ one_answer bytes first second one other = by_fault (head_fault bytes) one other 
   Answers fault answer = MatchOption fault
       ((last : Result Listed CapabilityFault) × Comes bytes [] (pointer_at bytes 0x34) nothing_listed last × (answer ≡ found_in bytes last))
       (λ f. answer ≡ Err f)
+
   by_fault : (fault : Option CapabilityFault) → Answers fault first → Answers fault second → first ≡ second
   by_fault None (last, comes, is) (last', comes', is') = is ∙ ap (found_in bytes) (one_end bytes [] (pointer_at bytes 0x34) nothing_listed last last' comes comes') ∙ sym is'
   by_fault (Some f) is is' = is ∙ sym is'

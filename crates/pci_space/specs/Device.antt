@@ -16,31 +16,31 @@ row place width reset mask = record { place = place; width = width; reset = rese
 -- Address Registers and Command bits 2 and 3 side by side are profile.
 abbrev pub device_rows : Shape → ℕ → Wiring → List Field
 device_rows shape protocol wiring =
-    row 0x00 2 0x110A 0                                              -- Vendor ID
-    ∷ row 0x02 2 0x4106 0                                            -- Device ID
-    ∷ row 0x04 2 0 0x040E                                            -- Command: bits 1, 2, 3 and 10
-    ∷ row 0x06 2 0x0010 0                                            -- Status: there is a list of capabilities
-    ∷ row 0x08 1 0 0                                                 -- Revision
-    ∷ row 0x09 1 (protocol % 256) 0                                  -- Interface
-    ∷ row 0x0A 1 (protocol / 256) 0                                  -- Sub-Class
-    ∷ row 0x0B 1 0xFF 0                                              -- Base Class
-    ∷ row 0x10 4 0 0xFFFF_F000                                       -- BAR 0: the register page, 4,096 bytes
-    ∷ row 0x14 4 0 (if_msix wiring 0xFFFF_F000 0)                    -- BAR 1: the MSI-X region, 4,096 bytes
-    ∷ row 0x34 1 0x40 0                                              -- Capability Pointer
-    ∷ row 0x3D 1 (if_msix wiring 0 1) 0                              -- Interrupt Pin
-    ∷ row 0x40 1 0x09 0                                              -- the vendor capability
-    ∷ row 0x41 1 (if_msix wiring 0x60 0) 0                           -- the next capability
-    ∷ row 0x42 1 0x20 0                                              -- its length
-    ∷ row 0x43 1 0 1                                                 -- Privileged Control: bit 0 is one-shot mode
-    ∷ row 0x44 4 (4 * shape.table) 0                                 -- the size of the State Table
-    ∷ row 0x48 8 (4 * shape.common) 0                                -- the size of the Read/Write section
-    ∷ row 0x50 8 (4 * shape.out) 0                                   -- the size of an output section
-    ∷ row 0x58 8 0x1_0000_0000 0                                     -- Base Address
-    ∷ row 0x60 1 (if_msix wiring 0x11 0) 0                           -- the MSI-X capability
-    ∷ row 0x61 1 0 0                                                 -- the next capability: none
-    ∷ row 0x62 2 (last_vector wiring) (if_msix wiring 0xC000 0)      -- Message Control: bit 14 function mask, bit 15 enable
-    ∷ row 0x64 4 (if_msix wiring 0x0000_0001 0) 0                    -- the table of vectors, at offset 0 of BAR 1
-    ∷ row 0x68 4 (if_msix wiring 0x0000_0801 0) 0                    -- the pending bits, at offset 800h of BAR 1
+    row 0x00 2 0x110A 0  -- Vendor ID
+    ∷ row 0x02 2 0x4106 0  -- Device ID
+    ∷ row 0x04 2 0 0x040E  -- Command: bits 1, 2, 3 and 10
+    ∷ row 0x06 2 0x0010 0  -- Status: there is a list of capabilities
+    ∷ row 0x08 1 0 0  -- Revision
+    ∷ row 0x09 1 (protocol % 256) 0  -- Interface
+    ∷ row 0x0A 1 (protocol / 256) 0  -- Sub-Class
+    ∷ row 0x0B 1 0xFF 0  -- Base Class
+    ∷ row 0x10 4 0 0xFFFF_F000  -- BAR 0: the register page, 4,096 bytes
+    ∷ row 0x14 4 0 (if_msix wiring 0xFFFF_F000 0)  -- BAR 1: the MSI-X region, 4,096 bytes
+    ∷ row 0x34 1 0x40 0  -- Capability Pointer
+    ∷ row 0x3D 1 (if_msix wiring 0 1) 0  -- Interrupt Pin
+    ∷ row 0x40 1 0x09 0  -- the vendor capability
+    ∷ row 0x41 1 (if_msix wiring 0x60 0) 0  -- the next capability
+    ∷ row 0x42 1 0x20 0  -- its length
+    ∷ row 0x43 1 0 1  -- Privileged Control: bit 0 is one-shot mode
+    ∷ row 0x44 4 (4 * shape.table) 0  -- the size of the State Table
+    ∷ row 0x48 8 (4 * shape.common) 0  -- the size of the Read/Write section
+    ∷ row 0x50 8 (4 * shape.out) 0  -- the size of an output section
+    ∷ row 0x58 8 0x1_0000_0000 0  -- Base Address
+    ∷ row 0x60 1 (if_msix wiring 0x11 0) 0  -- the MSI-X capability
+    ∷ row 0x61 1 0 0  -- the next capability: none
+    ∷ row 0x62 2 (last_vector wiring) (if_msix wiring 0xC000 0)  -- Message Control: bit 14 function mask, bit 15 enable
+    ∷ row 0x64 4 (if_msix wiring 0x0000_0001 0) 0  -- the table of vectors, at offset 0 of BAR 1
+    ∷ row 0x68 4 (if_msix wiring 0x0000_0801 0) 0  -- the pending bits, at offset 800h of BAR 1
     ∷ []
 
 -- What a walk finds of a device's MSI-X.

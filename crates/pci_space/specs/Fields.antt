@@ -1,5 +1,5 @@
 -- Tables of fields, and spaces that are filled by one.
-use Rattle.std.specs.Prelude.{ℕ, ◌≡◌, ◌+◌, ◌-◌, ◌%◌, ◌^◌, ◌<◌, Bool, ◌&&◌, ◌||◌, not, ◌==◌, nat_lt, nat_le, if◌then◌else◌, List, [], ◌∷◌, ◌++◌, slice_index, bit_and, bit_or, Option, Some, None}
+use Rattle.std.specs.Prelude.{ℕ, ◌≡◌, ◌+◌, ◌-◌, ◌%◌, ◌^◌, Bool, ◌&&◌, ◌||◌, not, ◌==◌, nat_lt, nat_le, if◌then◌else◌, List, [], ◌∷◌, ◌++◌, slice_index, bit_and, bit_or, Option, Some, None}
 use Rattle.pci_space.specs.declared.field.Field.{Field}
 use Rattle.pci_space.specs.declared.field.FieldFault.{FieldFault}
 use Rattle.pci_space.specs.declared.field.FieldFault.TheVariants.{BadWidth, TooWide, Outside, Overlap}

@@ -9,12 +9,11 @@ ghost use Rattle.pci_space.specs.Wiring.{IsWiring, if_msix, last_vector};
 ghost use Rattle.pci_space.specs.Device.{device_rows, found_of};
 ghost use Rattle.pci_space.specs.Walk.{IsWalk};
 
-use section_map::Geometry;
-
 use crate::field::Field;
 use crate::space::Space;
 use crate::table::FieldTable;
 use crate::wiring::Wiring;
+use section_map::Geometry;
 
 /// The configuration space of the device: 25 fields in 256 bytes.
 pub type ConfigSpace = Space<25, 256>;
@@ -85,10 +84,8 @@ fn table_of<const N: usize>(rows: [Field; N]) -> FieldTable<N>
 
 /// A walk over the bytes of a device's space, at reset, finds what the space was made of. This function is that law.
 pub fn walk_finds_the_device()
-    ensures {
-        (shape : Shape) (protocol : ℕ) (wiring : Wiring) (bytes : List ℕ) (answer : _) →
+    ensures { (shape : Shape) (protocol : ℕ) (wiring : Wiring) (bytes : List ℕ) (answer : _) →
         IsShape shape → protocol < 2 ^ 16 → IsWiring wiring →
         ((k : ℕ) → k < 256 → slice_index bytes k ≡ reset_byte (device_rows shape protocol wiring) k) →
-        IsWalk bytes answer → answer ≡ Ok (found_of shape protocol wiring)
-    }
+        IsWalk bytes answer → answer ≡ Ok (found_of shape protocol wiring) }
 {}

@@ -20,3 +20,6 @@ pub use found::{CapabilityFault, Found, MsixFound};
 pub use space::{BadAccess, Space};
 pub use table::FieldTable;
 pub use wiring::Wiring;
+
+#[cfg(test)]
+mod tests;

@@ -2,13 +2,11 @@ ghost use Rattle.std.specs.Prelude.{◌≡◌, ℕ, ◌+◌, ◌<◌, ◌≤◌,
 ghost use Rattle.pci_space.specs.Numbers.{number_from};
 ghost use Rattle.pci_space.specs.Fields.{reset_byte, mask_byte, merged, is_access, byte_behind, KeepsUnmasked};
 
-use std::marker::Model;
-
-use thiserror::Error;
-
 use crate::field::Field;
 use crate::number::{byte_of, number_in};
 use crate::table::FieldTable;
+use std::marker::Model;
+use thiserror::Error;
 
 /// An access that a space refuses: its width isn't 1, 2 or 4, its offset isn't a multiple of the width, or it
 /// ends past the space.

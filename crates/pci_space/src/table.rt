@@ -1,9 +1,8 @@
 ghost use Rattle.std.specs.Prelude.{◌≡◌, ◌^◌, ◌<◌, Some, None, length, IfOk, IfErr};
 ghost use Rattle.pci_space.specs.Fields.{row_fault, table_fault, overlap};
 
-use std::marker::Model;
-
 use crate::field::{Field, FieldFault, fits};
+use std::marker::Model;
 
 /// A table of N fields, for a space of a certain number of bytes, in which no fault was found.
 ///

@@ -1,4 +1,4 @@
-use Rattle.std.proofs.Common.{[], ◌∷◌, sym, ◌∙◌, subst, rules, arith, None, true, false, Ok, length-set}
+use Rattle.std.proofs.Common.{[], ◌∷◌, sym, ◌∙◌, subst, rules, arith, true, false, Ok, length-set}
 use Rattle.std.proofs.lemmas.List.{get_or-replicate, length-replicate}
 use Rattle.pci_space.specs.Walk.{Comes, nothing_listed}
 use Rattle.pci_space.specs.Walk.Comes.{ends, is_low, loops, fails, goes_on}

@@ -1,4 +1,4 @@
-use Rattle.std.proofs.Common.{◌≡◌, ℕ, ◌≤◌, List, [], None, length}
+use Rattle.std.proofs.Common.{◌≡◌, ℕ, ◌≤◌, List, [], length}
 use Rattle.std.specs.Prelude.{Result}
 use Rattle.std.specs.List.{sum_by}
 use Rattle.pci_space.specs.declared.found.Listed.{Listed}

@@ -1,4 +1,3 @@
-use Rattle.std.proofs.Common.{◌∙◌}
 use Rattle.pci_space.proofs.OneEnd.{one_answer}
 use Rattle.pci_space.proofs.DeviceWalk.{finds_the_device}
 use Rattle.pci_space.proofs.device.walk_finds_the_device.Goals as goal

@@ -1,4 +1,4 @@
-use Rattle.std.proofs.Common.{◌≡◌, ◌<◌, ◌^◌, ◌-◌, ◌∙◌, subst, sym, drop, length, arith}
+use Rattle.std.proofs.Common.{◌<◌, ◌^◌, ◌-◌, ◌∙◌, subst, sym, drop, length, arith}
 use Rattle.byteorder.specs.Numbers.{little_from-take}
 use Rattle.pci_space.proofs.NumberLemmas.{little_number-drop, number_from-fits}
 use Rattle.pci_space.proofs.number.number_in.Goals as goal

@@ -1,4 +1,4 @@
-use Rattle.std.proofs.Common.{◌≡◌, ℕ, ◌∙◌, ap, sym, subst, None}
+use Rattle.std.proofs.Common.{◌≡◌, ℕ, ◌∙◌, ap, subst, None}
 use Rattle.std.specs.Prelude.{slice_index}
 use Rattle.pci_space.specs.Fields.{reset_byte, table_fault}
 use Rattle.pci_space.proofs.Bits.{kept_at_reset}
@@ -8,9 +8,9 @@ use Rattle.pci_space.proofs.space.Space.reset.Goals as goal
 at_reset : (g : _) (c : goal.After-self-1 g) → (k : ℕ) → slice_index c.bytes_at_reset-self-inside.result k ≡ reset_byte c.self.inside.table.rows k
 at_reset g c =
     reset_everywhere c.self.inside.table.rows g.row.B c.bytes_at_reset-self-inside.result
-        (subst (λ n. table_fault c.self.inside.table.rows n ≡ None) c.self.invariant.0 c.rows.ensures.sound)
-        c.bytes_at_reset-self-inside.ensures.long
-        (λ k inside. c.bytes_at_reset-self-inside.ensures.bytes k inside ∙ ap (λ rows. reset_byte rows k) c.rows.ensures.rows)
+    (subst (λ n. table_fault c.self.inside.table.rows n ≡ None) c.self.invariant.0 c.rows.ensures.sound)
+    c.bytes_at_reset-self-inside.ensures.long
+    (λ k inside. c.bytes_at_reset-self-inside.ensures.bytes k inside ∙ ap (λ rows. reset_byte rows k) c.rows.ensures.rows)
 
 pub returns-clause-bytes : goal.returns-clause-bytes
 returns-clause-bytes g c k = at_reset g c k ∙ ap (λ s. reset_byte s.rows k) c.self.view_is

@@ -1,56 +1,50 @@
 -- A call as a tree and as a list.
-use Rattle.std.proofs.Common.{◌≡◌, ℕ, zero, suc, ◌+◌, List, [], ◌∷◌, ◌++◌, refl, sym, subst}
+use Rattle.std.proofs.Common.{◌≡◌, List, [], ◌∷◌, refl, sym, subst, length}
+use Rattle.link_handshake.specs.declared.Phase.{Phase}
+use Rattle.link_handshake.specs.declared.Phase.TheVariants.{Reset, Init, Ready, Run}
 use Rattle.link_handshake.specs.Standing.{move_of}
-use Rattle.link_handshake.specs.declared.Move.{Move}
-use Rattle.link_handshake.specs.declared.Move.TheVariants.{Stay, Set, ClearThenSet}
-use Rattle.split_ring.specs.declared.steps.Access.TheVariants.{Read}
-use Rattle.link_laws.specs.Steps.{Step, step_of}
-use Rattle.link_laws.specs.Trees.{Makes}
+use Rattle.std.specs.Prelude.{if◌then◌else◌}
+use Rattle.link_laws.specs.Steps.{Step}
+use Rattle.link_laws.specs.Trees.{CallTree, Makes}
 use Rattle.link_laws.specs.Ends.{End}
-use Rattle.link_laws.specs.Calls.{Who, Call, Tick, Stop, clear, set_state, tick_marks, after_tick, tree_of, clear_steps, state_step, tick_steps, IsCall, CallsAreLists}
+use Rattle.link_laws.specs.Ticks.{Who, set_state, tick_steps}
+use Rattle.link_laws.specs.Offers.{offer, IsOffer}
+use Rattle.link_laws.specs.Polls.{poll, IsPoll}
+use Rattle.link_laws.specs.Calls.{Call, Tick, Stop, Offer, Poll, in_run, job_of, down, down_step, tree_of, RunsOrIsDown, IsCall, CallsAreLists}
+use Rattle.link_laws.proofs.TickLists.{set_listed, tick_listed, ticks_by, tick_made}
+use Rattle.link_laws.proofs.OfferLists.{offer_listed, offer_made}
+use Rattle.link_laws.proofs.PollLists.{poll_listed, poll_made}
 
-set_listed : (state : ℕ) (steps : List Step) → Makes (set_state state) steps → steps ≡ state_step state ∷ []
-set_listed state [] makes = absurd makes
-set_listed state (step ∷ steps) makes = let first = makes.0 in let none = makes.1 in cc
+down_listed : (steps : List Step) → Makes down steps → steps ≡ down_step ∷ []
+down_listed [] makes = absurd makes
+down_listed (step ∷ steps) makes = let first = makes.0 in let none = makes.1 in cc
 
-clear_listed : (at more state : ℕ) (steps : List Step) → Makes (clear at more (set_state state)) steps → steps ≡ clear_steps at more ++ state_step state ∷ []
-clear_listed at zero state steps makes = set_listed state steps makes
-clear_listed at (suc more) state [] makes = absurd makes
-clear_listed at (suc more) state (step ∷ steps) makes = let first = makes.0 in let others = clear_listed (at + 1) more state steps makes.1 in cc
+-- by the phase: what runs in RUN, or the one step that is down
+by_phase : (phase : Phase) (tree : CallTree) (Runs : Type 0) (steps : List Step) → (Makes tree steps → Runs) → Makes (if in_run phase then tree else down) steps → RunsOrIsDown phase Runs steps
+by_phase Reset tree Runs steps listed makes = down_listed steps makes
+by_phase Init tree Runs steps listed makes = down_listed steps makes
+by_phase Ready tree Runs steps listed makes = down_listed steps makes
+by_phase Run tree Runs steps listed makes = listed makes
 
-clear_made : (at more state : ℕ) → Makes (clear at more (set_state state)) (clear_steps at more ++ state_step state ∷ [])
-clear_made at zero state = (refl, refl)
-clear_made at (suc more) state = (refl, clear_made (at + 1) more state)
-
-tick_listed : (who : Who) (value : ℕ) (move : Move) (step : Step) (steps : List Step) → step ≡ step_of (Read who.other) value (tick_marks value move) → Makes (after_tick who move) steps →
-    step ∷ steps ≡ tick_steps who value move
-tick_listed who value Stay step steps is makes = let none = makes in cc
-tick_listed who value (Set state) step steps is makes = let last = set_listed state steps makes in cc
-tick_listed who value (ClearThenSet state) step steps is makes = let others = clear_listed who.own who.words state steps makes in cc
-
--- these steps are a Tick that read this value and makes this move
-abbrev TicksBy : Who → ℕ → Move → List Step → Type 0
-TicksBy who value move [] = ⊥
-TicksBy who value move (step ∷ steps) = (step ≡ step_of (Read who.other) value (tick_marks value move)) × Makes (after_tick who move) steps
-
-ticks_by : (who : Who) (value : ℕ) (move : Move) → TicksBy who value move (tick_steps who value move)
-ticks_by who value Stay = (refl, refl)
-ticks_by who value (Set state) = (refl, (refl, refl))
-ticks_by who value (ClearThenSet state) = (refl, clear_made who.own who.words state)
-
-tick_made : (who : Who) (end : End) (value : ℕ) (steps : List Step) → TicksBy who value (move_of end.handshake value) steps → Makes (tree_of who end Tick) steps
-tick_made who end value [] ticks = absurd ticks
-tick_made who end value (step ∷ steps) ticks = (value, ticks.0, ticks.1)
+from_phase : (phase : Phase) (tree : CallTree) (Runs : Type 0) (steps : List Step) → (Runs → Makes tree steps) → RunsOrIsDown phase Runs steps → Makes (if in_run phase then tree else down) steps
+from_phase Reset tree Runs steps made is = subst (λ (list : List Step). Makes down list) (sym is) (refl, refl)
+from_phase Init tree Runs steps made is = subst (λ (list : List Step). Makes down list) (sym is) (refl, refl)
+from_phase Ready tree Runs steps made is = subst (λ (list : List Step). Makes down list) (sym is) (refl, refl)
+from_phase Run tree Runs steps made is = made is
 
 listed_lem : (who : Who) (end : End) (call : Call) (steps : List Step) → Makes (tree_of who end call) steps → IsCall who end call steps
 listed_lem who end Tick [] makes = absurd makes
 listed_lem who end Tick (step ∷ steps) makes = (makes.0, tick_listed who makes.0 (move_of end.handshake makes.0) step steps makes.1 makes.2)
 listed_lem who end Stop steps makes = set_listed 0 steps makes
+listed_lem who end (Offer frame) steps makes = by_phase end.handshake.phase (offer who (job_of who end frame) end.freed) (IsOffer who (job_of who end frame) end.freed steps) steps (offer_listed who (job_of who end frame) end.freed steps) makes
+listed_lem who end Poll steps makes = by_phase end.handshake.phase (poll who (length end.delivered)) (IsPoll who (length end.delivered) steps) steps (poll_listed who (length end.delivered) steps) makes
 
 made_lem : (who : Who) (end : End) (call : Call) (steps : List Step) → IsCall who end call steps → Makes (tree_of who end call) steps
 made_lem who end Tick steps is =
     subst (λ (list : List Step). Makes (tree_of who end Tick) list) (sym is.1) (tick_made who end is.0 (tick_steps who is.0 (move_of end.handshake is.0)) (ticks_by who is.0 (move_of end.handshake is.0)))
 made_lem who end Stop steps is = subst (λ (list : List Step). Makes (set_state 0) list) (sym is) (refl, refl)
+made_lem who end (Offer frame) steps is = from_phase end.handshake.phase (offer who (job_of who end frame) end.freed) (IsOffer who (job_of who end frame) end.freed steps) steps (offer_made who (job_of who end frame) end.freed steps) is
+made_lem who end Poll steps is = from_phase end.handshake.phase (poll who (length end.delivered)) (IsPoll who (length end.delivered) steps) steps (poll_made who (length end.delivered) steps) is
 
 pub lists : CallsAreLists
 lists = record { listed = listed_lem; made = made_lem }

@@ -1,75 +1,67 @@
 -- The call grammar: which steps a call of a link peer takes (profile), as a tree and as a table of lists.
--- Offer and Poll will join `Call`, `tree_of` and `IsCall`; their trees are written like these, each part with what comes after it as its last argument.
-use Rattle.std.specs.Prelude.{ℕ, zero, suc, ◌≡◌, ◌+◌, List, [], ◌∷◌, ◌++◌}
-use Rattle.link_handshake.specs.declared.Move.{Move}
-use Rattle.link_handshake.specs.declared.Move.TheVariants.{Stay, Set, ClearThenSet}
+use Rattle.std.specs.Prelude.{ℕ, ◌≡◌, ◌+◌, Bool, true, false, if◌then◌else◌, List, [], ◌∷◌, length}
+use Rattle.link_handshake.specs.declared.Phase.{Phase}
+use Rattle.link_handshake.specs.declared.Phase.TheVariants.{Reset, Init, Ready, Run}
+use Rattle.split_ring.specs.declared.steps.Access.TheVariants.{Nothing}
+use Rattle.split_ring.specs.Layout.{word_place, Entry}
+use Rattle.link_laws.specs.Steps.{Down, Step, step_of}
+use Rattle.link_laws.specs.Trees.{CallTree, Ended, Does, Makes}
 use Rattle.link_handshake.specs.Standing.{move_of}
-use Rattle.split_ring.specs.declared.steps.Access.TheVariants.{Read, Write, State}
-use Rattle.split_ring.specs.Layout.{Sizes}
-use Rattle.link_laws.specs.Steps.{Mark, Saw, Over, Step, step_of}
-use Rattle.link_laws.specs.Trees.{CallTree, Ended, Does, Reads, Makes}
 use Rattle.link_laws.specs.Ends.{End}
+pub use Rattle.link_laws.specs.Ticks.{Who}
+use Rattle.link_laws.specs.Ticks.{tick, set_state, tick_steps, state_step}
+use Rattle.link_laws.specs.Offers.{Job, entry_of, offer, IsOffer}
+use Rattle.link_laws.specs.Polls.{poll, IsPoll}
 
--- who makes the calls: a peer and its partner, the first words of their sections and the words of each, the sizes of the queue in them, and the vector of the traffic doorbell
-pub record Who : Type 0 where
-  pub me : ℕ
-  pub other : ℕ
-  pub own : ℕ
-  pub theirs : ℕ
-  pub words : ℕ
-  pub sizes : Sizes
-  pub vector : ℕ
-
--- what an end may be told to do
+-- what an end may be told to do: an Offer is of a frame, by its bytes
 pub data Call : Type 0 where
   Tick : Call
   Stop : Call
+  Offer : (frame : List ℕ) → Call
+  Poll : Call
 
--- The tree of a call
+-- the phase in which offers and polls work
+abbrev pub in_run : Phase → Bool
+in_run Reset = false
+in_run Init = false
+in_run Ready = false
+in_run Run = true
 
--- writes of 0 to so many words from this one on, ascending, and then what comes after
-abbrev pub clear : ℕ → ℕ → CallTree → CallTree
-clear at zero after = after
-clear at (suc more) after = Does (Write at 0) [] (clear (at + 1) more after)
+-- the job of an offer that this end begins: the frame is the next one of the session
+abbrev pub job_of : Who → End → List ℕ → Job
+job_of who end frame = record {
+  frame = frame;
+  number = length end.accepted;
+  beside = end.written (who.own + word_place who.sizes (Entry (entry_of who (length end.accepted))));
+}
 
--- a write of State, which ends the call
-abbrev pub set_state : ℕ → CallTree
-set_state state = Does (State state) (Over ∷ []) Ended
+-- an Offer or a Poll outside RUN is one step without an access
+abbrev pub down : CallTree
+down = Does Nothing (Down ∷ []) Ended
 
-abbrev pub tick_marks : ℕ → Move → List Mark
-tick_marks value Stay = Saw value ∷ Over ∷ []
-tick_marks value (Set state) = Saw value ∷ []
-tick_marks value (ClearThenSet state) = Saw value ∷ []
-
-abbrev pub after_tick : Who → Move → CallTree
-after_tick who Stay = Ended
-after_tick who (Set state) = set_state state
-after_tick who (ClearThenSet state) = clear who.own who.words (set_state state)
-
--- the tree of a call that this end begins
+-- a call that this end begins
 abbrev pub tree_of : Who → End → Call → CallTree
-tree_of who end Tick = Reads who.other (λ value. tick_marks value (move_of end.handshake value)) (λ value. after_tick who (move_of end.handshake value))
+tree_of who end Tick = tick who end
 tree_of who end Stop = set_state 0
+tree_of who end (Offer frame) = if in_run end.handshake.phase then offer who (job_of who end frame) end.freed else down
+tree_of who end Poll = if in_run end.handshake.phase then poll who (length end.delivered) else down
 
--- The table of finished calls
+abbrev pub down_step : Step
+down_step = step_of Nothing 0 (Down ∷ [])
 
-abbrev pub clear_steps : ℕ → ℕ → List Step
-clear_steps at zero = []
-clear_steps at (suc more) = step_of (Write at 0) 0 [] ∷ clear_steps (at + 1) more
+-- an Offer or a Poll that begins in this phase: its steps in RUN, else the one step of a call that is down
+abbrev pub RunsOrIsDown : Phase → Type 0 → List Step → Type 0
+RunsOrIsDown Reset in_run steps = steps ≡ down_step ∷ []
+RunsOrIsDown Init in_run steps = steps ≡ down_step ∷ []
+RunsOrIsDown Ready in_run steps = steps ≡ down_step ∷ []
+RunsOrIsDown Run in_run steps = in_run
 
-abbrev pub state_step : ℕ → Step
-state_step state = step_of (State state) 0 (Over ∷ [])
-
--- a Tick that read this value, by the move that it makes: no more; the State step; or 0 to each own word ascending and then the State step
-abbrev pub tick_steps : Who → ℕ → Move → List Step
-tick_steps who value Stay = step_of (Read who.other) value (Saw value ∷ Over ∷ []) ∷ []
-tick_steps who value (Set state) = step_of (Read who.other) value (Saw value ∷ []) ∷ state_step state ∷ []
-tick_steps who value (ClearThenSet state) = step_of (Read who.other) value (Saw value ∷ []) ∷ (clear_steps who.own who.words ++ state_step state ∷ [])
-
--- a finished call that this end began is one of these lists of steps
+-- a finished call, that this end began, is one of these lists of steps
 abbrev pub IsCall : Who → End → Call → List Step → Type 0
 IsCall who end Tick steps = (value : ℕ) × (steps ≡ tick_steps who value (move_of end.handshake value))
 IsCall who end Stop steps = steps ≡ state_step 0 ∷ []
+IsCall who end (Offer frame) steps = RunsOrIsDown end.handshake.phase (IsOffer who (job_of who end frame) end.freed steps) steps
+IsCall who end Poll steps = RunsOrIsDown end.handshake.phase (IsPoll who (length end.delivered) steps) steps
 
 -- a list of steps runs the tree of a call to its end exactly where it is one of the call's lists
 pub record CallsAreLists : Type 0 where

@@ -1,6 +1,10 @@
 pub mod Steps
 pub mod Trees
 pub mod Ends
+pub mod Words
+pub mod Ticks
+pub mod Offers
+pub mod Polls
 pub mod Calls
 pub mod Reach
 pub mod Rows

@@ -1,11 +1,13 @@
 -- What a call touches: it writes its own section and its own state alone, and rings nobody but the other end.
-use Rattle.std.specs.Prelude.{ℕ, ◌≡◌, ◌+◌, ◌<◌, ◌≤◌, ◌⊎◌, List, All}
+use Rattle.std.specs.Prelude.{ℕ, ◌≡◌, ◌+◌, ◌*◌, ◌<◌, ◌≤◌, ◌⊎◌, List, length, All}
+use Rattle.split_ring.specs.Layout.{IsQueue}
 use Rattle.split_ring.specs.declared.steps.Access.{Access}
 use Rattle.split_ring.specs.declared.steps.Access.TheVariants as access
 use Rattle.link_laws.specs.Steps.{Step}
 use Rattle.link_laws.specs.Trees.{CallTree, Ended, Does, Reads, Goes, GoesAlong}
 use Rattle.link_laws.specs.Ends.{End}
-use Rattle.link_laws.specs.Calls.{Who, Call, tree_of}
+use Rattle.link_laws.specs.Ticks.{Who}
+use Rattle.link_laws.specs.Calls.{Call, Tick, Stop, Offer, Poll, tree_of}
 
 -- a word that an end reads: the state of the other, or a word of the other's section
 abbrev pub MayRead : Who → ℕ → Type 0
@@ -37,8 +39,21 @@ StaysInReach who Ended = Unit {0}
 StaysInReach who (Does access marks rest) = MayDo who access × StaysInReach who rest
 StaysInReach who (Reads word marks rest) = MayRead who word × ((value : ℕ) → StaysInReach who (rest value))
 
+-- the two sections hold the queue: its sizes fit, and a section has a quarter as many words as bytes
+pub record HasSections (who : Who) : Type 0 where
+  pub queue : IsQueue who.sizes
+  pub words : who.sizes.out ≡ 4 * who.words
+
+-- a call that an end may be given: an offered frame is an Ethernet frame of at most MTU + 18 bytes (profile)
+abbrev pub IsGiven : Who → Call → Type 0
+IsGiven who Tick = Unit {0}
+IsGiven who Stop = Unit {0}
+IsGiven who (Offer frame) = (14 ≤ length frame) × (length frame ≤ who.sizes.mtu + 18)
+IsGiven who Poll = Unit {0}
+
 -- every call stays in reach, and so does what a step leaves of it; each of its steps is then in reach
 pub record CallsStayInReach : Type 0 where
-  pub calls : (who : Who) (end : End) (call : Call) → StaysInReach who (tree_of who end call)
+  pub calls : (who : Who) (end : End) (call : Call) → HasSections who → IsGiven who call → StaysInReach who (tree_of who end call)
   pub step : (who : Who) (tree new : CallTree) (step : Step) → StaysInReach who tree → Goes tree step new → InReach who step.access × StaysInReach who new
-  pub steps : (who : Who) (end : End) (call : Call) (steps : List Step) (left : CallTree) → GoesAlong (tree_of who end call) steps left → All (λ step. InReach who step.access) steps
+  pub steps : (who : Who) (end : End) (call : Call) (steps : List Step) (left : CallTree) → HasSections who → IsGiven who call →
+      GoesAlong (tree_of who end call) steps left → All (λ step. InReach who step.access) steps

@@ -14,7 +14,7 @@ const SIZES: [u32; 7] = [4096, 2048, 1024, 512, 256, 128, 64];
 ///
 /// A contract sees the two sizes, and each number is a function of them (`specs/Layout`). Both sections of a link
 /// have this layout. Words are numbered from the start of the section.
-#[derive(Clone, Copy, Debug)]
+#[derive(Clone, Copy, Debug, PartialEq, Eq)]
 pub struct Queue {
     out: u32,
     mtu: u32,

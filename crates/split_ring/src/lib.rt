@@ -12,3 +12,6 @@ pub mod steps;
 pub use faults::QueueFault;
 pub use layout::{Queue, queue_size_is_greatest, queues_are_laid_out};
 pub use ranges::{FieldName, Refused, need_event};
+
+#[cfg(test)]
+mod tests;

@@ -1,5 +1,5 @@
 -- What a source gives and a sink takes (profile). Bytes that an end doesn't tell are None.
-use Rattle.std.specs.Prelude.{ℕ, ◌≡◌, ◌<◌, ◌≤◌, ◌-◌, ◌^◌, ◌⊎◌, Bool, List, [], ◌++◌, Option, Some, None, IsTrue, length}
+use Rattle.std.specs.Prelude.{ℕ, ◌≡◌, ◌+◌, ◌-◌, ◌^◌, ◌<◌, ◌≤◌, ◌⊎◌, Bool, List, [], ◌++◌, Option, Some, None, IsTrue, length, min}
 
 -- what is known of a source: the bytes left, where they are told; that a read found the end; its faults
 pub record Input : Type 0 where
@@ -46,6 +46,10 @@ HasEnded now = IsTrue now.ended × IsAtEnd now.left
 -- the sink took these bytes
 abbrev pub Took : Output → List ℕ → Output → Type 0
 Took before bytes now = now.written ≡ appended before.written bytes
+
+-- one more, up to the last number that a count reaches
+abbrev pub counted : ℕ → ℕ
+counted count = min (count + 1) (2 ^ 64 - 1)
 
 -- the count rose, or stands at its last value
 abbrev pub Rose : ℕ → ℕ → Type 0

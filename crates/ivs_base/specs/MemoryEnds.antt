@@ -1,6 +1,6 @@
 -- Sources and sinks in memory, which fail at the calls that they were told to fail at (profile).
-use Rattle.std.specs.Prelude.{ℕ, ◌+◌, ◌-◌, ◌^◌, ◌==◌, List, ◌++◌, Some, length, drop, min}
-use Rattle.ivs_base.specs.Ends.{Input, Output}
+use Rattle.std.specs.Prelude.{ℕ, ◌==◌, List, ◌++◌, Some, length, drop, min}
+use Rattle.ivs_base.specs.Ends.{Input, Output, counted}
 
 -- a source: the bytes left, the most that a call gives, the numbers of the calls that fail, and the
 -- calls and the faults so far
@@ -20,10 +20,6 @@ pub record MemoryOutput : Type 0 where
   pub fails : List ℕ
   pub calls : ℕ
   pub faults : ℕ
-
--- one more, up to the last number that a count reaches
-abbrev pub counted : ℕ → ℕ
-counted count = min (count + 1) (2 ^ 64 - 1)
 
 -- what is known of a source in memory: it tells its bytes, and has ended where none is left
 abbrev pub input_of : MemoryInput → Input

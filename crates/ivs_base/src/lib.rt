@@ -15,3 +15,6 @@ pub use frames::{Frame, NoMemory};
 pub use memory_ends::{MemorySink, MemorySource};
 pub use numbers::{distance, plus, up64, word_of};
 pub use standard_ends::{InputSource, OutputSink};
+
+#[cfg(test)]
+mod tests;

@@ -1,8 +1,8 @@
 //! A source and a sink in memory, which fail at the calls that they were told to fail at. Their calls
 //! are told exactly, so that a test can follow what a fault does to whoever reads or writes.
 ghost use Rattle.std.specs.Prelude.{◌≡◌, ◌<◌, ◌≤◌, ◌+◌, ◌↔◌, ◌⊎◌, [], IfOk, OnErr, IsErr, Contains, length, take};
-ghost use Rattle.ivs_base.specs.Ends.{Gave, HasEnded, Took, SourceFailed, SinkFailed};
-ghost use Rattle.ivs_base.specs.MemoryEnds.{counted, input_of, given_count, source_behind, source_failed, output_of, taken_count, sink_behind, sink_failed};
+ghost use Rattle.ivs_base.specs.Ends.{counted, Gave, HasEnded, Took, SourceFailed, SinkFailed};
+ghost use Rattle.ivs_base.specs.MemoryEnds.{input_of, given_count, source_behind, source_failed, output_of, taken_count, sink_behind, sink_failed};
 
 use super::ends::{Failed, Sink, Source};
 use super::frames::NoMemory;

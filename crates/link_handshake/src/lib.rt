@@ -137,3 +137,6 @@ pub fn phases_in_step()
     ensures follows_reset { FollowsReset }
     ensures starts_afresh { StartsAfresh }
 {}
+
+#[cfg(test)]
+mod tests;

@@ -11,3 +11,6 @@ mod sizes;
 pub use laws::sections_stand_apart;
 pub use regions::{Denied, Outside, Region};
 pub use sizes::{Geometry, GeometryFault, Part, Section};
+
+#[cfg(test)]
+mod tests;

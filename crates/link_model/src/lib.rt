@@ -4,7 +4,9 @@
 #![tactic(auto)]
 
 mod fault;
+mod laws;
 mod line;
 
 pub use fault::{Law, StepFault, Unlawful};
+pub use laws::{history_is_lawful, link_machine_runs, memory_is_kept, one_history};
 pub use line::{Line, Lines};

@@ -1,0 +1,14 @@
+-- The entries of one peer among those of all.
+use Rattle.std.proofs.Common.{◌≡◌, ℕ, true, false, List, [], ◌∷◌, refl, arith}
+use Rattle.std.proofs.lemmas.Bool.Decides.{nat_tests}
+use Rattle.std.specs.Prelude.{◌==◌, if◌then◌else◌}
+use Rattle.link_model.specs.Entries.{Entry, owner, own}
+
+pub is_same : (a b : ℕ) → (a == b) ≡ true → a ≡ b
+is_same a b is = grind (arith, nat_tests)
+
+pub same_test : (a : ℕ) → (a == a) ≡ true
+same_test a = grind (arith, nat_tests)
+
+pub own_first : (entry : Entry) (entries : List Entry) → own (owner entry) (entry ∷ entries) ≡ entry ∷ own (owner entry) entries
+own_first entry entries = rw (same_test (owner entry)) refl

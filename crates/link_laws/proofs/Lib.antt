@@ -6,3 +6,4 @@ pub mod Lists
 pub mod Phases
 pub mod Reaching
 pub mod Rowing
+pub mod Following

@@ -8,3 +8,4 @@ pub mod Polls
 pub mod Calls
 pub mod Reach
 pub mod Rows
+pub mod Places

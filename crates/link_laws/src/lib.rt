@@ -8,6 +8,7 @@ ghost use Rattle.link_laws.specs.Ends.{PhaseFollowsState};
 ghost use Rattle.link_laws.specs.Calls.{CallsAreLists};
 ghost use Rattle.link_laws.specs.Reach.{CallsStayInReach};
 ghost use Rattle.link_laws.specs.Rows.{CallsKeepRows};
+ghost use Rattle.link_laws.specs.Places.{PlacesFollowTrees};
 
 /// A call that is cut has the first steps of a whole one.
 pub fn cuts_begin()
@@ -32,4 +33,9 @@ pub fn calls_stay_in_reach()
 /// An end writes 0, or the state to which the phase table moves on from what it saw last, which is the other's state.
 pub fn calls_keep_rows()
     ensures { CallsKeepRows }
+{}
+
+/// A call begins at its first place and goes on from place to place: by the step at its place, and by that alone.
+pub fn places_follow_trees()
+    ensures { PlacesFollowTrees }
 {}

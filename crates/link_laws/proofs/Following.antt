@@ -1,5 +1,5 @@
 -- The places of a call follow its tree.
-use Rattle.std.proofs.Common.{◌≡◌, ℕ, zero, suc, ◌+◌, ◌-◌, ◌/◌, Bool, true, false, List, [], ◌∷◌, ◌++◌, length, refl, sym, ap, ◌∙◌}
+use Rattle.std.proofs.Common.{◌≡◌, ℕ, zero, suc, ◌+◌, ◌-◌, Bool, true, false, List, [], ◌∷◌, ◌++◌, length, refl, sym, ◌∙◌}
 use Rattle.std.specs.Prelude.{◌==◌, nat_le, if◌then◌else◌}
 use Rattle.link_handshake.specs.declared.Move.{Move}
 use Rattle.link_handshake.specs.declared.Move.TheVariants.{Stay, Set, ClearThenSet}
@@ -72,8 +72,12 @@ goes_lem who (WritingFlags job) step left g = (0, g.0, g.1)
 goes_lem who (WritingEntry job) step left g = (0, g.0, g.1)
 goes_lem who (WritingIndex job) step left g = (0, g.0, g.1)
 goes_lem who RingingOffer step left g = (0, g.0, g.1)
-goes_lem who (AtAvailIndex taken) step left g = (g.0, g.1, g.2 ∙ going_on who (nat_le (published_by taken g.0) (size_of who.sizes)) (if published_by taken g.0 == 0 then Closed else items_place taken (published_by taken g.0)) _
-    (chosen who (published_by taken g.0 == 0) Closed (items_place taken (published_by taken g.0)) ∙ both (published_by taken g.0 == 0) Ended Ended _ _ refl (items_left who taken (published_by taken g.0))))
+goes_lem who (AtAvailIndex taken) step left g = (
+  g.0,
+  g.1,
+  g.2 ∙ going_on who (nat_le (published_by taken g.0) (size_of who.sizes)) (if published_by taken g.0 == 0 then Closed else items_place taken (published_by taken g.0)) _
+      (chosen who (published_by taken g.0 == 0) Closed (items_place taken (published_by taken g.0)) ∙ both (published_by taken g.0 == 0) Ended Ended _ _ refl (items_left who taken (published_by taken g.0))),
+)
 goes_lem who (AtEntry number more) step left g = (g.0, g.1, g.2 ∙ going_on who (is_entry who.sizes (entry_half (entry_of who number) g.0)) (AtLow number more (entry_half (entry_of who number) g.0)) _ refl)
 goes_lem who (AtLow number more entry) step left g = g
 goes_lem who (AtHigh number more entry low) step left g = (g.0, g.1, g.2 ∙ going_on who (is_address who.sizes (address_of low g.0)) (AtLength number more entry (address_of low g.0)) _ refl)
@@ -102,8 +106,12 @@ comes_lem who (WritingFlags job) value is = (refl, refl)
 comes_lem who (WritingEntry job) value is = (refl, refl)
 comes_lem who (WritingIndex job) value is = (refl, refl)
 comes_lem who RingingOffer value is = (refl, refl)
-comes_lem who (AtAvailIndex taken) value is = (value, refl, sym (going_on who (nat_le (published_by taken value) (size_of who.sizes)) (if published_by taken value == 0 then Closed else items_place taken (published_by taken value)) _
-    (chosen who (published_by taken value == 0) Closed (items_place taken (published_by taken value)) ∙ both (published_by taken value == 0) Ended Ended _ _ refl (items_left who taken (published_by taken value)))))
+comes_lem who (AtAvailIndex taken) value is = (
+  value,
+  refl,
+  sym (going_on who (nat_le (published_by taken value) (size_of who.sizes)) (if published_by taken value == 0 then Closed else items_place taken (published_by taken value)) _
+      (chosen who (published_by taken value == 0) Closed (items_place taken (published_by taken value)) ∙ both (published_by taken value == 0) Ended Ended _ _ refl (items_left who taken (published_by taken value)))),
+)
 comes_lem who (AtEntry number more) value is = (value, refl, sym (going_on who (is_entry who.sizes (entry_half (entry_of who number) value)) (AtLow number more (entry_half (entry_of who number) value)) _ refl))
 comes_lem who (AtLow number more entry) value is = (value, refl, refl)
 comes_lem who (AtHigh number more entry low) value is = (value, refl, sym (going_on who (is_address who.sizes (address_of low value)) (AtLength number more entry (address_of low value)) _ refl))

@@ -7,3 +7,5 @@ pub mod Phases
 pub mod Reaching
 pub mod Rowing
 pub mod Following
+pub mod Bounding
+pub mod Distinct

@@ -9,3 +9,5 @@ pub mod Calls
 pub mod Reach
 pub mod Rows
 pub mod Places
+pub mod StepBounds
+pub mod ReadsOnce

@@ -9,6 +9,8 @@ ghost use Rattle.link_laws.specs.Calls.{CallsAreLists};
 ghost use Rattle.link_laws.specs.Reach.{CallsStayInReach};
 ghost use Rattle.link_laws.specs.Rows.{CallsKeepRows};
 ghost use Rattle.link_laws.specs.Places.{PlacesFollowTrees};
+ghost use Rattle.link_laws.specs.StepBounds.{CallsMeetBounds};
+ghost use Rattle.link_laws.specs.ReadsOnce.{FieldsAreReadOnce};
 
 /// A call that is cut has the first steps of a whole one.
 pub fn cuts_begin()
@@ -38,4 +40,14 @@ pub fn calls_keep_rows()
 /// A call begins at its first place and goes on from place to place: by the step at its place, and by that alone.
 pub fn places_follow_trees()
     ensures { PlacesFollowTrees }
+{}
+
+/// A finished call has no more steps than its bound.
+pub fn calls_meet_bounds()
+    ensures { CallsMeetBounds }
+{}
+
+/// Each foreign field is read once for each item of a poll, and each word once in an offer.
+pub fn fields_are_read_once()
+    ensures { FieldsAreReadOnce }
 {}

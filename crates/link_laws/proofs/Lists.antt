@@ -3,14 +3,14 @@ use Rattle.std.proofs.Common.{◌≡◌, List, [], ◌∷◌, refl, sym, subst, 
 use Rattle.link_handshake.specs.declared.Phase.{Phase}
 use Rattle.link_handshake.specs.declared.Phase.TheVariants.{Reset, Init, Ready, Run}
 use Rattle.link_handshake.specs.Standing.{move_of}
-use Rattle.std.specs.Prelude.{if◌then◌else◌}
+use Rattle.std.specs.Prelude.{◌≢◌, Bool, true, false, if◌then◌else◌}
 use Rattle.link_laws.specs.Steps.{Step}
-use Rattle.link_laws.specs.Trees.{CallTree, Makes}
+use Rattle.link_laws.specs.Trees.{CallTree, Ended, Makes}
 use Rattle.link_laws.specs.Ends.{End}
 use Rattle.link_laws.specs.Ticks.{Who, set_state, tick_steps}
 use Rattle.link_laws.specs.Offers.{offer, IsOffer}
 use Rattle.link_laws.specs.Polls.{poll, IsPoll}
-use Rattle.link_laws.specs.Calls.{Call, Tick, Stop, Offer, Poll, in_run, job_of, down, down_step, tree_of, RunsOrIsDown, IsCall, CallsAreLists}
+use Rattle.link_laws.specs.Calls.{Call, Tick, Stop, Offer, Poll, in_run, job_of, down, down_step, tree_of, RunsOrIsDown, IsCall, CallsAreLists, CallsTakeAStep}
 use Rattle.link_laws.proofs.TickLists.{set_listed, tick_listed, ticks_by, tick_made}
 use Rattle.link_laws.proofs.OfferLists.{offer_listed, offer_made}
 use Rattle.link_laws.proofs.PollLists.{poll_listed, poll_made}
@@ -48,3 +48,14 @@ made_lem who end Poll steps is = from_phase end.handshake.phase (poll who (lengt
 
 pub lists : CallsAreLists
 lists = record { listed = listed_lem; made = made_lem }
+
+-- either of two calls takes a step
+either_steps : (b : Bool) (tree other : CallTree) → tree ≢ Ended → other ≢ Ended → (if b then tree else other) ≢ Ended
+either_steps true tree other more more' = more
+either_steps false tree other more more' = more'
+
+pub takes_a_step : CallsTakeAStep
+takes_a_step who end Tick = λ is. cc
+takes_a_step who end Stop = λ is. cc
+takes_a_step who end (Offer frame) = either_steps (in_run end.handshake.phase) (offer who (job_of who end frame) end.freed) down (λ is. cc) (λ is. cc)
+takes_a_step who end Poll = either_steps (in_run end.handshake.phase) (poll who (length end.delivered)) down (λ is. cc) (λ is. cc)

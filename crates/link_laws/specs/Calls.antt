@@ -1,5 +1,5 @@
 -- The call grammar: which steps a call of a link peer takes (profile), as a tree and as a table of lists.
-use Rattle.std.specs.Prelude.{ℕ, ◌≡◌, ◌+◌, Bool, true, false, if◌then◌else◌, List, [], ◌∷◌, length}
+use Rattle.std.specs.Prelude.{ℕ, ◌≡◌, ◌≢◌, ◌+◌, Bool, true, false, if◌then◌else◌, List, [], ◌∷◌, length}
 use Rattle.link_handshake.specs.declared.Phase.{Phase}
 use Rattle.link_handshake.specs.declared.Phase.TheVariants.{Reset, Init, Ready, Run}
 use Rattle.split_ring.specs.declared.steps.Access.TheVariants.{Nothing}
@@ -67,3 +67,7 @@ IsCall who end Poll steps = RunsOrIsDown end.handshake.phase (IsPoll who (length
 pub record CallsAreLists : Type 0 where
   pub listed : (who : Who) (end : End) (call : Call) (steps : List Step) → Makes (tree_of who end call) steps → IsCall who end call steps
   pub made : (who : Who) (end : End) (call : Call) (steps : List Step) → IsCall who end call steps → Makes (tree_of who end call) steps
+
+-- every call takes a step
+abbrev pub CallsTakeAStep : Type 0
+CallsTakeAStep = (who : Who) (end : End) (call : Call) → tree_of who end call ≢ Ended

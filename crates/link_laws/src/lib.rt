@@ -5,7 +5,7 @@
 
 ghost use Rattle.link_laws.specs.Trees.{CutsBegin};
 ghost use Rattle.link_laws.specs.Ends.{PhaseFollowsState};
-ghost use Rattle.link_laws.specs.Calls.{CallsAreLists};
+ghost use Rattle.link_laws.specs.Calls.{CallsAreLists, CallsTakeAStep};
 ghost use Rattle.link_laws.specs.Reach.{CallsStayInReach};
 ghost use Rattle.link_laws.specs.Rows.{CallsKeepRows};
 ghost use Rattle.link_laws.specs.Places.{PlacesFollowTrees};
@@ -20,6 +20,11 @@ pub fn cuts_begin()
 /// A list of steps runs the tree of a call to its end exactly where the table of calls has it.
 pub fn calls_are_lists()
     ensures { CallsAreLists }
+{}
+
+/// Every call takes a step.
+pub fn calls_take_a_step()
+    ensures { CallsTakeAStep }
 {}
 
 /// The phase of an end changes at a State step alone.

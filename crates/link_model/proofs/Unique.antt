@@ -1,25 +1,24 @@
 -- A scenario has one lawful history at most.
 use Rattle.std.proofs.Common.{◌≡◌, ℕ, ◌<◌, Bool, true, false, List, [], ◌∷◌, ◌++◌, refl, sym, ◌∙◌, ap, subst, append_assoc}
-use Rattle.std.specs.Prelude.{◌==◌, if◌then◌else◌, Option, Some, None, map, reverse}
+use Rattle.std.specs.Prelude.{◌==◌, if◌then◌else◌, Option, map, reverse}
 use Rattle.std.specs.List.{flat_map, AllByRecursion}
 use Rattle.std.proofs.lemmas.List.{reverse-append, append-nil}
 use Rattle.std.proofs.lemmas.List.Elements.{recursion_from_All}
 use Rattle.section_map.specs.Geometry.{Shape}
 use Rattle.split_ring.specs.declared.steps.Access.TheVariants as access
 use Rattle.scenario_text.specs.Scenario.{World}
-use Rattle.link_laws.specs.Steps.{Mark, Step, step_of}
+use Rattle.link_laws.specs.Steps.{Step, step_of}
 use Rattle.link_laws.specs.Trees.{CallTree, Ended, Does, Reads, Goes}
 use Rattle.link_laws.specs.Ends.{End}
 use Rattle.link_laws.specs.Calls.{Who, Call, tree_of}
 use Rattle.link_model.specs.declared.line.Line.{Line}
 use Rattle.link_model.specs.declared.line.Line.TheVariants.{Read}
 use Rattle.link_model.specs.Memory.{MemoryLaw, last_write}
-use Rattle.link_model.specs.Schedule.{schedule}
 use Rattle.link_model.specs.Sides.{who_of}
 use Rattle.link_model.specs.Entries.{Entry, Queued, Took, event_of, owner, mark_line, step_lines, turn_lines, lines_of, own}
 use Rattle.link_model.specs.Peers.{Peer, at_start, GoesOn, Turns, Acts, Serves}
-use Rattle.link_model.specs.Device.{interrupts_of, DeviceRules}
-use Rattle.link_model.specs.Lawful.{IsLawfulBy, IsLawful, HasOneHistory}
+use Rattle.link_model.specs.Device.{DeviceRules}
+use Rattle.link_model.specs.Lawful.{IsLawfulBy, HasOneHistory}
 use Rattle.link_model.proofs.Owners.{is_same, own_first}
 
 -- the law holds of the older lines

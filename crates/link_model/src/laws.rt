@@ -3,7 +3,7 @@ ghost use Rattle.link_model.specs.Lawful.{HasOneHistory, ReadsWhatWasWritten, Wr
 ghost use Rattle.link_model.specs.History.{HistoryIsLawful};
 ghost use Rattle.link_model.specs.Link.{LinkMachineRuns};
 
-use link_laws::{calls_keep_rows, calls_stay_in_reach};
+use link_laws::{calls_keep_rows, calls_stay_in_reach, calls_take_a_step, phase_follows_state};
 
 /// A scenario has one lawful history at most: the schedule and the values read decide each next line.
 pub fn one_history()
@@ -15,6 +15,7 @@ pub fn history_is_lawful()
     ensures { HistoryIsLawful }
 {
     calls_stay_in_reach();
+    calls_take_a_step();
 }
 
 /// What a peer read is what was written last, and a peer writes where it may.
@@ -32,4 +33,5 @@ pub fn link_machine_runs()
     history_is_lawful();
     calls_stay_in_reach();
     calls_keep_rows();
+    phase_follows_state();
 }

@@ -9,3 +9,4 @@ pub mod Rowing
 pub mod Following
 pub mod Bounding
 pub mod Distinct
+pub mod MachineLaws

@@ -11,3 +11,5 @@ pub mod Rows
 pub mod Places
 pub mod StepBounds
 pub mod ReadsOnce
+pub mod LinkMachine
+pub mod Automatic

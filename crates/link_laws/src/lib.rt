@@ -11,6 +11,7 @@ ghost use Rattle.link_laws.specs.Rows.{CallsKeepRows};
 ghost use Rattle.link_laws.specs.Places.{PlacesFollowTrees};
 ghost use Rattle.link_laws.specs.StepBounds.{CallsMeetBounds};
 ghost use Rattle.link_laws.specs.ReadsOnce.{FieldsAreReadOnce};
+ghost use Rattle.link_laws.specs.LinkMachine.{MachineDelivers};
 
 /// A call that is cut has the first steps of a whole one.
 pub fn cuts_begin()
@@ -55,4 +56,10 @@ pub fn calls_meet_bounds()
 /// Each foreign field is read once for each item of a poll, and each word once in an offer.
 pub fn fields_are_read_once()
     ensures { FieldsAreReadOnce }
+{}
+
+/// In a run of the link machine between two honest sides each delivers what the other accepted: a beginning of it, each frame once
+/// and in order, in every session.
+pub fn machine_delivers()
+    ensures { MachineDelivers }
 {}

@@ -3,3 +3,8 @@ pub mod Acts
 pub mod ActRows
 pub mod Scenario
 pub mod Props
+pub mod Sizes
+pub mod Judge
+pub mod Spelling
+pub mod Answers
+pub mod Drafts

@@ -91,9 +91,9 @@ is_its_peer w _ ns = true
 -- ---- frames
 
 -- an offered frame has 14 to MTU + 18 bytes
-abbrev pub is_frame : World → Form → List ℕ → Bool
-is_frame w Offer bytes = nat_le 14 (length bytes) && nat_le (length bytes) (w.queue.mtu + 18)
-is_frame w _ bytes = true
+abbrev pub is_frame_size : World → Form → ℕ → Bool
+is_frame_size w Offer size = nat_le 14 size && nat_le size (w.queue.mtu + 18)
+is_frame_size w _ size = true
 
 -- ---- a scenario
 
@@ -104,7 +104,7 @@ pub record IsAllowed (w : World) (before : List Act) (act : Act) : Type 0 where
   pub order : is_too_late before (row_of_act act).form (peer_of act) ≡ false
   pub range : is_in_range w (row_of_act act).form (row_of_act act).numbers ≡ true
   pub peer : is_its_peer w (row_of_act act).form (row_of_act act).numbers ≡ true
-  pub frame : is_frame w (row_of_act act).form (row_of_act act).frame ≡ true
+  pub frame : is_frame_size w (row_of_act act).form (length (row_of_act act).frame) ≡ true
 
 -- each act is allowed behind the ones before it
 abbrev pub AreAllowed : World → Type 0

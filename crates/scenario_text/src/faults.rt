@@ -1,5 +1,37 @@
 //! What is wrong with a scenario's text.
+ghost use Rattle.std.specs.Prelude.{◌≡◌};
+ghost use Rattle.scenario_text.specs.Judge.{fault_at};
+
 use thiserror::Error;
+
+/// What is wrong with a line: the first of these that fits, in this order.
+#[derive(Clone, Copy, Debug, PartialEq, Eq)]
+pub enum Cause {
+    BadLine,
+    BadOrder,
+    BadNumber,
+    BadPeer,
+    BadFrame,
+    BadGeometry,
+    TooManyTurns,
+}
+
+impl Cause {
+    /// The fault of a text whose first bad line is this one, with lines from 1.
+    pub fn at(self, line: u64) -> ScenarioFault
+        ensures { result ≡ fault_at self line }
+    {
+        match self {
+            Cause::BadLine => ScenarioFault::BadLine(line),
+            Cause::BadOrder => ScenarioFault::BadOrder(line),
+            Cause::BadNumber => ScenarioFault::BadNumber(line),
+            Cause::BadPeer => ScenarioFault::BadPeer(line),
+            Cause::BadFrame => ScenarioFault::BadFrame(line),
+            Cause::BadGeometry => ScenarioFault::BadGeometry(line),
+            Cause::TooManyTurns => ScenarioFault::TooManyTurns(line),
+        }
+    }
+}
 
 /// What is wrong with a text that spells no scenario. A number is that of the first bad line, from 1. Where several
 /// of these fit a line, the first of them in the order BadLine, BadOrder, BadNumber, BadPeer, BadFrame, BadGeometry,

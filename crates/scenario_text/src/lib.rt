@@ -5,10 +5,15 @@
 #![tactic(auto)]
 
 mod acts;
+mod drafts;
+mod failures;
 mod faults;
 mod forms;
+mod judging;
 mod scenarios;
+mod stages;
+mod taking;
 
 pub use acts::{Act, Acts, Flags};
-pub use faults::ScenarioFault;
+pub use faults::{Cause, ScenarioFault};
 pub use scenarios::Scenario;

@@ -1,0 +1,4 @@
+pub mod ActLaws
+pub mod SizeLaws
+pub mod TableLaws
+pub mod FrameLaws

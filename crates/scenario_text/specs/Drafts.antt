@@ -1,0 +1,6 @@
+-- A draft as what its lines say.
+use Rattle.scenario_text.specs.declared.drafts.Draft.{Draft}
+use Rattle.scenario_text.specs.Judge.{SoFar}
+
+abbrev pub so_far : Draft → SoFar
+so_far d = record { stage = d.stage; peers = d.peers; table = d.table; common = d.common; out = d.out; mtu = d.mtu; wiring = d.wiring; honest = d.honest; acts = d.acts }

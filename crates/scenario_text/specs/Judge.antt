@@ -1,0 +1,231 @@
+-- Reading line by line: what a good line adds, and what is wrong with a bad one.
+use Rattle.std.specs.Prelude.{ℕ, ◌+◌, ◌==◌, ◌||◌, ◌&&◌, not, nat_lt, nat_le, if◌then◌else◌, Bool, true, false, List, [], ◌∷◌, ◌++◌, length, slice_index, slice_get, Option, Some, None, Result, Ok, Err, option_and_then}
+use Rattle.std.specs.List.{list_all}
+use Rattle.std.specs.Option.{option_map_or}
+use Rattle.line_text.specs.Numbers.{number_of}
+use Rattle.line_text.specs.Forms.{fields_of, numbers_of, hex_of, hex_bytes, is_printable}
+use Rattle.line_text.specs.Rows.{find_form}
+use Rattle.line_text.specs.Steps.{◌>>=◌, some_or}
+use Rattle.line_text.specs.Machine.{Machine, Wrong, At, Behind, NoEnd, read}
+use Rattle.section_map.specs.Faults.{shape_of}
+use Rattle.pci_space.specs.declared.wiring.Wiring.{Wiring}
+use Rattle.pci_space.specs.declared.wiring.Wiring.TheVariants as wirings
+use Rattle.scenario_text.specs.declared.acts.Act.{Act}
+use Rattle.scenario_text.specs.declared.acts.Act.TheVariants as acts
+use Rattle.scenario_text.specs.declared.forms.Form.{Form}
+use Rattle.scenario_text.specs.declared.forms.Form.TheVariants.{Version, Peers, Table, Common, Out, Mtu, Msix, Intx, Honest, Hostile, Begin, Tick, Offer, Poll, Stop, Auto, Storm, Turn, Reset, Poke, Peek, Set, Ring, CfgRead, CfgWrite, MmioRead, MmioWrite, MsixRead, MsixWrite, Lose, Again, End}
+use Rattle.scenario_text.specs.declared.stages.Stage.{Stage}
+use Rattle.scenario_text.specs.declared.stages.Stage.TheVariants.{AtVersion, AtPeers, AtTable, AtCommon, AtOut, AtMtu, AtWiring, AtPeer, AtBegin, AtActs, Ended}
+use Rattle.scenario_text.specs.declared.faults.Cause.{Cause}
+use Rattle.scenario_text.specs.declared.faults.Cause.TheVariants.{BadLine, BadOrder, BadNumber, BadPeer, BadFrame, BadGeometry, TooManyTurns}
+use Rattle.scenario_text.specs.declared.faults.ScenarioFault.{ScenarioFault}
+use Rattle.scenario_text.specs.declared.faults.ScenarioFault.TheVariants as faults
+use Rattle.scenario_text.specs.Table.{pieces_of, all_forms}
+use Rattle.scenario_text.specs.Acts.{cost, turns_of}
+use Rattle.scenario_text.specs.Sizes.{is_geometry, is_queue}
+use Rattle.scenario_text.specs.Scenario.{World, is_too_late, is_in_range, is_its_peer, is_frame_size}
+
+-- what the lines so far say, with sizes in bytes; what no line has said yet is 0, INTx or empty
+pub record SoFar : Type 0 where
+  pub stage : Stage
+  pub peers : ℕ
+  pub table : ℕ
+  pub common : ℕ
+  pub out : ℕ
+  pub mtu : ℕ
+  pub wiring : Wiring
+  pub honest : List Bool
+  pub acts : List Act
+
+-- the world that they describe
+abbrev pub world_so_far : SoFar → World
+world_so_far d = record {
+  version = 1;
+  geometry = shape_of d.peers d.table d.common d.out;
+  queue = record { out = d.out; mtu = d.mtu };
+  wiring = d.wiring;
+  honest = d.honest;
+  acts = d.acts;
+}
+
+-- ---- BadOrder
+
+abbrev pub place_of : Stage → ℕ
+place_of AtVersion = 0
+place_of AtPeers = 1
+place_of AtTable = 2
+place_of AtCommon = 3
+place_of AtOut = 4
+place_of AtMtu = 5
+place_of AtWiring = 6
+place_of AtPeer = 7
+place_of AtBegin = 8
+place_of AtActs = 9
+place_of Ended = 10
+
+-- where a form can stand
+abbrev pub stage_of : Form → Stage
+stage_of Version = AtVersion
+stage_of Peers = AtPeers
+stage_of Table = AtTable
+stage_of Common = AtCommon
+stage_of Out = AtOut
+stage_of Mtu = AtMtu
+stage_of Msix = AtWiring
+stage_of Intx = AtWiring
+stage_of Honest = AtPeer
+stage_of Hostile = AtPeer
+stage_of Begin = AtBegin
+stage_of _ = AtActs
+
+-- the rules of order that speak of P: the head's peers come in order, and acts as they are allowed
+abbrev pub is_out_of_turn : SoFar → Form → ℕ → Bool
+is_out_of_turn d Honest p = not (p == length d.honest)
+is_out_of_turn d Hostile p = not (p == length d.honest)
+is_out_of_turn d form p = is_too_late d.acts form p
+
+-- they are tested here only where P's field is a number
+abbrev pub is_out_of_order : SoFar → Form → List (List ℕ) → Bool
+is_out_of_order d form fields =
+    not (place_of (stage_of form) == place_of d.stage)
+    || option_map_or (is_out_of_turn d form) (option_and_then number_of (slice_get fields 1)) false
+
+-- ---- BadNumber
+
+abbrev pub numbers_in : SoFar → Form → List (List ℕ) → Option (List ℕ)
+numbers_in d form fields = option_and_then (λ ns. if is_in_range (world_so_far d) form ns then Some ns else None) (numbers_of (pieces_of form) fields)
+
+-- ---- BadFrame
+
+abbrev pub frame_in : SoFar → Form → List (List ℕ) → Option (List ℕ)
+frame_in d form fields = option_and_then (λ bytes. if is_frame_size (world_so_far d) form (length bytes) then Some bytes else None) (hex_bytes (hex_of (pieces_of form) fields))
+
+-- ---- BadGeometry
+
+-- the geometry is judged on the `out` line, and the queue on the `mtu` line
+abbrev pub fits_sizes : SoFar → Form → List ℕ → Bool
+fits_sizes d Out ns = is_geometry d.peers d.table d.common (slice_index ns 0)
+fits_sizes d Mtu ns = is_queue (record { out = d.out; mtu = slice_index ns 0 })
+fits_sizes d _ ns = true
+
+-- ---- what a line adds
+
+abbrev pub is_end : Form → Bool
+is_end End = true
+is_end _ = false
+
+-- the form is that of an act
+abbrev pub is_act : Form → Bool
+is_act form = place_of (stage_of form) == 9 && not (is_end form)
+
+abbrev pub with_peer : Bool → SoFar → SoFar
+with_peer b d =
+    let honest = d.honest ++ b ∷ [] in
+    record d { stage = if length honest == d.peers then AtBegin else AtPeer; honest = honest }
+
+abbrev pub with_act : Act → SoFar → SoFar
+with_act act d = record d { acts = d.acts ++ act ∷ [] }
+
+-- the act of a row, where the form is that of an act
+abbrev pub act_of : Form → List ℕ → List ℕ → Option Act
+act_of Tick ns frame = Some (acts.Tick (slice_index ns 0))
+act_of Offer ns frame = Some (acts.Offer (slice_index ns 0) frame)
+act_of Poll ns frame = Some (acts.Poll (slice_index ns 0))
+act_of Stop ns frame = Some (acts.Stop (slice_index ns 0))
+act_of Auto ns frame = Some (acts.Auto (slice_index ns 0) (slice_index ns 1))
+act_of Storm ns frame = Some (acts.Storm (slice_index ns 0) (slice_index ns 1))
+act_of Turn ns frame = Some (acts.Turn (slice_index ns 0) (slice_index ns 1))
+act_of Reset ns frame = Some (acts.Reset (slice_index ns 0))
+act_of Poke ns frame = Some (acts.Poke (slice_index ns 0) (slice_index ns 1) (slice_index ns 2))
+act_of Peek ns frame = Some (acts.Peek (slice_index ns 0) (slice_index ns 1))
+act_of Set ns frame = Some (acts.Set (slice_index ns 0) (slice_index ns 1))
+act_of Ring ns frame = Some (acts.Ring (slice_index ns 0) (slice_index ns 1) (slice_index ns 2))
+act_of CfgRead ns frame = Some (acts.CfgRead (slice_index ns 0) (slice_index ns 1) (slice_index ns 2))
+act_of CfgWrite ns frame = Some (acts.CfgWrite (slice_index ns 0) (slice_index ns 1) (slice_index ns 2) (slice_index ns 3))
+act_of MmioRead ns frame = Some (acts.MmioRead (slice_index ns 0) (slice_index ns 1))
+act_of MmioWrite ns frame = Some (acts.MmioWrite (slice_index ns 0) (slice_index ns 1) (slice_index ns 2))
+act_of MsixRead ns frame = Some (acts.MsixRead (slice_index ns 0) (slice_index ns 1))
+act_of MsixWrite ns frame = Some (acts.MsixWrite (slice_index ns 0) (slice_index ns 1) (slice_index ns 2))
+act_of Lose ns frame = Some (acts.Lose (slice_index ns 0))
+act_of Again ns frame = Some (acts.Again (slice_index ns 0) (slice_index ns 1))
+act_of _ ns frame = None
+
+abbrev pub add_head : Form → List ℕ → SoFar → SoFar
+add_head Version ns d = record d { stage = AtPeers }
+add_head Peers ns d = record d { stage = AtTable; peers = slice_index ns 0 }
+add_head Table ns d = record d { stage = AtCommon; table = slice_index ns 0 }
+add_head Common ns d = record d { stage = AtOut; common = slice_index ns 0 }
+add_head Out ns d = record d { stage = AtMtu; out = slice_index ns 0 }
+add_head Mtu ns d = record d { stage = AtWiring; mtu = slice_index ns 0 }
+add_head Msix ns d = record d { stage = AtPeer; wiring = wirings.Msix (slice_index ns 0) }
+add_head Intx ns d = record d { stage = AtPeer; wiring = wirings.Intx }
+add_head Honest ns d = with_peer true d
+add_head Hostile ns d = with_peer false d
+add_head Begin ns d = record d { stage = AtActs }
+add_head End ns d = record d { stage = Ended }
+add_head _ ns d = d
+
+abbrev pub turns_with : SoFar → Option Act → ℕ
+turns_with d (Some act) = turns_of d.acts + cost act
+turns_with d None = 0
+
+abbrev pub add : Form → List ℕ → Option Act → SoFar → SoFar
+add form ns (Some act) d = with_act act d
+add form ns None d = add_head form ns d
+
+-- ---- a line: the tests in their order
+
+unfoldable pub judge : SoFar → Form → List (List ℕ) → Result SoFar Cause
+judge d form fields =
+    if is_out_of_order d form fields then Err BadOrder else do
+      ns ← some_or BadNumber (numbers_in d form fields)
+      if not (is_its_peer (world_so_far d) form ns) then Err BadPeer else do
+        frame ← some_or BadFrame (frame_in d form fields)
+        if not (fits_sizes d form ns) then Err BadGeometry else
+          if nat_lt 4000000 (turns_with d (act_of form ns frame)) then Err TooManyTurns else Ok (add form ns (act_of form ns frame) d)
+
+unfoldable pub step : SoFar → List ℕ → Result SoFar Cause
+step d line =
+    if list_all is_printable line then (do
+      form ← some_or BadLine (find_form pieces_of all_forms (fields_of line))
+      judge d form (fields_of line)) else Err BadLine
+
+-- ---- the text
+
+abbrev pub at_start : SoFar
+at_start = record { stage = AtVersion; peers = 0; table = 0; common = 0; out = 0; mtu = 0; wiring = wirings.Intx; honest = []; acts = [] }
+
+abbrev pub has_ended : SoFar → Bool
+has_ended d = place_of d.stage == 10
+
+abbrev pub machine : Machine SoFar Cause
+machine = record { step = step; ended = has_ended }
+
+-- what a text says, or what is wrong with it first
+abbrev pub reading : List ℕ → Result SoFar (Wrong Cause)
+reading bytes = read machine at_start bytes
+
+-- ---- answers
+
+abbrev pub fault_at : Cause → ℕ → ScenarioFault
+fault_at BadLine n = faults.BadLine n
+fault_at BadOrder n = faults.BadOrder n
+fault_at BadNumber n = faults.BadNumber n
+fault_at BadPeer n = faults.BadPeer n
+fault_at BadFrame n = faults.BadFrame n
+fault_at BadGeometry n = faults.BadGeometry n
+fault_at TooManyTurns n = faults.TooManyTurns n
+
+-- bytes behind the end are a line that is bad
+abbrev pub fault_of : Wrong Cause → ScenarioFault
+fault_of (At cause n) = fault_at cause n
+fault_of (Behind n) = faults.BadLine n
+fault_of NoEnd = faults.NoEnd
+
+abbrev pub answer_of : Result SoFar (Wrong Cause) → Result World ScenarioFault
+answer_of (Ok d) = Ok (world_so_far d)
+answer_of (Err wrong) = Err (fault_of wrong)
+
+-- the scenario that a text spells, or its first fault
+abbrev pub answer : List ℕ → Result World ScenarioFault
+answer bytes = answer_of (reading bytes)

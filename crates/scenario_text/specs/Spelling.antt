@@ -1,0 +1,51 @@
+-- Scenarios as texts: the rows of a scenario, one line each. So a scenario has one spelling.
+use Rattle.std.specs.Prelude.{◌≡◌, ℕ, ◌+◌, ◌*◌, Bool, true, false, List, [], ◌∷◌, ◌++◌, map}
+use Rattle.line_text.specs.Rows.{Row, row, text_of}
+use Rattle.pci_space.specs.declared.wiring.Wiring.{Wiring}
+use Rattle.pci_space.specs.declared.wiring.Wiring.TheVariants as wirings
+use Rattle.scenario_text.specs.declared.forms.Form.{Form}
+use Rattle.scenario_text.specs.declared.forms.Form.TheVariants.{Version, Peers, Table, Common, Out, Mtu, Msix, Intx, Honest, Hostile, Begin, End}
+use Rattle.scenario_text.specs.declared.scenarios.Scenario.{Scenario}
+use Rattle.scenario_text.specs.Table.{pieces_of}
+use Rattle.scenario_text.specs.ActRows.{row_of_act}
+use Rattle.scenario_text.specs.Scenario.{World, IsWorld}
+
+-- what the scenario says
+abbrev pub world_of : Scenario → World
+world_of s = record { version = s.version; geometry = s.geometry; queue = s.queue; wiring = s.wiring; honest = s.honest; acts = s.acts }
+
+abbrev pub row_of_wiring : Wiring → Row Form
+row_of_wiring (wirings.Msix vectors) = row Msix (vectors ∷ []) []
+row_of_wiring wirings.Intx = row Intx [] []
+
+abbrev pub row_of_peer : ℕ → Bool → Row Form
+row_of_peer p true = row Honest (p ∷ []) []
+row_of_peer p false = row Hostile (p ∷ []) []
+
+-- the peers in their order, from p on
+abbrev pub rows_of_peers : ℕ → List Bool → List (Row Form)
+rows_of_peers p [] = []
+rows_of_peers p (b ∷ bs) = row_of_peer p b ∷ rows_of_peers (p + 1) bs
+
+-- the rows before `begin`; sizes are in bytes
+abbrev pub head_rows : World → List (Row Form)
+head_rows w =
+    row Version (w.version ∷ []) []
+    ∷ row Peers (w.geometry.peers ∷ []) []
+    ∷ row Table (4 * w.geometry.table ∷ []) []
+    ∷ row Common (4 * w.geometry.common ∷ []) []
+    ∷ row Out (4 * w.geometry.out ∷ []) []
+    ∷ row Mtu (w.queue.mtu ∷ []) []
+    ∷ row_of_wiring w.wiring
+    ∷ rows_of_peers 0 w.honest
+
+abbrev pub rows_of : World → List (Row Form)
+rows_of w = head_rows w ++ row Begin [] [] ∷ [] ++ map row_of_act w.acts ++ row End [] [] ∷ []
+
+-- the one text of a scenario
+abbrev pub spelling : World → List ℕ
+spelling w = text_of pieces_of (rows_of w)
+
+-- the bytes spell the scenario
+abbrev pub IsSpelling : World → List ℕ → Type 0
+IsSpelling w bytes = IsWorld w × (bytes ≡ spelling w)

@@ -2,3 +2,10 @@ pub mod ActLaws
 pub mod SizeLaws
 pub mod TableLaws
 pub mod FrameLaws
+pub mod Follows
+pub mod ActRowLaws
+pub mod StageLaws
+pub mod BackLaws
+pub mod ReadLaws
+pub mod WholeLaws
+pub mod ForwardLaws

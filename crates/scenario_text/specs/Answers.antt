@@ -1,5 +1,5 @@
 -- What a call answers, against what the definitions say. Want of memory is the one free answer.
-use Rattle.std.specs.Prelude.{◌≡◌, Result, Ok, Err}
+use Rattle.std.specs.Prelude.{◌≡◌, ℕ, Result, Ok, Err}
 use Rattle.scenario_text.specs.declared.faults.Cause.{Cause}
 use Rattle.scenario_text.specs.declared.faults.ScenarioFault.{ScenarioFault}
 use Rattle.scenario_text.specs.declared.faults.ScenarioFault.TheVariants as faults
@@ -8,6 +8,7 @@ use Rattle.scenario_text.specs.declared.failures.Failure.TheVariants.{NoMemory, 
 use Rattle.scenario_text.specs.declared.scenarios.Scenario.{Scenario}
 use Rattle.scenario_text.specs.Scenario.{World}
 use Rattle.scenario_text.specs.Spelling.{world_of}
+use Rattle.scenario_text.specs.Judge.{fault_at}
 
 -- the line is wrong for this cause, unless memory ran out
 abbrev pub Fails : {Y : Type 0} → Failure → Result Y Cause → Type 0
@@ -31,3 +32,7 @@ Reads view (Err e) said = Refuses e said
 -- the scenario is the one, or the fault is the one, unless memory ran out
 abbrev pub Answers : Result Scenario ScenarioFault → Result World ScenarioFault → Type 0
 Answers result said = Reads world_of result said
+
+abbrev pub fault_of_failure : Failure → ℕ → ScenarioFault
+fault_of_failure NoMemory n = faults.NoMemory
+fault_of_failure (Wrong cause) n = fault_at cause n

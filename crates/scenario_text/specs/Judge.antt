@@ -222,10 +222,15 @@ fault_of (At cause n) = fault_at cause n
 fault_of (Behind n) = faults.BadLine n
 fault_of NoEnd = faults.NoEnd
 
-abbrev pub answer_of : Result SoFar (Wrong Cause) → Result World ScenarioFault
-answer_of (Ok d) = Ok (world_so_far d)
-answer_of (Err wrong) = Err (fault_of wrong)
+-- the same with the fault that is answered
+abbrev pub faulted : Result SoFar (Wrong Cause) → Result SoFar ScenarioFault
+faulted (Ok d) = Ok d
+faulted (Err wrong) = Err (fault_of wrong)
+
+abbrev pub world_in : Result SoFar ScenarioFault → Result World ScenarioFault
+world_in (Ok d) = Ok (world_so_far d)
+world_in (Err fault) = Err fault
 
 -- the scenario that a text spells, or its first fault
 abbrev pub answer : List ℕ → Result World ScenarioFault
-answer bytes = answer_of (reading bytes)
+answer bytes = world_in (faulted (reading bytes))

@@ -10,10 +10,12 @@ mod failures;
 mod faults;
 mod forms;
 mod judging;
+mod reading;
 mod scenarios;
 mod stages;
 mod taking;
 
 pub use acts::{Act, Acts, Flags};
 pub use faults::{Cause, ScenarioFault};
+pub use reading::parse;
 pub use scenarios::Scenario;

@@ -1,0 +1,255 @@
+-- The spelling of a scenario is read as the scenario.
+use Rattle.std.proofs.Common.{◌≡◌, ℕ, ◌+◌, ◌*◌, ◌/◌, ◌%◌, ◌^◌, ◌<◌, ◌≤◌, Bool, true, false, cond, eqb, not, ◌||◌, List, [], ◌∷◌, ◌++◌, length, get_or, take, map, Option, Some, None, Result, Ok, Err, refl, sym, ap, subst, ◌∙◌, append_assoc, arith, eq-eqb}
+use Rattle.std.specs.Prelude.{slice_get, decimal}
+use Rattle.std.specs.Option.{option_map_or}
+use Rattle.std.proofs.lemmas.Bool.{ne_eqb}
+use Rattle.std.proofs.lemmas.List.{append-nil, map-append, length-append}
+use Rattle.std.proofs.lemmas.List.Sums.{sum_by_push, sum_by-append}
+use Rattle.line_text.specs.Numbers.{number_of}
+use Rattle.line_text.specs.Rows.{Row, row, text_of, fields_of_row}
+use Rattle.line_text.specs.Machine.{Leads, HasNoNewline, text_of_lines}
+use Rattle.line_text.proofs.NumberLaws.{number_of-decimal}
+use Rattle.line_text.proofs.MachineLaws.{reads}
+use Rattle.line_text.proofs.RowLaws.{bare, row_plain, text_is_lines}
+use Rattle.section_map.specs.Geometry.{Shape, IsShape}
+use Rattle.section_map.specs.Faults.{shape_of}
+use Rattle.split_ring.specs.Layout.{Sizes, IsQueue}
+use Rattle.pci_space.specs.declared.wiring.Wiring.{Wiring}
+use Rattle.pci_space.specs.declared.wiring.Wiring.TheVariants as wirings
+use Rattle.pci_space.specs.Wiring.{IsWiring}
+use Rattle.scenario_text.specs.declared.acts.Act.{Act}
+use Rattle.scenario_text.specs.declared.forms.Form.{Form}
+use Rattle.scenario_text.specs.declared.forms.Form.TheVariants.{Version, Peers, Table, Common, Out, Mtu, Msix, Intx, Honest, Hostile, Begin, End}
+use Rattle.scenario_text.specs.declared.stages.Stage.TheVariants.{AtVersion, AtPeers, AtTable, AtCommon, AtOut, AtMtu, AtWiring, AtPeer, AtBegin, AtActs, Ended}
+use Rattle.scenario_text.specs.Acts.{cost, turns_of}
+use Rattle.scenario_text.specs.Table.{pieces_of, all_forms}
+use Rattle.scenario_text.specs.ActRows.{row_of_act}
+use Rattle.scenario_text.specs.Sizes.{is_geometry, is_queue}
+use Rattle.scenario_text.specs.Scenario.{World, IsWorld, IsAllowed}
+use Rattle.scenario_text.specs.Spelling.{row_of_wiring, row_of_peer, rows_of_peers, rows_of, spelling, IsSpelling}
+use Rattle.scenario_text.specs.Judge.{SoFar, world_so_far, place_of, at_start, has_ended, machine, reading, faulted, world_in, answer, act_of}
+use Rattle.scenario_text.proofs.TableLaws.{is_table}
+use Rattle.scenario_text.proofs.SizeLaws.{HasRegion, is_geometry-true, is_queue-true}
+use Rattle.scenario_text.proofs.Follows.{CanFollow, with_row, step-row, row_of_follows}
+use Rattle.scenario_text.proofs.ActRowLaws.{act_of-row, follows_act}
+
+-- ---- rows that follow one another
+
+-- each row can follow, and none is the end
+abbrev Along : SoFar → List (Row Form) → SoFar → Type 0
+Along d [] e = d ≡ e
+Along d (r ∷ rs) e = CanFollow d r × (has_ended (with_row r d) ≡ false) × Along (with_row r d) rs e
+
+along-append : (d : SoFar) (rs ss : List (Row Form)) (e f : SoFar) → Along d rs e → Along e ss f → Along d (rs ++ ss) f
+along-append d [] ss e f here later = subst (λ (x : SoFar). Along x ss f) (sym here) later
+along-append d (r ∷ rs) ss e f here later = (here.0, here.1, along-append (with_row r d) rs ss e f here.2 later)
+
+leads-cons : (d now : SoFar) (line : List ℕ) (lines : List (List ℕ)) (e : SoFar) → HasNoNewline line → machine.step d line ≡ Ok now → has_ended now ≡ false → Leads machine now lines e → Leads machine d (line ∷ lines) e
+leads-cons d now line [] e plain is on leads = absurd leads
+leads-cons d now line (next ∷ more) e plain is on leads = (now, plain, is, on, leads)
+
+-- rows up to the last are lines that lead to the end
+leads : (d : SoFar) (rs : List (Row Form)) (e : SoFar) (r : Row Form) (f : SoFar) → Along d rs e → CanFollow e r → with_row r e ≡ f → has_ended f ≡ true → Leads machine d (map (bare pieces_of) (rs ++ r ∷ [])) f
+leads d [] e r f along can gives ended =
+    let can' = subst (λ (x : SoFar). CanFollow x r) (sym along) can in
+    let gives' = ap (with_row r) along ∙ gives in
+    (row_plain pieces_of all_forms is_table r (row_of_follows d r can'), step-row d r can' ∙ ap (λ (x : SoFar). Ok x) gives', ended)
+leads d (s ∷ rs) e r f along can gives ended =
+    leads-cons d (with_row s d) (bare pieces_of s) (map (bare pieces_of) (rs ++ r ∷ [])) f (row_plain pieces_of all_forms is_table s (row_of_follows d s along.0)) (step-row d s along.0) along.1 (leads (with_row s d) rs e r f along.2 can gives ended)
+
+-- ---- the head
+
+quiet : (o : Option ℕ) → option_map_or (λ p. false) o false ≡ false
+quiet (Some n) = refl
+quiet None = refl
+
+-- a head of these sizes, up to the wiring
+abbrev at_wiring : (peers table common out mtu : ℕ) → SoFar
+at_wiring peers table common out mtu = record { stage = AtWiring; peers = peers; table = table; common = common; out = out; mtu = mtu; wiring = wirings.Intx; honest = []; acts = [] }
+
+abbrev sizes_rows : (peers table common out mtu : ℕ) → List (Row Form)
+sizes_rows peers table common out mtu = row Version (1 ∷ []) [] ∷ row Peers (peers ∷ []) [] ∷ row Table (table ∷ []) [] ∷ row Common (common ∷ []) [] ∷ row Out (out ∷ []) [] ∷ row Mtu (mtu ∷ []) [] ∷ []
+
+sizes_along : (peers table common out mtu : ℕ) → (2 ≤ peers) × (peers ≤ 8) → table < 2 ^ 32 → common < 2 ^ 64 → out < 2 ^ 64 → mtu < 2 ^ 32
+    → is_geometry peers table common out ≡ true → is_queue (record { out = out; mtu = mtu }) ≡ true
+    → Along at_start (sizes_rows peers table common out mtu) (at_wiring peers table common out mtu)
+sizes_along peers table common out mtu few t c o m geometry queue =
+  (record { values = (omega arith, omega arith, tt); bytes = refl; order = quiet _; range = refl; peer = refl; frame = refl; sizes = refl; turns = omega arith }, refl,
+  (record { values = (few.0, few.1, tt); bytes = refl; order = quiet _; range = refl; peer = refl; frame = refl; sizes = refl; turns = omega arith }, refl,
+  (record { values = (omega arith, omega arith, tt); bytes = refl; order = quiet _; range = refl; peer = refl; frame = refl; sizes = refl; turns = omega arith }, refl,
+  (record { values = (omega arith, omega arith, tt); bytes = refl; order = quiet _; range = refl; peer = refl; frame = refl; sizes = refl; turns = omega arith }, refl,
+  (record { values = (omega arith, omega arith, tt); bytes = refl; order = quiet _; range = refl; peer = refl; frame = refl; sizes = geometry; turns = omega arith }, refl,
+  (record { values = (omega arith, omega arith, tt); bytes = refl; order = quiet _; range = refl; peer = refl; frame = refl; sizes = queue; turns = omega arith }, refl,
+  refl))))))
+
+-- with these first flags; where there is one for each peer, `begin` comes next
+abbrev at_peers : (peers table common out mtu : ℕ) → Wiring → List Bool → SoFar
+at_peers peers table common out mtu wiring front = record { stage = cond (eqb (length front) peers) AtBegin AtPeer; peers = peers; table = table; common = common; out = out; mtu = mtu; wiring = wiring; honest = front; acts = [] }
+
+wiring_along : (peers table common out mtu : ℕ) (wiring : Wiring) → 2 ≤ peers → IsWiring wiring → Along (at_wiring peers table common out mtu) (row_of_wiring wiring ∷ []) (at_peers peers table common out mtu wiring [])
+wiring_along peers table common out mtu (wirings.Msix vectors) some is =
+    let open_ : eqb 0 peers ≡ false = ne_eqb 0 peers (λ none. omega arith) in
+    (record { values = (is.0, is.1, tt); bytes = refl; order = quiet _; range = refl; peer = refl; frame = refl; sizes = refl; turns = omega arith }, refl, rw open_ refl)
+wiring_along peers table common out mtu wirings.Intx some is =
+    let open_ : eqb 0 peers ≡ false = ne_eqb 0 peers (λ none. omega arith) in
+    (record { values = tt; bytes = refl; order = quiet _; range = refl; peer = refl; frame = refl; sizes = refl; turns = omega arith }, refl, rw open_ refl)
+
+not_ended : (full : Bool) → eqb (place_of (cond full AtBegin AtPeer)) 10 ≡ false
+not_ended true = refl
+not_ended false = refl
+
+same_number : (p n : ℕ) → p ≡ n → p < 2 ^ 64 → option_map_or (λ q. not (eqb q n)) (number_of (decimal p)) false ≡ false
+same_number p n same small = rw (number_of-decimal p small, same, eq-eqb n n refl) refl
+
+peer_follows : (peers table common out mtu : ℕ) (wiring : Wiring) (front : List Bool) (p : ℕ) (b : Bool) → p ≡ length front → length front < peers → peers ≤ 8 → CanFollow (at_peers peers table common out mtu wiring front) (row_of_peer p b)
+peer_follows peers table common out mtu wiring front p true same less few =
+    let open_ : eqb (length front) peers ≡ false = ne_eqb (length front) peers (λ full. omega arith) in
+    record { values = (omega arith, omega arith, tt); bytes = refl; order = rw open_ (same_number p (length front) same (omega arith)); range = refl; peer = refl; frame = refl; sizes = refl; turns = omega arith }
+peer_follows peers table common out mtu wiring front p false same less few =
+    let open_ : eqb (length front) peers ≡ false = ne_eqb (length front) peers (λ full. omega arith) in
+    record { values = (omega arith, omega arith, tt); bytes = refl; order = rw open_ (same_number p (length front) same (omega arith)); range = refl; peer = refl; frame = refl; sizes = refl; turns = omega arith }
+
+peer_gives : (peers table common out mtu : ℕ) (wiring : Wiring) (front : List Bool) (p : ℕ) (b : Bool) → with_row (row_of_peer p b) (at_peers peers table common out mtu wiring front) ≡ at_peers peers table common out mtu wiring (front ++ b ∷ [])
+peer_gives peers table common out mtu wiring front p true = refl
+peer_gives peers table common out mtu wiring front p false = refl
+
+peers_along : (peers table common out mtu : ℕ) (wiring : Wiring) (front rest : List Bool) (p : ℕ) → p ≡ length front → length front + length rest ≡ peers → peers ≤ 8
+    → Along (at_peers peers table common out mtu wiring front) (rows_of_peers p rest) (at_peers peers table common out mtu wiring (front ++ rest))
+peers_along peers table common out mtu wiring front [] p same all few = ap (at_peers peers table common out mtu wiring) (sym (append-nil front))
+peers_along peers table common out mtu wiring front (b ∷ rest) p same all few =
+    let one : length (front ++ b ∷ []) ≡ length front + 1 = length-append front (b ∷ []) in
+    let P : SoFar → Type 0 = λ x. (has_ended x ≡ false) × Along x (rows_of_peers (p + 1) rest) (at_peers peers table common out mtu wiring (front ++ b ∷ rest)) in
+    let whole : (front ++ b ∷ []) ++ rest ≡ front ++ b ∷ rest = append_assoc front (b ∷ []) rest in
+    let later = subst (λ (bs : List Bool). Along (at_peers peers table common out mtu wiring (front ++ b ∷ [])) (rows_of_peers (p + 1) rest) (at_peers peers table common out mtu wiring bs)) whole
+      (peers_along peers table common out mtu wiring (front ++ b ∷ []) rest (p + 1) (omega arith) (omega arith) few) in
+    let t = subst P (sym (peer_gives peers table common out mtu wiring front p b)) (not_ended _, later) in
+    (peer_follows peers table common out mtu wiring front p b same (omega arith) few, t.0, t.1)
+
+-- ---- the acts
+
+-- at the acts of this world, behind these
+abbrev at_acts : World → List Act → SoFar
+at_acts w front = record { stage = AtActs; peers = w.geometry.peers; table = 4 * w.geometry.table; common = 4 * w.geometry.common; out = 4 * w.geometry.out; mtu = w.queue.mtu; wiring = w.wiring; honest = w.honest; acts = front }
+
+quarter : (n : ℕ) → 4 * n / 4 ≡ n
+quarter n = omega arith
+
+-- the sizes in bytes are those in words
+world_is : (w : World) (front : List Act) → IsWorld w → world_so_far (at_acts w front) ≡ record w { acts = front }
+world_is w front is =
+    rw (quarter w.geometry.table, quarter w.geometry.common, quarter w.geometry.out, ← is.version, ← is.out) refl
+
+act_gives : (d : SoFar) (a : Act) → with_row (row_of_act a) d ≡ record d { acts = d.acts ++ a ∷ [] }
+act_gives d a = rw (act_of-row a) refl
+
+act_at : (front : List Act) (a : Act) (rest : List Act) → slice_get (front ++ a ∷ rest) (length front) ≡ Some a
+act_at [] a rest = refl
+act_at (b ∷ front) a rest = act_at front a rest
+
+front_of : (front rest : List Act) → take (length front) (front ++ rest) ≡ front
+front_of [] rest = refl
+front_of (b ∷ front) rest = ap (λ (t : List Act). b ∷ t) (front_of front rest)
+
+acts_along : (w : World) (front rest : List Act) → IsWorld w → w.acts ≡ front ++ rest → Along (at_acts w front) (map row_of_act rest) (at_acts w (front ++ rest))
+acts_along w front [] is all = ap (at_acts w) (sym (append-nil front))
+acts_along w front (a ∷ rest) is all =
+    let at : slice_get w.acts (length front) ≡ Some a = rw all (act_at front a rest) in
+    let here : take (length front) w.acts ≡ front = rw all (front_of front (a ∷ rest)) in
+    let allowed : IsAllowed w front a = subst (λ (before : List Act). IsAllowed w before a) here (is.allowed (length front) a at) in
+    let allowed' : IsAllowed (record w { acts = front }) front a = record { values = allowed.values; bytes = allowed.bytes; order = allowed.order; range = allowed.range; peer = allowed.peer; frame = allowed.frame } in
+    let allowed'' : IsAllowed (world_so_far (at_acts w front)) front a = subst (λ (x : World). IsAllowed x front a) (sym (world_is w front is)) allowed' in
+    let whole : (front ++ a ∷ []) ++ rest ≡ front ++ a ∷ rest = append_assoc front (a ∷ []) rest in
+    let up_to : turns_of (front ++ a ∷ []) ≡ turns_of front + cost a = sum_by_push cost front a in
+    let turns : turns_of (front ++ a ∷ []) + turns_of rest ≡ turns_of w.acts = sym (sum_by-append cost (front ++ a ∷ []) rest) ∙ ap turns_of (whole ∙ sym all) in
+    let most = is.turns in
+    let few : turns_of front + cost a ≤ 4000000 = omega arith in
+    let later = subst (λ (acts : List Act). Along (at_acts w (front ++ a ∷ [])) (map row_of_act rest) (at_acts w acts)) whole (acts_along w (front ++ a ∷ []) rest is (all ∙ sym whole)) in
+    let P : SoFar → Type 0 = λ x. (has_ended x ≡ false) × Along x (map row_of_act rest) (at_acts w (front ++ a ∷ rest)) in
+    let t = subst P (sym (act_gives (at_acts w front) a)) (refl, later) in
+    (follows_act (at_acts w front) a refl allowed'' few, t.0, t.1)
+
+-- ---- the whole text
+
+whole_pages : (n : ℕ) → n % 1024 ≡ 0 → (4 * n) % 4096 ≡ 0
+whole_pages n is = omega arith
+
+region_of : (g : Shape) → IsShape g → HasRegion g.peers (4 * g.table) (4 * g.common) (4 * g.out)
+region_of g is =
+    let tables = is.table_pages in
+    let commons = is.common_pages in
+    let outs = is.out_pages in
+    let t_some = is.table_page in
+    let o_some = is.out_page in
+    let states = is.states in
+    let room = is.room in
+    let sections : g.peers * (4 * g.out) ≡ 4 * (g.peers * g.out) = swap g.peers g.out in
+    record {
+      count = (is.two_peers, is.most_peers);
+      table_pages = (omega arith, whole_pages g.table tables);
+      common_pages = whole_pages g.common commons;
+      out_pages = (omega arith, whole_pages g.out outs);
+      states = omega arith;
+      room = omega arith;
+    }
+  where
+    swap : (p n : ℕ) → p * (4 * n) ≡ 4 * (p * n)
+    swap p n = omega arith
+
+abbrev at_end : World → SoFar
+at_end w = record { stage = Ended; peers = w.geometry.peers; table = 4 * w.geometry.table; common = 4 * w.geometry.common; out = 4 * w.geometry.out; mtu = w.queue.mtu; wiring = w.wiring; honest = w.honest; acts = w.acts }
+
+abbrev measured : World → List (Row Form)
+measured w = sizes_rows w.geometry.peers (4 * w.geometry.table) (4 * w.geometry.common) (4 * w.geometry.out) w.queue.mtu
+
+abbrev wired : World → List (Row Form)
+wired w = measured w ++ row_of_wiring w.wiring ∷ []
+
+abbrev flagged : World → List (Row Form)
+flagged w = wired w ++ rows_of_peers 0 w.honest
+
+abbrev begun : World → List (Row Form)
+begun w = flagged w ++ row Begin [] [] ∷ []
+
+abbrev acted : World → List (Row Form)
+acted w = begun w ++ map row_of_act w.acts
+
+-- up to `begin`
+head_along : (w : World) → IsWorld w → Along at_start (begun w) (at_acts w [])
+head_along w is =
+    let g = w.geometry in
+    let region = region_of g is.geometry in
+    let two = is.geometry.two_peers in
+    let few = is.few in
+    let room = is.geometry.room in
+    let t : 4 * g.table < 2 ^ 32 = omega arith in
+    let c : 4 * g.common < 2 ^ 64 = omega arith in
+    let section = is.queue.section in
+    let same_out = is.out in
+    let o : 4 * g.out < 2 ^ 64 = omega arith in
+    let most = is.queue.mtu_most in
+    let m : w.queue.mtu < 2 ^ 32 = omega arith in
+    let queue : is_queue (record { out = 4 * g.out; mtu = w.queue.mtu }) ≡ true = rw (← same_out) (is_queue-true w.queue is.queue) in
+    let measured_state : SoFar = at_wiring g.peers (4 * g.table) (4 * g.common) (4 * g.out) w.queue.mtu in
+    let wired_state : SoFar = at_peers g.peers (4 * g.table) (4 * g.common) (4 * g.out) w.queue.mtu w.wiring [] in
+    let sizes = sizes_along g.peers (4 * g.table) (4 * g.common) (4 * g.out) w.queue.mtu (two, few) t c o m (is_geometry-true _ _ _ _ region) queue in
+    let wires = wiring_along g.peers (4 * g.table) (4 * g.common) (4 * g.out) w.queue.mtu w.wiring two is.wiring in
+    let flags = is.flags in
+    let peers = peers_along g.peers (4 * g.table) (4 * g.common) (4 * g.out) w.queue.mtu w.wiring [] w.honest 0 refl (omega arith) few in
+    let full : eqb (length w.honest) g.peers ≡ true = eq-eqb _ _ flags in
+    let full_state : SoFar = at_peers g.peers (4 * g.table) (4 * g.common) (4 * g.out) w.queue.mtu w.wiring w.honest in
+    let begin : CanFollow full_state (row Begin [] []) = record { values = tt; bytes = refl; order = rw full refl; range = refl; peer = refl; frame = refl; sizes = refl; turns = omega arith } in
+    let last : Along full_state (row Begin [] [] ∷ []) (at_acts w []) = (begin, refl, refl) in
+    along-append at_start (flagged w) (row Begin [] [] ∷ []) full_state (at_acts w [])
+      (along-append at_start (wired w) (rows_of_peers 0 w.honest) wired_state full_state (along-append at_start (measured w) (row_of_wiring w.wiring ∷ []) measured_state wired_state sizes wires) peers) last
+
+pub is_answered : (w : World) (bytes : List ℕ) → IsSpelling w bytes → answer bytes ≡ Ok w
+is_answered w bytes is =
+    let world = is.0 in
+    let acts = acts_along w [] w.acts world refl in
+    let all = along-append at_start (begun w) (map row_of_act w.acts) (at_acts w []) (at_acts w w.acts) (head_along w world) acts in
+    let end : CanFollow (at_acts w w.acts) (row End [] []) = record { values = tt; bytes = refl; order = refl; range = refl; peer = refl; frame = refl; sizes = refl; turns = omega arith } in
+    let lines = leads at_start (acted w) (at_acts w w.acts) (row End [] []) (at_end w) all end refl refl in
+    let read : reading (text_of_lines (map (bare pieces_of) (rows_of w))) ≡ Ok (at_end w) = rw world.version (reads machine at_start 0 (map (bare pieces_of) (acted w ++ row End [] [] ∷ [])) (at_end w) lines) in
+    let text : bytes ≡ text_of_lines (map (bare pieces_of) (rows_of w)) = is.1 ∙ text_is_lines pieces_of (rows_of w) in
+    let same : world_so_far (at_end w) ≡ w = world_is w w.acts world in
+    ap (λ (t : List ℕ). world_in (faulted (reading t))) text ∙ ap (λ x. world_in (faulted x)) read ∙ ap (λ (x : World). Ok x) same

@@ -1,0 +1,39 @@
+-- A text is read exactly where it is the spelling of what is read.
+use Rattle.std.proofs.Common.{◌≡◌, ℕ, ◌+◌, List, Result, Ok, Err, refl, sym, ap, subst, ◌∙◌}
+use Rattle.std.specs.Prelude.{IfOk}
+use Rattle.line_text.specs.Machine.{Wrong}
+use Rattle.scenario_text.specs.declared.faults.Cause.{Cause}
+use Rattle.scenario_text.specs.declared.faults.ScenarioFault.{ScenarioFault}
+use Rattle.scenario_text.specs.declared.scenarios.Scenario.{Scenario}
+use Rattle.scenario_text.specs.Scenario.{World}
+use Rattle.scenario_text.specs.Spelling.{IsSpelling, world_of}
+use Rattle.scenario_text.specs.Judge.{SoFar, world_so_far, reading, faulted, world_in, answer}
+use Rattle.scenario_text.specs.Answers.{Refuses}
+use Rattle.scenario_text.specs.Drafts.{IsWhole}
+use Rattle.scenario_text.proofs.SizeLaws.{is_geometry-true, is_queue-true}
+use Rattle.scenario_text.proofs.ReadLaws.{same_fault}
+use Rattle.scenario_text.proofs.ForwardLaws.{is_answered}
+use Rattle.scenario_text.proofs.BackLaws.{IsRead, is_read, is_world}
+
+read_of : (said : Result SoFar (Wrong Cause)) (d : SoFar) → faulted said ≡ Ok d → said ≡ Ok d
+read_of (Ok e) d is = ap (λ (x : SoFar). Ok x) (same e d is)
+  where
+    same : (e d : SoFar) → ◌≡◌ {A = Result SoFar ScenarioFault} (Ok e) (Ok d) → e ≡ d
+    same e d is = cc
+read_of (Err wrong) d is = absurd cc
+
+pub is_whole : (bytes : List ℕ) (d : SoFar) → faulted (reading bytes) ≡ Ok d → IsWhole d
+is_whole bytes d is =
+    let r = is_read bytes d (read_of (reading bytes) d is) in
+    record { geometry = is_geometry-true _ _ _ _ r.good.0.region; queue = is_queue-true _ r.good.0.queue; world = is_world d r.good }
+
+pub is_spelled : (bytes : List ℕ) (d : SoFar) (w : World) → faulted (reading bytes) ≡ Ok d → w ≡ world_so_far d → IsSpelling w bytes
+is_spelled bytes d w is same =
+    let r = is_read bytes d (read_of (reading bytes) d is) in
+    subst (λ (x : World). IsSpelling x bytes) (sym same) (is_world d r.good, r.text)
+
+pub only_ok : (bytes : List ℕ) (d : SoFar) (read w : World) → faulted (reading bytes) ≡ Ok d → read ≡ world_so_far d → IsSpelling w bytes → ◌≡◌ {A = Result World ScenarioFault} (Ok w) (Ok read)
+only_ok bytes d read w is same spelled = sym (is_answered w bytes spelled) ∙ ap world_in is ∙ ap (λ (x : World). Ok x) (sym same)
+
+pub only_err : (bytes : List ℕ) (fault : ScenarioFault) (w : World) → Refuses fault (faulted (reading bytes)) → IsSpelling w bytes → Refuses {Y = World} fault (Ok w)
+only_err bytes fault w is spelled = subst (λ (said : Result World ScenarioFault). Refuses fault said) (is_answered w bytes spelled) (same_fault fault (faulted (reading bytes)) is)

@@ -1,20 +1,20 @@
 -- Rows of acts: each act form's row is an act's, and an act is allowed exactly where its row can follow.
-use Rattle.std.proofs.Common.{◌≡◌, ℕ, suc, ◌+◌, ◌-◌, ◌^◌, ◌<◌, ◌≤◌, Bool, true, false, not, eqb, ◌||◌, List, [], ◌∷◌, length, get_or, take, Option, Some, None, refl, sym, ap, subst, ◌∙◌, arith}
+use Rattle.std.proofs.Common.{◌≡◌, ℕ, suc, ◌+◌, ◌-◌, ◌^◌, ◌≤◌, Bool, true, false, List, [], ◌∷◌, length, get_or, Some, refl, sym, ap, ◌∙◌, arith}
 use Rattle.std.specs.Prelude.{option_and_then, slice_get, decimal}
 use Rattle.std.specs.Option.{option_map_or}
 use Rattle.line_text.specs.Numbers.{number_of}
-use Rattle.line_text.specs.Forms.{Piece, Word, Number, Hex, spell, Fit, FitBytes}
-use Rattle.line_text.specs.Rows.{Row, row, fields_of_row}
+use Rattle.line_text.specs.Forms.{Piece, Word, Number, Hex, Fit, FitBytes}
+use Rattle.line_text.specs.Rows.{row, fields_of_row}
 use Rattle.line_text.proofs.NumberLaws.{number_of-decimal}
 use Rattle.scenario_text.specs.declared.acts.Act.{Act}
 use Rattle.scenario_text.specs.declared.acts.Act.TheVariants as acts
 use Rattle.scenario_text.specs.declared.forms.Form.{Form}
-use Rattle.scenario_text.specs.declared.forms.Form.TheVariants.{Version, Peers, Table, Common, Out, Mtu, Msix, Intx, Honest, Hostile, Begin, Tick, Offer, Poll, Stop, Auto, Storm, Turn, Reset, Poke, Peek, Set, Ring, CfgRead, CfgWrite, MmioRead, MmioWrite, MsixRead, MsixWrite, Lose, Again, End}
+use Rattle.scenario_text.specs.declared.forms.Form.TheVariants.{Tick, Offer, Poll, Stop, Auto, Storm, Turn, Reset, Poke, Peek, Set, Ring, CfgRead, CfgWrite, MmioRead, MmioWrite, MsixRead, MsixWrite, Lose, Again}
 use Rattle.scenario_text.specs.declared.stages.Stage.TheVariants.{AtActs}
 use Rattle.scenario_text.specs.Acts.{cost, turns_of, peer_of}
-use Rattle.scenario_text.specs.Table.{pieces_of, any_number}
+use Rattle.scenario_text.specs.Table.{pieces_of}
 use Rattle.scenario_text.specs.ActRows.{row_of_act}
-use Rattle.scenario_text.specs.Scenario.{World, is_too_late, IsAllowed}
+use Rattle.scenario_text.specs.Scenario.{is_too_late, IsAllowed}
 use Rattle.scenario_text.specs.Judge.{SoFar, world_so_far, is_out_of_turn, is_out_of_order, act_of, is_act, fits_sizes}
 use Rattle.scenario_text.proofs.Follows.{CanFollow}
 

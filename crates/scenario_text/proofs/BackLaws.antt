@@ -1,5 +1,5 @@
 -- What is read is a scenario, and the text is its spelling.
-use Rattle.std.proofs.Common.{◌≡◌, ℕ, ◌+◌, ◌*◌, ◌/◌, ◌%◌, ◌<◌, ◌≤◌, Bool, true, false, eqb, List, [], ◌∷◌, ◌++◌, length, map, Result, Ok, Err, refl, sym, ap, subst, ◌∙◌, append_assoc, arith}
+use Rattle.std.proofs.Common.{◌≡◌, ℕ, ◌*◌, ◌/◌, ◌%◌, true, List, [], ◌∷◌, ◌++◌, map, Ok, refl, sym, ap, subst, ◌∙◌, append_assoc, arith}
 use Rattle.std.proofs.lemmas.List.{append-nil}
 use Rattle.std.proofs.lemmas.List.Concat.{flat_map-append, flat_map-cons}
 use Rattle.line_text.specs.Rows.{Row, row, line_of_row, text_of}
@@ -10,17 +10,16 @@ use Rattle.section_map.specs.Geometry.{IsShape}
 use Rattle.section_map.specs.Faults.{shape_of}
 use Rattle.scenario_text.specs.declared.forms.Form.{Form}
 use Rattle.scenario_text.specs.declared.forms.Form.TheVariants.{Version, Peers, Table, Common, Out, Mtu, Begin, End}
-use Rattle.scenario_text.specs.declared.faults.Cause.{Cause}
 use Rattle.scenario_text.specs.declared.stages.Stage.{Stage}
-use Rattle.scenario_text.specs.declared.stages.Stage.TheVariants.{AtVersion, Ended}
+use Rattle.scenario_text.specs.declared.stages.Stage.TheVariants.{Ended}
 use Rattle.scenario_text.specs.Table.{pieces_of}
 use Rattle.scenario_text.specs.ActRows.{row_of_act}
-use Rattle.scenario_text.specs.Scenario.{World, IsWorld}
-use Rattle.scenario_text.specs.Spelling.{row_of_wiring, rows_of_peers, rows_of, spelling, IsSpelling}
-use Rattle.scenario_text.specs.Judge.{SoFar, world_so_far, place_of, at_start, has_ended, machine, step, reading}
+use Rattle.scenario_text.specs.Scenario.{IsWorld}
+use Rattle.scenario_text.specs.Spelling.{row_of_wiring, rows_of_peers, rows_of, spelling}
+use Rattle.scenario_text.specs.Judge.{SoFar, world_so_far, at_start, has_ended, machine, step, reading}
 use Rattle.scenario_text.proofs.SizeLaws.{HasRegion}
-use Rattle.scenario_text.proofs.Follows.{CanFollow, with_row, Taken, step-ok}
-use Rattle.scenario_text.proofs.StageLaws.{Good, before, Adds, row_adds, same_place, Clean}
+use Rattle.scenario_text.proofs.Follows.{step-ok}
+use Rattle.scenario_text.proofs.StageLaws.{Good, before, row_adds, same_place}
 
 text-append : (rs : List (Row Form)) (r : Row Form) (rest : List ℕ) → text_of pieces_of (rs ++ r ∷ []) ++ rest ≡ text_of pieces_of rs ++ (bare pieces_of r ++ 10 ∷ rest)
 text-append rs r rest =
@@ -46,9 +45,9 @@ behind d line e good is =
     record {
       good = subst P t.gives a.good;
       text = λ rest.
-        ap (λ (l : List ℕ). text_of pieces_of (before d.stage d) ++ (l ++ 10 ∷ rest)) t.line_is_row
-        ∙ sym (text-append (before d.stage d) t.taken rest)
-        ∙ ap (λ (rs : List (Row Form)). text_of pieces_of rs ++ rest) (sym rows);
+          ap (λ (l : List ℕ). text_of pieces_of (before d.stage d) ++ (l ++ 10 ∷ rest)) t.line_is_row
+          ∙ sym (text-append (before d.stage d) t.taken rest)
+          ∙ ap (λ (rs : List (Row Form)). text_of pieces_of rs ++ rest) (sym rows);
     }
 
 -- what holds at the end
@@ -119,7 +118,7 @@ rows_are e good =
     let o : 4 * (e.out / 4) ≡ e.out = whole_pages e.out good.0.region.out_pages.1 in
     let behind_head : List (Row Form) = row_of_wiring e.wiring ∷ rows_of_peers 0 e.honest in
     let head : (row Version (1 ∷ []) [] ∷ row Peers (e.peers ∷ []) [] ∷ row Table (e.table ∷ []) [] ∷ row Common (e.common ∷ []) [] ∷ row Out (e.out ∷ []) [] ∷ row Mtu (e.mtu ∷ []) [] ∷ behind_head)
-        ≡ (row Version (1 ∷ []) [] ∷ row Peers (e.peers ∷ []) [] ∷ row Table (4 * (e.table / 4) ∷ []) [] ∷ row Common (4 * (e.common / 4) ∷ []) [] ∷ row Out (4 * (e.out / 4) ∷ []) [] ∷ row Mtu (e.mtu ∷ []) [] ∷ behind_head) = rw (t, c, o) refl in
+    ≡ (row Version (1 ∷ []) [] ∷ row Peers (e.peers ∷ []) [] ∷ row Table (4 * (e.table / 4) ∷ []) [] ∷ row Common (4 * (e.common / 4) ∷ []) [] ∷ row Out (4 * (e.out / 4) ∷ []) [] ∷ row Mtu (e.mtu ∷ []) [] ∷ behind_head) = rw (t, c, o) refl in
     ap (λ (rs : List (Row Form)). rs ++ row Begin [] [] ∷ [] ++ map row_of_act e.acts ++ row End [] [] ∷ []) head
 
 pub ended_is : (e : SoFar) → has_ended e ≡ true → e.stage ≡ Ended

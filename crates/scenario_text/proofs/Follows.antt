@@ -1,6 +1,5 @@
 -- A row that can follow is taken, and a line that is taken is the line of a row that can follow.
-use Rattle.std.proofs.Common.{◌≡◌, ℕ, ◌+◌, ◌<◌, ◌≤◌, Bool, true, false, cond, ltb, not, List, [], ◌∷◌, length, Option, Some, None, Result, Ok, Err, refl, sym, ap, subst, ◌∙◌}
-use Rattle.std.specs.Prelude.{option_and_then}
+use Rattle.std.proofs.Common.{◌≡◌, ℕ, ◌≤◌, true, false, cond, ltb, not, List, length, Some, None, Ok, refl, ap, ◌∙◌}
 use Rattle.std.specs.List.{list_all}
 use Rattle.std.proofs.lemmas.Bool.{le-ltb, ltb-false}
 use Rattle.std.proofs.lemmas.Option.{option_and_then_some}
@@ -9,10 +8,9 @@ use Rattle.line_text.specs.Rows.{Row, row, fields_of_row, find_form}
 use Rattle.line_text.specs.Steps.{◌>>=◌, some_or}
 use Rattle.line_text.proofs.SpellLaws.{numbers_of-spell, IsSpelled, spelled}
 use Rattle.line_text.proofs.StepLaws.{bind_ok, guard_ok, pass_ok, some_or-ok, if_some, not_false, same_ok}
-use Rattle.line_text.proofs.TableLaws.{IsTable, finds, found}
+use Rattle.line_text.proofs.TableLaws.{finds, found}
 use Rattle.line_text.proofs.RowLaws.{IsRow, bare, row_printable, row_cut, hex_of-spell, line_is}
 use Rattle.scenario_text.specs.declared.forms.Form.{Form}
-use Rattle.scenario_text.specs.declared.faults.Cause.{Cause}
 use Rattle.scenario_text.specs.declared.faults.Cause.TheVariants.{BadLine, BadOrder, BadNumber, BadPeer, BadFrame, BadGeometry, TooManyTurns}
 use Rattle.scenario_text.specs.Table.{pieces_of, all_forms}
 use Rattle.scenario_text.specs.Scenario.{is_in_range, is_its_peer, is_frame_size}

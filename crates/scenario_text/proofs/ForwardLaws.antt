@@ -1,33 +1,31 @@
 -- The spelling of a scenario is read as the scenario.
-use Rattle.std.proofs.Common.{◌≡◌, ℕ, ◌+◌, ◌*◌, ◌/◌, ◌%◌, ◌^◌, ◌<◌, ◌≤◌, Bool, true, false, cond, eqb, not, ◌||◌, List, [], ◌∷◌, ◌++◌, length, get_or, take, map, Option, Some, None, Result, Ok, Err, refl, sym, ap, subst, ◌∙◌, append_assoc, arith, eq-eqb}
+use Rattle.std.proofs.Common.{◌≡◌, ℕ, ◌+◌, ◌*◌, ◌/◌, ◌%◌, ◌^◌, ◌<◌, ◌≤◌, Bool, true, false, cond, eqb, not, List, [], ◌∷◌, ◌++◌, length, take, map, Option, Some, None, Ok, refl, sym, ap, subst, ◌∙◌, append_assoc, arith, eq-eqb}
 use Rattle.std.specs.Prelude.{slice_get, decimal}
 use Rattle.std.specs.Option.{option_map_or}
 use Rattle.std.proofs.lemmas.Bool.{ne_eqb}
-use Rattle.std.proofs.lemmas.List.{append-nil, map-append, length-append}
+use Rattle.std.proofs.lemmas.List.{append-nil, length-append}
 use Rattle.std.proofs.lemmas.List.Sums.{sum_by_push, sum_by-append}
 use Rattle.line_text.specs.Numbers.{number_of}
-use Rattle.line_text.specs.Rows.{Row, row, text_of, fields_of_row}
+use Rattle.line_text.specs.Rows.{Row, row}
 use Rattle.line_text.specs.Machine.{Leads, HasNoNewline, text_of_lines}
 use Rattle.line_text.proofs.NumberLaws.{number_of-decimal}
 use Rattle.line_text.proofs.MachineLaws.{reads}
 use Rattle.line_text.proofs.RowLaws.{bare, row_plain, text_is_lines}
 use Rattle.section_map.specs.Geometry.{Shape, IsShape}
-use Rattle.section_map.specs.Faults.{shape_of}
-use Rattle.split_ring.specs.Layout.{Sizes, IsQueue}
 use Rattle.pci_space.specs.declared.wiring.Wiring.{Wiring}
 use Rattle.pci_space.specs.declared.wiring.Wiring.TheVariants as wirings
 use Rattle.pci_space.specs.Wiring.{IsWiring}
 use Rattle.scenario_text.specs.declared.acts.Act.{Act}
 use Rattle.scenario_text.specs.declared.forms.Form.{Form}
-use Rattle.scenario_text.specs.declared.forms.Form.TheVariants.{Version, Peers, Table, Common, Out, Mtu, Msix, Intx, Honest, Hostile, Begin, End}
-use Rattle.scenario_text.specs.declared.stages.Stage.TheVariants.{AtVersion, AtPeers, AtTable, AtCommon, AtOut, AtMtu, AtWiring, AtPeer, AtBegin, AtActs, Ended}
+use Rattle.scenario_text.specs.declared.forms.Form.TheVariants.{Version, Peers, Table, Common, Out, Mtu, Begin, End}
+use Rattle.scenario_text.specs.declared.stages.Stage.TheVariants.{AtWiring, AtPeer, AtBegin, AtActs, Ended}
 use Rattle.scenario_text.specs.Acts.{cost, turns_of}
 use Rattle.scenario_text.specs.Table.{pieces_of, all_forms}
 use Rattle.scenario_text.specs.ActRows.{row_of_act}
 use Rattle.scenario_text.specs.Sizes.{is_geometry, is_queue}
 use Rattle.scenario_text.specs.Scenario.{World, IsWorld, IsAllowed}
 use Rattle.scenario_text.specs.Spelling.{row_of_wiring, row_of_peer, rows_of_peers, rows_of, spelling, IsSpelling}
-use Rattle.scenario_text.specs.Judge.{SoFar, world_so_far, place_of, at_start, has_ended, machine, reading, faulted, world_in, answer, act_of}
+use Rattle.scenario_text.specs.Judge.{SoFar, world_so_far, place_of, at_start, has_ended, machine, reading, faulted, world_in, answer}
 use Rattle.scenario_text.proofs.TableLaws.{is_table}
 use Rattle.scenario_text.proofs.SizeLaws.{HasRegion, is_geometry-true, is_queue-true}
 use Rattle.scenario_text.proofs.Follows.{CanFollow, with_row, step-row, row_of_follows}
@@ -73,14 +71,31 @@ sizes_rows peers table common out mtu = row Version (1 ∷ []) [] ∷ row Peers 
 sizes_along : (peers table common out mtu : ℕ) → (2 ≤ peers) × (peers ≤ 8) → table < 2 ^ 32 → common < 2 ^ 64 → out < 2 ^ 64 → mtu < 2 ^ 32
     → is_geometry peers table common out ≡ true → is_queue (record { out = out; mtu = mtu }) ≡ true
     → Along at_start (sizes_rows peers table common out mtu) (at_wiring peers table common out mtu)
-sizes_along peers table common out mtu few t c o m geometry queue =
-  (record { values = (omega arith, omega arith, tt); bytes = refl; order = quiet _; range = refl; peer = refl; frame = refl; sizes = refl; turns = omega arith }, refl,
-  (record { values = (few.0, few.1, tt); bytes = refl; order = quiet _; range = refl; peer = refl; frame = refl; sizes = refl; turns = omega arith }, refl,
-  (record { values = (omega arith, omega arith, tt); bytes = refl; order = quiet _; range = refl; peer = refl; frame = refl; sizes = refl; turns = omega arith }, refl,
-  (record { values = (omega arith, omega arith, tt); bytes = refl; order = quiet _; range = refl; peer = refl; frame = refl; sizes = refl; turns = omega arith }, refl,
-  (record { values = (omega arith, omega arith, tt); bytes = refl; order = quiet _; range = refl; peer = refl; frame = refl; sizes = geometry; turns = omega arith }, refl,
-  (record { values = (omega arith, omega arith, tt); bytes = refl; order = quiet _; range = refl; peer = refl; frame = refl; sizes = queue; turns = omega arith }, refl,
-  refl))))))
+sizes_along peers table common out mtu few t c o m geometry queue = (
+  record { values = (omega arith, omega arith, tt); bytes = refl; order = quiet _; range = refl; peer = refl; frame = refl; sizes = refl; turns = omega arith },
+  refl,
+  (
+    record { values = (few.0, few.1, tt); bytes = refl; order = quiet _; range = refl; peer = refl; frame = refl; sizes = refl; turns = omega arith },
+    refl,
+    (
+      record { values = (omega arith, omega arith, tt); bytes = refl; order = quiet _; range = refl; peer = refl; frame = refl; sizes = refl; turns = omega arith },
+      refl,
+      (
+        record { values = (omega arith, omega arith, tt); bytes = refl; order = quiet _; range = refl; peer = refl; frame = refl; sizes = refl; turns = omega arith },
+        refl,
+        (
+          record { values = (omega arith, omega arith, tt); bytes = refl; order = quiet _; range = refl; peer = refl; frame = refl; sizes = geometry; turns = omega arith },
+          refl,
+          (
+            record { values = (omega arith, omega arith, tt); bytes = refl; order = quiet _; range = refl; peer = refl; frame = refl; sizes = queue; turns = omega arith },
+            refl,
+            refl,
+          ),
+        ),
+      ),
+    ),
+  ),
+)
 
 -- with these first flags; where there is one for each peer, `begin` comes next
 abbrev at_peers : (peers table common out mtu : ℕ) → Wiring → List Bool → SoFar
@@ -121,7 +136,7 @@ peers_along peers table common out mtu wiring front (b ∷ rest) p same all few 
     let P : SoFar → Type 0 = λ x. (has_ended x ≡ false) × Along x (rows_of_peers (p + 1) rest) (at_peers peers table common out mtu wiring (front ++ b ∷ rest)) in
     let whole : (front ++ b ∷ []) ++ rest ≡ front ++ b ∷ rest = append_assoc front (b ∷ []) rest in
     let later = subst (λ (bs : List Bool). Along (at_peers peers table common out mtu wiring (front ++ b ∷ [])) (rows_of_peers (p + 1) rest) (at_peers peers table common out mtu wiring bs)) whole
-      (peers_along peers table common out mtu wiring (front ++ b ∷ []) rest (p + 1) (omega arith) (omega arith) few) in
+    (peers_along peers table common out mtu wiring (front ++ b ∷ []) rest (p + 1) (omega arith) (omega arith) few) in
     let t = subst P (sym (peer_gives peers table common out mtu wiring front p b)) (not_ended _, later) in
     (peer_follows peers table common out mtu wiring front p b same (omega arith) few, t.0, t.1)
 
@@ -195,7 +210,7 @@ region_of g is =
     swap : (p n : ℕ) → p * (4 * n) ≡ 4 * (p * n)
     swap p n = omega arith
 
-abbrev at_end : World → SoFar
+abbrev pub at_end : World → SoFar
 at_end w = record { stage = Ended; peers = w.geometry.peers; table = 4 * w.geometry.table; common = 4 * w.geometry.common; out = 4 * w.geometry.out; mtu = w.queue.mtu; wiring = w.wiring; honest = w.honest; acts = w.acts }
 
 abbrev measured : World → List (Row Form)
@@ -240,16 +255,23 @@ head_along w is =
     let begin : CanFollow full_state (row Begin [] []) = record { values = tt; bytes = refl; order = rw full refl; range = refl; peer = refl; frame = refl; sizes = refl; turns = omega arith } in
     let last : Along full_state (row Begin [] [] ∷ []) (at_acts w []) = (begin, refl, refl) in
     along-append at_start (flagged w) (row Begin [] [] ∷ []) full_state (at_acts w [])
-      (along-append at_start (wired w) (rows_of_peers 0 w.honest) wired_state full_state (along-append at_start (measured w) (row_of_wiring w.wiring ∷ []) measured_state wired_state sizes wires) peers) last
+    (along-append at_start (wired w) (rows_of_peers 0 w.honest) wired_state full_state (along-append at_start (measured w) (row_of_wiring w.wiring ∷ []) measured_state wired_state sizes wires) peers) last
 
-pub is_answered : (w : World) (bytes : List ℕ) → IsSpelling w bytes → answer bytes ≡ Ok w
-is_answered w bytes is =
-    let world = is.0 in
+rows_same : (w : World) → w.version ≡ 1 → acted w ++ row End [] [] ∷ [] ≡ rows_of w
+rows_same w is = rw is refl
+
+-- the lines of a scenario's rows lead to its end
+pub spelled_leads : (w : World) → IsWorld w → Leads machine at_start (map (bare pieces_of) (rows_of w)) (at_end w)
+spelled_leads w world =
     let acts = acts_along w [] w.acts world refl in
     let all = along-append at_start (begun w) (map row_of_act w.acts) (at_acts w []) (at_acts w w.acts) (head_along w world) acts in
     let end : CanFollow (at_acts w w.acts) (row End [] []) = record { values = tt; bytes = refl; order = refl; range = refl; peer = refl; frame = refl; sizes = refl; turns = omega arith } in
-    let lines = leads at_start (acted w) (at_acts w w.acts) (row End [] []) (at_end w) all end refl refl in
-    let read : reading (text_of_lines (map (bare pieces_of) (rows_of w))) ≡ Ok (at_end w) = rw world.version (reads machine at_start 0 (map (bare pieces_of) (acted w ++ row End [] [] ∷ [])) (at_end w) lines) in
-    let text : bytes ≡ text_of_lines (map (bare pieces_of) (rows_of w)) = is.1 ∙ text_is_lines pieces_of (rows_of w) in
-    let same : world_so_far (at_end w) ≡ w = world_is w w.acts world in
-    ap (λ (t : List ℕ). world_in (faulted (reading t))) text ∙ ap (λ x. world_in (faulted x)) read ∙ ap (λ (x : World). Ok x) same
+    subst (λ (rs : List (Row Form)). Leads machine at_start (map (bare pieces_of) rs) (at_end w)) (rows_same w world.version) (leads at_start (acted w) (at_acts w w.acts) (row End [] []) (at_end w) all end refl refl)
+
+pub text_is : (w : World) → spelling w ≡ text_of_lines (map (bare pieces_of) (rows_of w))
+text_is w = text_is_lines pieces_of (rows_of w)
+
+pub is_answered : (w : World) (bytes : List ℕ) → IsSpelling w bytes → answer bytes ≡ Ok w
+is_answered w bytes is =
+    let read : reading (text_of_lines (map (bare pieces_of) (rows_of w))) ≡ Ok (at_end w) = reads machine at_start 0 (map (bare pieces_of) (rows_of w)) (at_end w) (spelled_leads w is.0) in
+    ap (λ (t : List ℕ). world_in (faulted (reading t))) (is.1 ∙ text_is w) ∙ ap (λ x. world_in (faulted x)) read ∙ ap (λ (x : World). Ok x) (world_is w w.acts is.0)

@@ -1,5 +1,5 @@
 -- Digits that are too many or too few spell no frame.
-use Rattle.std.proofs.Common.{◌≡◌, ℕ, ◌*◌, ◌/◌, Bool, true, false, cond, List, length, Option, Some, None, refl, sym, ap, ◌∙◌, arith}
+use Rattle.std.proofs.Common.{◌≡◌, ℕ, ◌/◌, Bool, true, false, cond, List, length, Option, Some, None, refl, sym, ap, ◌∙◌, arith}
 use Rattle.std.specs.Prelude.{option_and_then}
 use Rattle.line_text.specs.Forms.{hex_bytes}
 use Rattle.line_text.proofs.HexLaws.{hex_bytes-length}

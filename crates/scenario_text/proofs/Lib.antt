@@ -9,3 +9,5 @@ pub mod BackLaws
 pub mod ReadLaws
 pub mod WholeLaws
 pub mod ForwardLaws
+pub mod PrintLaws
+pub mod LawLaws

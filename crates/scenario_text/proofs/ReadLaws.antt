@@ -1,5 +1,5 @@
 -- What a loop over the lines answers.
-use Rattle.std.proofs.Common.{◌≡◌, ℕ, ◌+◌, List, ◌∷◌, Result, Ok, Err, refl, ap, ◌∙◌}
+use Rattle.std.proofs.Common.{◌≡◌, ℕ, ◌+◌, List, ◌∷◌, Result, Err, ap}
 use Rattle.line_text.specs.Forms.{cuts}
 use Rattle.line_text.specs.Machine.{Wrong, read_pieces}
 use Rattle.line_text.proofs.ReadingLaws.{wrong_line}
@@ -9,7 +9,6 @@ use Rattle.scenario_text.specs.declared.faults.Cause.{Cause}
 use Rattle.scenario_text.specs.declared.faults.Cause.TheVariants.{BadLine}
 use Rattle.scenario_text.specs.declared.faults.ScenarioFault.{ScenarioFault}
 use Rattle.scenario_text.specs.declared.faults.ScenarioFault.TheVariants as faults
-use Rattle.scenario_text.specs.Scenario.{World}
 use Rattle.scenario_text.specs.Judge.{SoFar, fault_at, faulted, world_in, machine, step}
 use Rattle.scenario_text.specs.Answers.{Fails, Refuses, fault_of_failure}
 

@@ -1,21 +1,20 @@
 -- The tests of the sizes say what a region and a queue ask for.
-use Rattle.std.proofs.Common.{mul-le-mul_right, ◌≡◌, ℕ, ◌+◌, ◌*◌, ◌/◌, ◌%◌, ◌^◌, ◌<◌, ◌≤◌, Bool, true, false, leb, ltb, eqb, ◌&&◌, Option, Some, None, Result, Ok, Err, refl, sym, ap, subst, ◌∙◌, arith, eq-eqb}
+use Rattle.std.proofs.Common.{mul-le-mul_right, ◌≡◌, ℕ, ◌*◌, ◌/◌, ◌^◌, ◌≤◌, Bool, true, false, Option, Some, None, Result, Ok, Err, refl, sym, ap, subst, ◌∙◌, arith, eq-eqb}
 use Rattle.std.specs.Prelude.{IfOk, IfErr, IsSome, is_some, unwrap_or}
 use Rattle.std.specs.Result.{is_ok}
 use Rattle.std.proofs.lemmas.Bool.{leb-true, le-leb, ltb-true, lt-ltb, eqb-true}
 use Rattle.line_text.proofs.SpellLaws.{both_true}
 use Rattle.line_text.proofs.LineLaws.{are_true}
-use Rattle.section_map.specs.Geometry.{Shape, IsShape, word_count}
+use Rattle.section_map.specs.Geometry.{Shape, IsShape}
 use Rattle.section_map.specs.Faults.{IsPeerCount, IsPages, IsSomePages, byte_count, shape_of, IsFirstFault}
-use Rattle.section_map.specs.declared.sizes.Part.{Part}
 use Rattle.section_map.specs.declared.sizes.Part.TheVariants.{Table, Common, Out}
 use Rattle.section_map.specs.declared.sizes.GeometryFault.{GeometryFault}
 use Rattle.section_map.specs.declared.sizes.GeometryFault.TheVariants.{BadPeers, BadPage, TableTooSmall, TooLarge}
-use Rattle.split_ring.specs.Layout.{Sizes, queue_size, size_of, slot_of, room_of, IsQueue}
-use Rattle.split_ring.specs.Faults.{IsMtu, IsQueueFault}
+use Rattle.split_ring.specs.Layout.{Sizes, queue_size, size_of, IsQueue}
+use Rattle.split_ring.specs.Faults.{IsQueueFault}
 use Rattle.split_ring.specs.declared.faults.QueueFault.{QueueFault}
 use Rattle.split_ring.specs.declared.faults.QueueFault.TheVariants as queue_faults
-use Rattle.scenario_text.specs.Sizes.{is_pages, is_some_pages, is_geometry, is_queue}
+use Rattle.scenario_text.specs.Sizes.{is_some_pages, is_geometry, is_queue}
 
 never : (b : Bool) → (b ≡ true → ⊥) → b ≡ false
 never true fails = absurd (fails refl)

@@ -1,5 +1,5 @@
 -- What holds of the lines so far at each place, and that each row that can follow keeps it.
-use Rattle.std.proofs.Common.{◌≡◌, ℕ, zero, suc, ◌+◌, ◌*◌, ◌/◌, ◌^◌, ◌<◌, ◌≤◌, Bool, true, false, cond, eqb, ◌&&◌, ◌||◌, not, List, [], ◌∷◌, ◌++◌, length, get_or, take, map, Option, Some, None, refl, sym, ap, subst, ◌∙◌, append_assoc, arith, ◌⊎◌, inl, inr}
+use Rattle.std.proofs.Common.{◌≡◌, ℕ, zero, suc, ◌+◌, ◌^◌, ◌<◌, ◌≤◌, Bool, true, false, cond, eqb, ◌||◌, not, List, [], ◌∷◌, ◌++◌, length, get_or, take, map, Some, refl, sym, ap, subst, ◌∙◌, append_assoc, arith, ◌⊎◌, inl, inr}
 use Rattle.std.specs.Prelude.{option_and_then, slice_get, codes}
 use Rattle.std.specs.Option.{option_map_or}
 use Rattle.std.proofs.lemmas.Bool.{eqb-true, eqb-false, cases_lt}
@@ -7,11 +7,10 @@ use Rattle.std.proofs.lemmas.List.{append-nil, map-append, length-append}
 use Rattle.std.proofs.lemmas.List.Sums.{sum_by_push}
 use Rattle.line_text.specs.Numbers.{number_of}
 use Rattle.line_text.specs.Forms.{Piece, Word, Number, Fit, spell}
-use Rattle.line_text.specs.Rows.{Row, row, fields_of_row}
+use Rattle.line_text.specs.Rows.{Row, row}
 use Rattle.line_text.proofs.NumberLaws.{number_of-decimal}
 use Rattle.line_text.proofs.StepLaws.{not_false, same_some}
 use Rattle.pci_space.specs.declared.wiring.Wiring.{Wiring}
-use Rattle.pci_space.specs.declared.wiring.Wiring.TheVariants as wirings
 use Rattle.pci_space.specs.Wiring.{IsWiring}
 use Rattle.split_ring.specs.Layout.{IsQueue}
 use Rattle.scenario_text.specs.declared.acts.Act.{Act}
@@ -24,10 +23,10 @@ use Rattle.scenario_text.specs.Table.{pieces_of, any_number}
 use Rattle.scenario_text.specs.ActRows.{row_of_act}
 use Rattle.scenario_text.specs.Scenario.{World, IsAllowed, AreAllowed}
 use Rattle.scenario_text.specs.Spelling.{row_of_wiring, row_of_peer, rows_of_peers}
-use Rattle.scenario_text.specs.Judge.{SoFar, world_so_far, place_of, stage_of, is_act, act_of, with_act}
+use Rattle.scenario_text.specs.Judge.{SoFar, world_so_far, place_of, stage_of, is_act, with_act}
 use Rattle.scenario_text.proofs.SizeLaws.{HasRegion, has_region, has_queue, small_section}
 use Rattle.scenario_text.proofs.Follows.{CanFollow, with_row}
-use Rattle.scenario_text.proofs.ActRowLaws.{counted, list_0, list_1, same_row, ActRow, act_row, allowed_act}
+use Rattle.scenario_text.proofs.ActRowLaws.{counted, list_0, list_1, same_row, act_row, allowed_act}
 
 -- ---- the rows before a place
 
@@ -169,11 +168,14 @@ peer_good : (d : SoFar) (b : Bool) → Good AtPeer d → (full : Bool) → eqb (
 peer_good d b good true is = (good.0, good.1, eqb-true _ _ is)
 peer_good d b good false is =
     let less = good.2 in
-    let one : length (d.honest ++ b ∷ []) ≡ length d.honest + 1 = length-append d.honest (b ∷ []) in
-    (good.0, good.1, elim (cases_lt (length (d.honest ++ b ∷ [])) d.peers) [
-      | inl lt ↦ lt
-      | inr ge ↦ absurd (eqb-false _ _ is (omega arith))
-    ])
+    let one : length (d.honest ++ b ∷ []) ≡ length d.honest + 1 = length-append d.honest (b ∷ []) in (
+      good.0,
+      good.1,
+      elim (cases_lt (length (d.honest ++ b ∷ [])) d.peers) [
+        | inl lt ↦ lt
+        | inr ge ↦ absurd (eqb-false _ _ is (omega arith))
+      ],
+    )
 
 -- ---- acts
 

@@ -1,19 +1,17 @@
 -- A text is read exactly where it is the spelling of what is read.
-use Rattle.std.proofs.Common.{◌≡◌, ℕ, ◌+◌, List, Result, Ok, Err, refl, sym, ap, subst, ◌∙◌}
-use Rattle.std.specs.Prelude.{IfOk}
+use Rattle.std.proofs.Common.{◌≡◌, ℕ, List, Result, Ok, Err, sym, ap, subst, ◌∙◌}
 use Rattle.line_text.specs.Machine.{Wrong}
 use Rattle.scenario_text.specs.declared.faults.Cause.{Cause}
 use Rattle.scenario_text.specs.declared.faults.ScenarioFault.{ScenarioFault}
-use Rattle.scenario_text.specs.declared.scenarios.Scenario.{Scenario}
 use Rattle.scenario_text.specs.Scenario.{World}
-use Rattle.scenario_text.specs.Spelling.{IsSpelling, world_of}
-use Rattle.scenario_text.specs.Judge.{SoFar, world_so_far, reading, faulted, world_in, answer}
+use Rattle.scenario_text.specs.Spelling.{IsSpelling}
+use Rattle.scenario_text.specs.Judge.{SoFar, world_so_far, reading, faulted, world_in}
 use Rattle.scenario_text.specs.Answers.{Refuses}
 use Rattle.scenario_text.specs.Drafts.{IsWhole}
 use Rattle.scenario_text.proofs.SizeLaws.{is_geometry-true, is_queue-true}
 use Rattle.scenario_text.proofs.ReadLaws.{same_fault}
 use Rattle.scenario_text.proofs.ForwardLaws.{is_answered}
-use Rattle.scenario_text.proofs.BackLaws.{IsRead, is_read, is_world}
+use Rattle.scenario_text.proofs.BackLaws.{is_read, is_world}
 
 read_of : (said : Result SoFar (Wrong Cause)) (d : SoFar) → faulted said ≡ Ok d → said ≡ Ok d
 read_of (Ok e) d is = ap (λ (x : SoFar). Ok x) (same e d is)

@@ -1,5 +1,5 @@
 -- Reading line by line: what a good line adds, and what is wrong with a bad one.
-use Rattle.std.specs.Prelude.{ℕ, ◌+◌, ◌==◌, ◌||◌, ◌&&◌, not, nat_lt, nat_le, if◌then◌else◌, Bool, true, false, List, [], ◌∷◌, ◌++◌, length, slice_index, slice_get, Option, Some, None, Result, Ok, Err, option_and_then}
+use Rattle.std.specs.Prelude.{ℕ, ◌+◌, ◌==◌, ◌||◌, ◌&&◌, not, nat_lt, if◌then◌else◌, Bool, true, false, List, [], ◌∷◌, ◌++◌, length, slice_index, slice_get, Option, Some, None, Result, Ok, Err, option_and_then}
 use Rattle.std.specs.List.{list_all}
 use Rattle.std.specs.Option.{option_map_or}
 use Rattle.line_text.specs.Numbers.{number_of}
@@ -182,7 +182,7 @@ judge d form fields =
       if not (is_its_peer (world_so_far d) form ns) then Err BadPeer else do
         frame ← some_or BadFrame (frame_in d form fields)
         if not (fits_sizes d form ns) then Err BadGeometry else
-          if nat_lt 4000000 (turns_with d (act_of form ns frame)) then Err TooManyTurns else Ok (add form ns (act_of form ns frame) d)
+            if nat_lt 4000000 (turns_with d (act_of form ns frame)) then Err TooManyTurns else Ok (add form ns (act_of form ns frame) d)
 
 unfoldable pub step : SoFar → List ℕ → Result SoFar Cause
 step d line =

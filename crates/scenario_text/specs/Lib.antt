@@ -8,3 +8,4 @@ pub mod Judge
 pub mod Spelling
 pub mod Answers
 pub mod Drafts
+pub mod Laws

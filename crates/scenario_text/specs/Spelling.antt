@@ -27,18 +27,22 @@ abbrev pub rows_of_peers : ℕ → List Bool → List (Row Form)
 rows_of_peers p [] = []
 rows_of_peers p (b ∷ bs) = row_of_peer p b ∷ rows_of_peers (p + 1) bs
 
--- the rows before `begin`; sizes are in bytes
-abbrev pub head_rows : World → List (Row Form)
-head_rows w =
+-- the version and the sizes, in bytes
+abbrev pub sizes_rows : World → List (Row Form)
+sizes_rows w =
     row Version (w.version ∷ []) []
     ∷ row Peers (w.geometry.peers ∷ []) []
     ∷ row Table (4 * w.geometry.table ∷ []) []
     ∷ row Common (4 * w.geometry.common ∷ []) []
     ∷ row Out (4 * w.geometry.out ∷ []) []
     ∷ row Mtu (w.queue.mtu ∷ []) []
-    ∷ row_of_wiring w.wiring
-    ∷ rows_of_peers 0 w.honest
+    ∷ []
 
+-- the rows before `begin`
+abbrev pub head_rows : World → List (Row Form)
+head_rows w = sizes_rows w ++ row_of_wiring w.wiring ∷ rows_of_peers 0 w.honest
+
+-- the head, `begin`, the acts, `end`
 abbrev pub rows_of : World → List (Row Form)
 rows_of w = head_rows w ++ row Begin [] [] ∷ [] ++ map row_of_act w.acts ++ row End [] [] ∷ []
 

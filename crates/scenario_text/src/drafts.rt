@@ -9,23 +9,23 @@ use pci_space::Wiring;
 /// A scenario of which some lines are read. What no line has said yet is 0, INTx or empty; sizes are in bytes.
 #[derive(Drop)]
 pub struct Draft {
-    pub stage: Stage,
-    pub peers: u32,
-    pub table: u32,
-    pub common: u64,
-    pub out: u64,
-    pub mtu: u32,
-    pub wiring: Wiring,
-    pub honest: Flags,
-    pub acts: Acts,
+    pub(crate) stage: Stage,
+    pub(crate) peers: u32,
+    pub(crate) table: u32,
+    pub(crate) common: u64,
+    pub(crate) out: u64,
+    pub(crate) mtu: u32,
+    pub(crate) wiring: Wiring,
+    pub(crate) honest: Flags,
+    pub(crate) acts: Acts,
     /// How many acts these count for.
-    pub turns: u64,
+    pub(crate) turns: u64,
     /// Which peers choose their calls.
-    pub autos: [bool; 8],
+    pub(crate) autos: [bool; 8],
     /// Which peers are storms.
-    pub storms: [bool; 8],
+    pub(crate) storms: [bool; 8],
     /// Which peers have call lines.
-    pub called: [bool; 8],
+    pub(crate) called: [bool; 8],
     ghost few: { peers ≤ 8 },
     ghost section: { out ≤ 2 ^ 24 },
     ghost counted: { turns ≡ turns_of acts },

@@ -183,26 +183,88 @@ pub fn act_of(form: Form, numbers: &[u64], frame: Frame) -> Option<Act>
     ensures peer { IfSome result (λ act. peer_of act < 8) }
 {
     match form {
-        Form::Tick => Some(Act::Tick { peer: nth(numbers, 0) as u32 }),
-        Form::Offer => Some(Act::Offer { peer: nth(numbers, 0) as u32, frame }),
-        Form::Poll => Some(Act::Poll { peer: nth(numbers, 0) as u32 }),
-        Form::Stop => Some(Act::Stop { peer: nth(numbers, 0) as u32 }),
-        Form::Auto => Some(Act::Auto { peer: nth(numbers, 0) as u32, expect: nth(numbers, 1) }),
-        Form::Storm => Some(Act::Storm { peer: nth(numbers, 0) as u32, seed: nth(numbers, 1) }),
-        Form::Turn => Some(Act::Turn { peer: nth(numbers, 0) as u32, steps: nth(numbers, 1) as u32 }),
-        Form::Reset => Some(Act::Reset { peer: nth(numbers, 0) as u32 }),
-        Form::Poke => Some(Act::Poke { peer: nth(numbers, 0) as u32, word: nth(numbers, 1) as u32, value: nth(numbers, 2) as u32 }),
-        Form::Peek => Some(Act::Peek { peer: nth(numbers, 0) as u32, word: nth(numbers, 1) as u32 }),
-        Form::Set => Some(Act::Set { peer: nth(numbers, 0) as u32, value: nth(numbers, 1) as u32 }),
-        Form::Ring => Some(Act::Ring { peer: nth(numbers, 0) as u32, target: nth(numbers, 1) as u32, vector: nth(numbers, 2) as u32 }),
-        Form::CfgRead => Some(Act::CfgRead { peer: nth(numbers, 0) as u32, offset: nth(numbers, 1) as u16, width: nth(numbers, 2) as u16 }),
-        Form::CfgWrite => Some(Act::CfgWrite { peer: nth(numbers, 0) as u32, offset: nth(numbers, 1) as u16, width: nth(numbers, 2) as u16, value: nth(numbers, 3) as u32 }),
-        Form::MmioRead => Some(Act::MmioRead { peer: nth(numbers, 0) as u32, offset: nth(numbers, 1) as u32 }),
-        Form::MmioWrite => Some(Act::MmioWrite { peer: nth(numbers, 0) as u32, offset: nth(numbers, 1) as u32, value: nth(numbers, 2) as u32 }),
-        Form::MsixRead => Some(Act::MsixRead { peer: nth(numbers, 0) as u32, offset: nth(numbers, 1) as u32 }),
-        Form::MsixWrite => Some(Act::MsixWrite { peer: nth(numbers, 0) as u32, offset: nth(numbers, 1) as u32, value: nth(numbers, 2) as u32 }),
-        Form::Lose => Some(Act::Lose { peer: nth(numbers, 0) as u32 }),
-        Form::Again => Some(Act::Again { peer: nth(numbers, 0) as u32, vector: nth(numbers, 1) as u32 }),
+        Form::Tick => Some(Act::Tick {
+            peer: nth(numbers, 0) as u32,
+        }),
+        Form::Offer => Some(Act::Offer {
+            peer: nth(numbers, 0) as u32,
+            frame,
+        }),
+        Form::Poll => Some(Act::Poll {
+            peer: nth(numbers, 0) as u32,
+        }),
+        Form::Stop => Some(Act::Stop {
+            peer: nth(numbers, 0) as u32,
+        }),
+        Form::Auto => Some(Act::Auto {
+            peer: nth(numbers, 0) as u32,
+            expect: nth(numbers, 1),
+        }),
+        Form::Storm => Some(Act::Storm {
+            peer: nth(numbers, 0) as u32,
+            seed: nth(numbers, 1),
+        }),
+        Form::Turn => Some(Act::Turn {
+            peer: nth(numbers, 0) as u32,
+            steps: nth(numbers, 1) as u32,
+        }),
+        Form::Reset => Some(Act::Reset {
+            peer: nth(numbers, 0) as u32,
+        }),
+        Form::Poke => Some(Act::Poke {
+            peer: nth(numbers, 0) as u32,
+            word: nth(numbers, 1) as u32,
+            value: nth(numbers, 2) as u32,
+        }),
+        Form::Peek => Some(Act::Peek {
+            peer: nth(numbers, 0) as u32,
+            word: nth(numbers, 1) as u32,
+        }),
+        Form::Set => Some(Act::Set {
+            peer: nth(numbers, 0) as u32,
+            value: nth(numbers, 1) as u32,
+        }),
+        Form::Ring => Some(Act::Ring {
+            peer: nth(numbers, 0) as u32,
+            target: nth(numbers, 1) as u32,
+            vector: nth(numbers, 2) as u32,
+        }),
+        Form::CfgRead => Some(Act::CfgRead {
+            peer: nth(numbers, 0) as u32,
+            offset: nth(numbers, 1) as u16,
+            width: nth(numbers, 2) as u16,
+        }),
+        Form::CfgWrite => Some(Act::CfgWrite {
+            peer: nth(numbers, 0) as u32,
+            offset: nth(numbers, 1) as u16,
+            width: nth(numbers, 2) as u16,
+            value: nth(numbers, 3) as u32,
+        }),
+        Form::MmioRead => Some(Act::MmioRead {
+            peer: nth(numbers, 0) as u32,
+            offset: nth(numbers, 1) as u32,
+        }),
+        Form::MmioWrite => Some(Act::MmioWrite {
+            peer: nth(numbers, 0) as u32,
+            offset: nth(numbers, 1) as u32,
+            value: nth(numbers, 2) as u32,
+        }),
+        Form::MsixRead => Some(Act::MsixRead {
+            peer: nth(numbers, 0) as u32,
+            offset: nth(numbers, 1) as u32,
+        }),
+        Form::MsixWrite => Some(Act::MsixWrite {
+            peer: nth(numbers, 0) as u32,
+            offset: nth(numbers, 1) as u32,
+            value: nth(numbers, 2) as u32,
+        }),
+        Form::Lose => Some(Act::Lose {
+            peer: nth(numbers, 0) as u32,
+        }),
+        Form::Again => Some(Act::Again {
+            peer: nth(numbers, 0) as u32,
+            vector: nth(numbers, 1) as u32,
+        }),
         _ => None,
     }
 }

@@ -10,12 +10,18 @@ mod failures;
 mod faults;
 mod forms;
 mod judging;
+mod laws;
+mod printing;
 mod reading;
 mod scenarios;
 mod stages;
 mod taking;
 
 pub use acts::{Act, Acts, Flags};
+pub use drafts::Draft;
+pub use failures::Failure;
 pub use faults::{Cause, ScenarioFault};
+pub use laws::{behind_is_bad_line, cut_is_no_end, fault_is_first, printed_is_read_again};
+pub use printing::{print, put_scenario};
 pub use reading::parse;
 pub use scenarios::Scenario;

@@ -13,7 +13,9 @@ use crate::drafts::Draft;
 use crate::failures::Failure;
 use crate::faults::Cause;
 use crate::forms::{Form, form_of};
-use crate::judging::{act_of, fits_sizes, is_frame_size, is_in_range, is_its_peer, is_out_of_order, nth};
+use crate::judging::{
+    act_of, fits_sizes, is_frame_size, is_in_range, is_its_peer, is_out_of_order, nth,
+};
 use crate::stages::Stage;
 use arrayvec::ArrayVec;
 use ivs_base::{Frame, NoMemory};

@@ -1,5 +1,3 @@
-use Rattle.std.proofs.Common.{◌≡◌, sym, ap, subst, ◌∙◌}
-use Rattle.scenario_text.proofs.ForwardLaws.{is_answered}
 use Rattle.scenario_text.proofs.WholeLaws.{is_whole, is_spelled, only_ok, only_err}
 use Rattle.scenario_text.proofs.reading.parse.Goals as goal
 

@@ -1,7 +1,7 @@
-use Rattle.std.proofs.Common.{◌≡◌, ◌<◌, length, true, false, sym, ap, ◌∙◌, arith}
+use Rattle.std.proofs.Common.{sym, ap, ◌∙◌, arith}
 use Rattle.std.proofs.lemmas.Grind.{common_steps}
 use Rattle.line_text.proofs.ReadingLaws.{good_line, last_line, bytes_behind, no_end}
-use Rattle.scenario_text.specs.Judge.{machine, reading, has_ended, faulted}
+use Rattle.scenario_text.specs.Judge.{machine, reading, faulted}
 use Rattle.scenario_text.specs.Drafts.{so_far}
 use Rattle.scenario_text.proofs.ReadLaws.{line_fails}
 use Rattle.scenario_text.proofs.reading.read.Goals as goal

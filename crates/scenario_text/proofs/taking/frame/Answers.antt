@@ -1,4 +1,4 @@
-use Rattle.std.proofs.Common.{◌≡◌, sym, ap, ◌∙◌}
+use Rattle.std.proofs.Common.{sym, ◌∙◌}
 use Rattle.scenario_text.specs.Scenario.{is_frame_size}
 use Rattle.scenario_text.specs.Judge.{world_so_far}
 use Rattle.scenario_text.specs.Drafts.{so_far}

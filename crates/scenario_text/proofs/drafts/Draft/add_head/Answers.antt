@@ -1,4 +1,3 @@
-use Rattle.std.proofs.Common.{◌≡◌, arith}
 use Rattle.scenario_text.proofs.SizeLaws.{has_region, small_section}
 use Rattle.scenario_text.proofs.drafts.Draft.add_head.Goals as goal
 

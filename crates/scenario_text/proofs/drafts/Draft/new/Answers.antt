@@ -1,4 +1,4 @@
-use Rattle.std.proofs.Common.{◌≡◌, sym, ◌∙◌}
+use Rattle.std.proofs.Common.{sym, ◌∙◌}
 use Rattle.scenario_text.proofs.ActLaws.{no_flags, no_autos, no_storms, no_calls}
 use Rattle.scenario_text.proofs.drafts.Draft.new.Goals as goal
 

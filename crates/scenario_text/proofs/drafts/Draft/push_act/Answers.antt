@@ -1,4 +1,3 @@
-use Rattle.std.proofs.Common.{◌≡◌, arith}
 use Rattle.scenario_text.proofs.ActLaws.{turns_added, auto_added, storm_added, call_added}
 use Rattle.scenario_text.proofs.drafts.Draft.push_act.Goals as goal
 

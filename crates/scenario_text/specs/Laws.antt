@@ -1,0 +1,26 @@
+-- What holds of all texts of scenarios.
+use Rattle.std.specs.Prelude.{◌≡◌, ℕ, ◌+◌, ◌<◌, List, ◌++◌, length, take, Ok, Err}
+use Rattle.line_text.specs.Forms.{cuts}
+use Rattle.line_text.specs.Machine.{At, IsFirstWrong}
+use Rattle.scenario_text.specs.declared.faults.Cause.{Cause}
+use Rattle.scenario_text.specs.declared.faults.ScenarioFault.TheVariants.{BadLine, NoEnd}
+use Rattle.scenario_text.specs.declared.scenarios.Scenario.{Scenario}
+use Rattle.scenario_text.specs.Scenario.{World}
+use Rattle.scenario_text.specs.Spelling.{world_of, rows_of, spelling, IsSpelling}
+use Rattle.scenario_text.specs.Judge.{at_start, machine, reading, answer}
+
+-- the text of a scenario is read as the scenario
+abbrev pub IsReadAgain : Type 0
+IsReadAgain = (scenario : Scenario) → answer (spelling (world_of scenario)) ≡ Ok (world_of scenario)
+
+-- a text that is cut anywhere has no end
+abbrev pub CutIsNoEnd : Type 0
+CutIsNoEnd = (w : World) (bytes : List ℕ) (j : ℕ) → IsSpelling w bytes → j < length bytes → answer (take j bytes) ≡ Err NoEnd
+
+-- bytes behind a text of L lines are the line L + 1, which is bad
+abbrev pub BehindIsBadLine : Type 0
+BehindIsBadLine = (w : World) (bytes more : List ℕ) → IsSpelling w bytes → 0 < length more → answer (bytes ++ more) ≡ Err (BadLine (length (rows_of w) + 1))
+
+-- the line that a fault names is the first bad one: the lines before it are good
+abbrev pub FaultIsFirst : Type 0
+FaultIsFirst = (bytes : List ℕ) (cause : Cause) (line : ℕ) → reading bytes ≡ Err (At cause line) → IsFirstWrong machine at_start (cuts 10 bytes) cause line

@@ -1,0 +1,22 @@
+//! What holds of all texts of scenarios. Each function does nothing: its contract is the law.
+ghost use Rattle.scenario_text.specs.Laws.{IsReadAgain, CutIsNoEnd, BehindIsBadLine, FaultIsFirst};
+
+/// What `print` writes of a scenario, `parse` reads as that scenario.
+pub fn printed_is_read_again()
+    ensures { IsReadAgain }
+{}
+
+/// A text that is cut anywhere is refused as one without an end.
+pub fn cut_is_no_end()
+    ensures { CutIsNoEnd }
+{}
+
+/// Bytes behind a text are its next line, with a newline or without, and that line is bad.
+pub fn behind_is_bad_line()
+    ensures { BehindIsBadLine }
+{}
+
+/// The line that a fault names is bad, and the lines before it are good.
+pub fn fault_is_first()
+    ensures { FaultIsFirst }
+{}

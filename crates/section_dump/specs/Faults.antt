@@ -1,0 +1,17 @@
+-- Which bytes are no image, and why (profile).
+use Rattle.std.specs.Prelude.{◌≡◌, ℕ, ◌<◌, List, length}
+use Rattle.section_map.specs.Faults.{IsFirstFault}
+use Rattle.section_dump.specs.Image.{HasHeader, HasSizes, length_due, peers_in, table_in, common_in, out_in}
+use Rattle.section_dump.specs.declared.DumpFault.{DumpFault}
+use Rattle.section_dump.specs.declared.DumpFault.TheVariants.{BadHeader, Geometry, ShortImage, LongImage, NoMemory}
+
+-- the first thing that is wrong: the header, then the sizes, then the length; want of memory may come at any time
+abbrev pub IsDumpFault : List ℕ → DumpFault → Type 0
+IsDumpFault image BadHeader = ¬ HasHeader image
+IsDumpFault image (Geometry fault) =
+    HasHeader image × IsFirstFault (peers_in image) (table_in image) (common_in image) (out_in image) fault
+IsDumpFault image (ShortImage need found) =
+    HasHeader image × HasSizes image × (found < need) × (need ≡ length_due image) × (found ≡ length image)
+IsDumpFault image (LongImage need found) =
+    HasHeader image × HasSizes image × (need < found) × (need ≡ length_due image) × (found ≡ length image)
+IsDumpFault image NoMemory = Unit {0}

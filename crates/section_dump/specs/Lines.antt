@@ -1,0 +1,58 @@
+-- The lines of a listing, and how they are written (profile).
+use Rattle.std.specs.Prelude.{◌≡◌, ℕ, List, [], ◌∷◌, ◌++◌, codes, decimal}
+use Rattle.std.specs.List.{flat_map, join_with_byte}
+use Rattle.hex.specs.Hex.{encode_lower}
+use Rattle.split_ring.specs.declared.ranges.FieldName.{FieldName}
+use Rattle.split_ring.specs.declared.ranges.FieldName.TheVariants.{AvailIndex, AvailEntry, DescAddress, DescLength, DescFlags, UsedIndex, UsedId}
+
+-- a line: the four sizes of the header, the queue, the state of a peer, the two indices of a section, a frame of it with
+-- its position, entry, address and length, a field that a receiver would refuse, and the end
+pub data Line : Type 0 where
+  Peers : ℕ → Line
+  Table : ℕ → Line
+  Common : ℕ → Line
+  Out : ℕ → Line
+  QueueSizes : (size ring room : ℕ) → Line
+  NoQueue : Line
+  State : (peer value : ℕ) → Line
+  Section : (peer available used : ℕ) → Line
+  Frame : (position entry address length : ℕ) (bytes : List ℕ) → Line
+  Bad : (position : ℕ) (field : FieldName) (value : ℕ) → Line
+  End : Line
+
+-- a field by its name
+abbrev pub name_of : FieldName → List ℕ
+name_of AvailIndex = codes "AvailIndex"
+name_of AvailEntry = codes "AvailEntry"
+name_of DescAddress = codes "DescAddress"
+name_of DescLength = codes "DescLength"
+name_of DescFlags = codes "DescFlags"
+name_of UsedIndex = codes "UsedIndex"
+name_of UsedId = codes "UsedId"
+
+-- the fields of a line
+abbrev pub fields_of : Line → List (List ℕ)
+fields_of (Peers n) = codes "peers" ∷ decimal n ∷ []
+fields_of (Table n) = codes "table" ∷ decimal n ∷ []
+fields_of (Common n) = codes "common" ∷ decimal n ∷ []
+fields_of (Out n) = codes "out" ∷ decimal n ∷ []
+fields_of (QueueSizes size ring room) = codes "queue" ∷ decimal size ∷ decimal ring ∷ decimal room ∷ []
+fields_of NoQueue = codes "queue" ∷ codes "none" ∷ []
+fields_of (State peer value) = codes "state" ∷ decimal peer ∷ decimal value ∷ []
+fields_of (Section peer available used) = codes "section" ∷ decimal peer ∷ decimal available ∷ decimal used ∷ []
+fields_of (Frame position entry address length bytes) =
+    codes "frame" ∷ decimal position ∷ decimal entry ∷ decimal address ∷ decimal length ∷ encode_lower bytes ∷ []
+fields_of (Bad position field value) = codes "bad" ∷ decimal position ∷ name_of field ∷ decimal value ∷ []
+fields_of End = codes "end" ∷ []
+
+-- a line: its fields with one space between them, and a newline
+unfoldable pub line_of : Line → List ℕ
+line_of line = join_with_byte 32 (fields_of line) ++ 10 ∷ []
+
+-- the text of some lines
+abbrev pub text_of : List Line → List ℕ
+text_of lines = flat_map line_of lines
+
+-- the text is the old one and behind it some lines, of which P holds
+abbrev pub Puts : (List Line → Type 0) → (old new : List ℕ) → Type 0
+Puts P old new = (lines : List Line) × P lines × (new ≡ old ++ text_of lines)

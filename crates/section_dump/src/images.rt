@@ -1,0 +1,60 @@
+//! The header of an image.
+ghost use Rattle.std.specs.Prelude.{◌≡◌, ◌+◌, ◌*◌, ◌≤◌, length, IfOk, IfErr, IfSome, MatchOption};
+ghost use Rattle.section_map.specs.Faults.{IsFirstFault, IsPages, IsSomePages, shape_of};
+ghost use Rattle.section_map.specs.Geometry.{IsShape};
+ghost use Rattle.section_dump.specs.Image.{HasHeader, words_from, peers_in, table_in, common_in, out_in};
+
+use byteorder::{ByteOrder, LittleEndian};
+use section_map::{Geometry, GeometryFault};
+
+/// What an image begins with.
+const MAGIC: [u8; 8] = *b"IVSHMIMG";
+
+/// The sizes that the header of an image has, in bytes.
+#[derive(Clone, Copy, Debug)]
+pub struct Header {
+    pub peers: u32,
+    pub table: u32,
+    pub common: u64,
+    pub out: u64,
+}
+
+impl Header {
+    /// The sizes in the header, if there is a whole one.
+    pub fn read(image: &[u8]) -> Option<Header>
+        ensures header { MatchOption result (¬ HasHeader image.now) (λ _. HasHeader image.now) }
+        ensures sizes { IfSome result (λ h. h ≡ record {
+          peers = peers_in image.now;
+          table = table_in image.now;
+          common = common_in image.now;
+          out = out_in image.now;
+        }) }
+    {
+        if image.len() < 32 || !image.starts_with(&MAGIC) {
+            return None;
+        }
+        Some(Header {
+            peers: LittleEndian::read_u32(&image[8..]),
+            table: LittleEndian::read_u32(&image[12..]),
+            common: LittleEndian::read_u64(&image[16..]),
+            out: LittleEndian::read_u64(&image[24..]),
+        })
+    }
+
+    /// The geometry of these sizes.
+    pub fn geometry(&self) -> Result<Geometry, GeometryFault>
+        ensures made { IfOk result (λ g. g ≡ shape_of self.now.peers self.now.table self.now.common self.now.out) }
+        ensures sizes { IfOk result (λ g. IsSomePages self.now.table × IsPages self.now.common × IsSomePages self.now.out × IsShape g) }
+        ensures fault { IfErr result (IsFirstFault self.now.peers self.now.table self.now.common self.now.out) }
+    {
+        Geometry::new(self.peers, self.table, self.common, self.out)
+    }
+}
+
+/// The word `i` of the region, which stands behind the header.
+pub fn region_word(image: &[u8], i: u32) -> u32
+    requires { 32 + 4 * i + 4 ≤ length image.now }
+    ensures { result ≡ words_from image.now 8 i }
+{
+    LittleEndian::read_u32(&image[4 * (8 + i as usize)..])
+}

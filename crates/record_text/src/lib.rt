@@ -2,6 +2,7 @@
 //! text and on `link_model` for the lines of a history.
 #![tactic(auto)]
 
+mod forms;
 mod trace;
 
 pub use trace::Trace;

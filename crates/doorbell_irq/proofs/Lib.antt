@@ -1,0 +1,7 @@
+pub mod Lists
+pub mod Same
+pub mod Steps
+pub mod Devices
+pub mod EventKinds
+pub mod EntryWrites
+pub mod Rounds

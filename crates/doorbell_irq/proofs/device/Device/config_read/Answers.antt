@@ -1,0 +1,17 @@
+use Rattle.std.proofs.Common.{◌≡◌, ℕ, ◌∙◌, Ok, Err}
+use Rattle.std.proofs.lemmas.Result.{IfOk-weaker}
+use Rattle.pci_space.specs.Numbers.{number_from}
+use Rattle.doorbell_irq.specs.Events.{Config}
+use Rattle.doorbell_irq.specs.DeviceRules.{bytes_after}
+use Rattle.doorbell_irq.proofs.Same.{number_from-same}
+use Rattle.doorbell_irq.proofs.Devices.{peer_at}
+use Rattle.doorbell_irq.proofs.device.Device.config_read.Goals as goal
+
+pub returns-clause-value : goal.returns-clause-value
+returns-clause-value c w events stands =
+    let is = peer_at w events c.args.self.now stands c.args.peer c.index-self-peer.result c.requires in
+    IfOk-weaker c.read.result
+    _
+    (λ v. v ≡ number_from (bytes_after w events c.args.peer Config) c.args.offset c.args.width)
+    (λ v value. value ∙ number_from-same _ (bytes_after w events c.args.peer Config) c.args.offset c.args.width is.config.bytes)
+    c.read.ensures.value

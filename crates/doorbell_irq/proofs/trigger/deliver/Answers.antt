@@ -1,0 +1,37 @@
+use Rattle.std.proofs.Common.{◌≡◌, ◌+◌, ◌≤◌, ◌++◌, ◌∙◌, sym, ap, List, arith, refl}
+use Rattle.std.proofs.lemmas.List.{append-nil}
+use Rattle.arrayvec.specs.ArrayVec.{ArrayVec, array_vec_len}
+use Rattle.doorbell_irq.specs.declared.effect.Delivery.{Delivery}
+use Rattle.doorbell_irq.specs.DeviceRules.{delivery_to}
+use Rattle.doorbell_irq.proofs.Rounds.{taken_more, left_more, came_more}
+use Rattle.doorbell_irq.proofs.trigger.deliver.Goals as goal
+use Rattle.doorbell_irq.proofs.trigger.deliver.Goals.{in-Some, in_default}
+
+put : (c : goal.Joined-taken) → c.match-taken.deliveries.items ≡ c.loop-peer.deliveries.items ++ delivery_to c.loop-peer.peer c.take-taken.result
+put c = elim c.match-taken.branch [
+  | in-Some w ↦ ap (λ (v : ArrayVec Delivery). v.items) w.deliveries-is ∙ w.push.ensures.items
+      ∙ sym (ap (λ r. c.loop-peer.deliveries.items ++ delivery_to c.loop-peer.peer r) w.in-Some.is)
+  | in_default w ↦ ap (λ (v : ArrayVec Delivery). v.items) w.deliveries-is ∙ sym (append-nil c.loop-peer.deliveries.items)
+      ∙ sym (ap (λ r. c.loop-peer.deliveries.items ++ delivery_to c.loop-peer.peer r) w.in_default.is)
+]
+
+few : (c : goal.Joined-taken) → array_vec_len c.match-taken.deliveries ≤ c.loop-peer.peer + 1
+few c = elim c.match-taken.branch [
+  | in-Some w ↦ omega (arith, ap array_vec_len w.deliveries-is, w.push.ensures.len, c.loop-peer.invariant.few)
+  | in_default w ↦ omega (arith, ap array_vec_len w.deliveries-is, c.loop-peer.invariant.few)
+]
+
+pub loop-peer-preserved : goal.loop-peer-preserved
+loop-peer-preserved c = record {
+  few = few c;
+  came = came_more c.args.wiring c.args.trigger c.args.registers.now c.loop-peer.registers c.loop-peer.peer c.index-registers-peer.result (omega arith)
+      c.loop-peer.invariant.left c.vector_at.result c.take-taken.result c.loop-peer.deliveries.items c.match-taken.deliveries.items
+      c.vector_at.ensures c.take-taken.ensures.gives c.loop-peer.invariant.came (put c);
+  done = taken_more c.args.wiring c.args.trigger c.args.registers.now c.loop-peer.registers c.loop-peer.peer c.index-registers-peer.result (omega arith)
+      c.loop-peer.invariant.left c.vector_at.result c.take-taken.new.self c.vector_at.ensures c.take-taken.ensures.takes c.loop-peer.invariant.done;
+  left = left_more c.args.wiring c.args.trigger c.args.registers.now c.loop-peer.registers c.loop-peer.peer c.index-registers-peer.result (omega arith)
+      c.loop-peer.invariant.left c.take-taken.new.self;
+}
+
+pub returns-clause-takes : goal.returns-clause-takes
+returns-clause-takes c peer before after less = c.loop-peer.invariant.done peer before after (omega arith)

@@ -1,0 +1,181 @@
+-- The device's rules (the device's specification, and PCI 3.0 for MSI-X and INTx): what the registers of a world's peers are
+-- behind a list of events, the newest first, and what one more event does. A trigger that isn't delivered is dropped (profile).
+use Rattle.std.specs.Prelude.{ℕ, zero, suc, ◌+◌, ◌/◌, ◌%◌, ◌^◌, Bool, true, false, ◌&&◌, ◌||◌, not, ◌==◌, nat_lt, if◌then◌else◌, List, [], ◌∷◌, ◌++◌, Option, Some, None, is_some}
+use Rattle.arrayvec.specs.ArrayVec.{ArrayVec}
+use Rattle.pci_space.specs.declared.field.Field.{Field}
+use Rattle.pci_space.specs.declared.wiring.Wiring.{Wiring}
+use Rattle.pci_space.specs.declared.wiring.Wiring.TheVariants.{Msix, Intx}
+use Rattle.pci_space.specs.Numbers.{number_from}
+use Rattle.pci_space.specs.Fields.{reset_byte, byte_behind}
+use Rattle.doorbell_irq.specs.declared.effect.Delivery.{Delivery}
+use Rattle.doorbell_irq.specs.declared.effect.Effect.{Effect}
+use Rattle.doorbell_irq.specs.Events.{World, Event, ConfigWritten, RegisterWritten, MsixWritten, WasReset, WasDisconnected, WasConnected, Part, Config, Page, Entry, rows_of, vector_count}
+
+-- An access that writes a space.
+pub record Write : Type 0 where
+  pub offset : ℕ
+  pub width : ℕ
+  pub value : ℕ
+
+-- The bytes of one peer: byte k of each of its spaces.
+abbrev pub Bytes : Type 0
+Bytes = Part → ℕ → ℕ
+
+-- Bit i of a number.
+abbrev pub bit : ℕ → ℕ → Bool
+bit n i = n / 2 ^ i % 2 == 1
+
+-- The State register.
+abbrev pub state_in : Bytes → ℕ
+state_in byte = number_from (byte Page) 0x10 4
+
+-- Interrupt Control bit 0: the peer takes interrupts.
+abbrev pub is_enabled : Bytes → Bool
+is_enabled byte = bit (byte Page 0x08) 0
+
+-- Privileged Control bit 0: the peer is in one-shot mode.
+abbrev pub is_one_shot : Bytes → Bool
+is_one_shot byte = bit (byte Config 0x43) 0
+
+-- The configuration space and the MSI-X table let vector n through. With MSI-X: Command bit 2 or bit 3 is set, MSI-X is enabled,
+-- the function isn't masked, n is below the table's size, and entry n isn't masked. With INTx: Command bit 10 is clear.
+abbrev pub lets_through : Wiring → Bytes → ℕ → Bool
+lets_through (Msix vectors) byte n =
+    (bit (byte Config 0x04) 2 || bit (byte Config 0x04) 3)
+    && (bit (byte Config 0x63) 7 && not (bit (byte Config 0x63) 6))
+    && (nat_lt n vectors && not (bit (byte (Entry n) 0x0C) 0))
+lets_through Intx byte n = not (bit (byte Config 0x05) 2)
+
+-- The vector that is reported for a trigger with vector n: 0 with INTx.
+abbrev pub reported : Wiring → ℕ → ℕ
+reported (Msix vectors) n = n
+reported Intx n = 0
+
+-- The delivery to a peer, if it is triggered: it is connected, takes interrupts, and its registers let the vector through.
+abbrev pub delivery_by : Wiring → Bool → Bytes → Option ℕ → Option ℕ
+delivery_by wiring connected byte None = None
+delivery_by wiring connected byte (Some n) =
+    if connected && (is_enabled byte && lets_through wiring byte n) then Some (reported wiring n) else None
+
+-- The vector that a new State of a source triggers at a peer: 0 at every other one, where it differs from the old one.
+abbrev pub vector_by : ℕ → ℕ → ℕ → ℕ → Option ℕ
+vector_by old source value peer = if not (source == peer) && not (old == value) then Some 0 else None
+
+-- The vector that a write to a register of a source, whose State is `old`, triggers at a peer. The Doorbell has the vector in its
+-- low 16 bits and the target in its high 16 bits, and a peer may ring itself (profile).
+abbrev pub register_vector : ℕ → ℕ → ℕ → ℕ → ℕ → Option ℕ
+register_vector old source offset value peer =
+    if offset == 0x0C then (if value / 65536 == peer then Some (value % 65536) else None)
+    else if offset == 0x10 then vector_by old source value peer
+    else None
+
+-- The vector that an event triggers at a peer, where `before` is how the peers stood.
+abbrev pub vector_of : (ℕ → Bytes) → Event → ℕ → Option ℕ
+vector_of before (RegisterWritten source offset value) peer = register_vector (state_in (before source)) source offset value peer
+vector_of before (WasReset source) peer = vector_by (state_in (before source)) source 0 peer
+vector_of before (WasDisconnected source) peer = vector_by (state_in (before source)) source 0 peer
+vector_of before _ peer = None
+
+-- The event gives all registers of a peer their reset values.
+abbrev pub resets : Event → ℕ → Bool
+resets (WasReset p) peer = p == peer
+resets (WasDisconnected p) peer = p == peer
+resets (WasConnected p) peer = p == peer
+resets _ peer = false
+
+-- What a write to the register page leaves there: Interrupt Control and State alone keep what is written.
+abbrev pub page_write : ℕ → ℕ → Option Write
+page_write offset value = if offset == 0x08 || offset == 0x10 then Some (record { offset = offset; width = 4; value = value }) else None
+
+-- What a write to the MSI-X region leaves in entry n: an aligned word of an entry that the table has.
+abbrev pub entry_write : Wiring → ℕ → ℕ → ℕ → Option Write
+entry_write wiring offset value n =
+    if offset / 16 == n && (offset % 4 == 0 && nat_lt n (vector_count wiring)) then Some (record { offset = offset % 16; width = 4; value = value })
+    else None
+
+-- What the event's guest writes to a space of a peer.
+abbrev pub write_of : Wiring → Event → ℕ → Part → Option Write
+write_of wiring (ConfigWritten p offset width value) peer Config =
+    if p == peer then Some (record { offset = offset; width = width; value = value }) else None
+write_of wiring (RegisterWritten p offset value) peer Page = if p == peer then page_write offset value else None
+write_of wiring (MsixWritten p offset value) peer (Entry n) = if p == peer then entry_write wiring offset value n else None
+write_of wiring _ peer part = None
+
+-- What the device itself writes: on a delivery in one-shot mode it clears Interrupt Control.
+abbrev pub clear_of : Part → Bool → Option Write
+clear_of Page true = Some (record { offset = 0x08; width = 4; value = 0 })
+clear_of Page false = None
+clear_of Config cleared = None
+clear_of (Entry n) cleared = None
+
+-- The guest's write, else the device's own. No event has both.
+abbrev pub write_or : Option Write → Option Write → Option Write
+write_or (Some write) other = Some write
+write_or None other = other
+
+-- A byte behind a write, if there is one.
+abbrev pub byte_after : List Field → Option Write → ℕ → ℕ → ℕ
+byte_after rows None k old = old
+byte_after rows (Some write) k old = byte_behind rows write.offset write.width write.value k old
+
+-- The delivery of an event to a peer, where `connected` and `before` are how the peers stood.
+abbrev pub delivery_of : Wiring → (ℕ → Bool) → (ℕ → Bytes) → Event → ℕ → Option ℕ
+delivery_of wiring connected before event peer = delivery_by wiring (connected peer) (before peer) (vector_of before event peer)
+
+-- The event's write to a space of a peer, the guest's or the device's own.
+abbrev pub whole_write_of : Wiring → (ℕ → Bool) → (ℕ → Bytes) → Event → ℕ → Part → Option Write
+whole_write_of wiring connected before event peer part =
+    write_or (write_of wiring event peer part)
+    (clear_of part (is_some (delivery_of wiring connected before event peer) && is_one_shot (before peer)))
+
+-- Whether a peer is connected behind an event.
+abbrev pub connected_behind : Event → ℕ → Bool → Bool
+connected_behind (WasDisconnected p) peer before = if p == peer then false else before
+connected_behind (WasConnected p) peer before = if p == peer then true else before
+connected_behind _ peer before = before
+
+-- Whether a peer is connected behind a list of events: at the start all are.
+abbrev pub is_connected : List Event → ℕ → Bool
+is_connected [] peer = true
+is_connected (event ∷ events) peer = connected_behind event peer (is_connected events peer)
+
+-- The bytes of the peers' spaces behind a list of events: those at reset, and then what each event wrote.
+abbrev pub bytes_after : World → List Event → ℕ → Bytes
+bytes_after w [] peer part k = reset_byte (rows_of w peer part) k
+bytes_after w (event ∷ events) peer part k =
+    if resets event peer then reset_byte (rows_of w peer part) k
+    else byte_after (rows_of w peer part) (whole_write_of w.wiring (is_connected events) (bytes_after w events) event peer part) k
+    (bytes_after w events peer part k)
+
+-- The delivery to a peer, as a list.
+abbrev pub delivery_to : ℕ → Option ℕ → List Delivery
+delivery_to peer None = []
+delivery_to peer (Some vector) = record { peer = peer; vector = vector } ∷ []
+
+-- The deliveries to the peers below a number, in ascending order.
+abbrev pub deliveries_below : (ℕ → Option ℕ) → ℕ → List Delivery
+deliveries_below at zero = []
+deliveries_below at (suc peer) = deliveries_below at peer ++ delivery_to peer (at peer)
+
+-- The State word that an event writes, changed or not.
+abbrev pub state_of : Event → Option ℕ
+state_of (RegisterWritten p offset value) = if offset == 0x10 then Some value else None
+state_of (WasReset p) = Some 0
+state_of (WasDisconnected p) = Some 0
+state_of _ = None
+
+-- What one more event does, behind a list of events.
+abbrev pub effect_of : World → List Event → Event → Effect
+effect_of w events event = record {
+  state = state_of event;
+  deliveries = record { items = deliveries_below (delivery_of w.wiring (is_connected events) (bytes_after w events) event) w.shape.peers };
+}
+
+-- What the register page of a peer reads: its aligned words, and 0 at every other offset.
+abbrev pub register_at : Bytes → ℕ → ℕ
+register_at byte offset = if offset % 4 == 0 && nat_lt offset 20 then number_from (byte Page) offset 4 else 0
+
+-- What the MSI-X region of a peer reads: the aligned words of its entries, and 0 at every other offset.
+abbrev pub msix_at : Wiring → Bytes → ℕ → ℕ
+msix_at wiring byte offset =
+    if offset % 4 == 0 && nat_lt (offset / 16) (vector_count wiring) then number_from (byte (Entry (offset / 16))) (offset % 16) 4 else 0

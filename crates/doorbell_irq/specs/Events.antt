@@ -1,0 +1,58 @@
+-- What can happen to the devices of a world, and what they are made of.
+use Rattle.std.specs.Prelude.{ℕ, List, [], ◌∷◌}
+use Rattle.section_map.specs.Geometry.{Shape}
+use Rattle.pci_space.specs.declared.field.Field.{Field}
+use Rattle.pci_space.specs.declared.wiring.Wiring.{Wiring}
+use Rattle.pci_space.specs.declared.wiring.Wiring.TheVariants.{Msix, Intx}
+use Rattle.pci_space.specs.Device.{row, device_rows}
+
+-- A world: the sizes of its region with the number of its peers, and how its devices raise interrupts.
+pub record World : Type 0 where
+  pub shape : Shape
+  pub wiring : Wiring
+
+-- What can happen: a guest writes its configuration space, its register page or its MSI-X region, or a peer is reset,
+-- disconnected or connected. Offsets and widths are in bytes.
+pub data Event : Type 0 where
+  ConfigWritten : (peer offset width value : ℕ) → Event
+  RegisterWritten : (peer offset value : ℕ) → Event
+  MsixWritten : (peer offset value : ℕ) → Event
+  WasReset : (peer : ℕ) → Event
+  WasDisconnected : (peer : ℕ) → Event
+  WasConnected : (peer : ℕ) → Event
+
+-- The spaces of one peer: its configuration space, its register page, and each entry of its MSI-X table.
+pub data Part : Type 0 where
+  Config : Part
+  Page : Part
+  Entry : (n : ℕ) → Part
+
+-- The register page of a peer among so many (the device's specification; that the Doorbell reads 0 is profile).
+abbrev pub page_rows : ℕ → ℕ → List Field
+page_rows peers peer =
+    row 0x00 4 peer 0  -- ID
+    ∷ row 0x04 4 peers 0  -- Maximum Peers
+    ∷ row 0x08 4 0 0x0000_0001  -- Interrupt Control: bit 0
+    ∷ row 0x0C 4 0 0  -- Doorbell
+    ∷ row 0x10 4 0 0xFFFF_FFFF  -- State
+    ∷ []
+
+-- An entry of the MSI-X table (PCI 3.0, 6.8.2). At reset it is masked.
+abbrev pub entry_rows : List Field
+entry_rows =
+    row 0x00 4 0 0xFFFF_FFFF  -- Message Address
+    ∷ row 0x04 4 0 0xFFFF_FFFF  -- Message Upper Address
+    ∷ row 0x08 4 0 0xFFFF_FFFF  -- Message Data
+    ∷ row 0x0C 4 1 0x0000_0001  -- Vector Control: bit 0 masks the vector
+    ∷ []
+
+-- The rows of a peer's space. The program's protocol is 0001h.
+abbrev pub rows_of : World → ℕ → Part → List Field
+rows_of w peer Config = device_rows w.shape 0x0001 w.wiring
+rows_of w peer Page = page_rows w.shape.peers peer
+rows_of w peer (Entry n) = entry_rows
+
+-- How many entries the MSI-X table has: none with INTx.
+abbrev pub vector_count : Wiring → ℕ
+vector_count (Msix vectors) = vectors
+vector_count Intx = 0

@@ -1,0 +1,5 @@
+pub mod Events
+pub mod DeviceRules
+pub mod Registers
+pub mod Triggers
+pub mod Stands

@@ -1,0 +1,81 @@
+//! Who is triggered by a call, and the interrupts that come of it.
+ghost use Rattle.std.specs.Prelude.{◌≡◌, ◌<◌, ◌≤◌, ◌/◌, ◌%◌, ℕ, not, ◌&&◌, ◌==◌, if◌then◌else◌, Some, None, length, slice_get};
+ghost use Rattle.doorbell_irq.specs.declared.registers.Registers.{Registers};
+ghost use Rattle.doorbell_irq.specs.Events.{vector_count};
+ghost use Rattle.doorbell_irq.specs.DeviceRules.{deliveries_below};
+ghost use Rattle.doorbell_irq.specs.Registers.{Takes};
+ghost use Rattle.doorbell_irq.specs.Triggers.{vector_at, delivery_among};
+
+use crate::effect::Delivery;
+use crate::registers::Registers;
+use arrayvec::ArrayVec;
+use pci_space::Wiring;
+
+/// Who is triggered.
+#[derive(Clone, Copy, Debug)]
+pub(crate) enum Trigger {
+    /// No peer.
+    Nobody,
+    /// The target of a doorbell, which may be no peer of the world.
+    At { target: u32, vector: u32 },
+    /// Every peer but the source of a new State, with vector 0.
+    Others { source: u32 },
+}
+
+impl Trigger {
+    /// What a word that is written to a Doorbell triggers: the vector stands in the low 16 bits, the target in the high ones.
+    pub(crate) fn by_doorbell(word: u32) -> Trigger
+        ensures { (peer : ℕ) → vector_at result peer ≡ (if word / 65536 == peer then Some (word % 65536) else None) }
+    {
+        Trigger::At {
+            target: word / 65536,
+            vector: word % 65536,
+        }
+    }
+
+    /// What a State triggers that was `old` and is `new`: nothing where it stays the same.
+    pub(crate) fn by_state(source: u32, old: u32, new: u32) -> Trigger
+        ensures { (peer : ℕ) → vector_at result peer ≡ (if not (source == peer) && not (old == new) then Some 0 else None) }
+    {
+        if old == new {
+            Trigger::Nobody
+        } else {
+            Trigger::Others { source }
+        }
+    }
+
+    /// The vector that comes to a peer.
+    fn vector_at(self, peer: u32) -> Option<u32>
+        ensures { result ≡ vector_at self peer }
+    {
+        match self {
+            Trigger::Nobody => None,
+            Trigger::At { target, vector } => (target == peer).then_some(vector),
+            Trigger::Others { source } => (source != peer).then_some(0),
+        }
+    }
+}
+
+/// Triggers the first `peers` peers, in ascending order, and answers the interrupts that came.
+pub(crate) fn deliver(
+    registers: &mut [Registers],
+    peers: u32,
+    wiring: Wiring,
+    trigger: Trigger,
+) -> ArrayVec<Delivery, 8>
+    requires few { peers ≤ 8 }
+    requires all { peers ≤ length registers.old }
+    requires entries { vector_count wiring ≤ 64 }
+    ensures takes { (peer : ℕ) (before after : Registers) → peer < peers → slice_get registers.old peer ≡ Some before →
+        slice_get registers.new peer ≡ Some after → Takes wiring (vector_at trigger peer) before after }
+    ensures came { result.items ≡ deliveries_below (delivery_among wiring trigger registers.old) peers }
+{
+    let mut deliveries = ArrayVec::new();
+    for peer in 0..peers {
+        let taken = registers[peer as usize].take(wiring, trigger.vector_at(peer));
+        if let Some(vector) = taken {
+            deliveries.push(Delivery { peer, vector });
+        }
+    }
+    deliveries
+}

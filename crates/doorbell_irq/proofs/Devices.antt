@@ -1,6 +1,6 @@
 -- How a device goes on with an event.
-use Rattle.std.proofs.Common.{◌≡◌, ◌≢◌, ℕ, zero, suc, ◌<◌, ◌≤◌, List, [], ◌∷◌, ◌++◌, length, get_or, set, length-set, Some, None, refl, sym, ◌∙◌, ap, ap₂, subst, inl, inr, arith}
-use Rattle.std.specs.Prelude.{Bool, true, false, Option, slice_get, ◌⊎◌}
+use Rattle.std.proofs.Common.{◌≡◌, ◌≢◌, ℕ, zero, suc, ◌<◌, ◌≤◌, List, ◌∷◌, ◌++◌, length, get_or, set, length-set, Some, None, refl, sym, ◌∙◌, ap, ap₂, subst, inl, inr, arith}
+use Rattle.std.specs.Prelude.{Bool, false, Option, slice_get, ◌⊎◌}
 use Rattle.std.proofs.lemmas.Option.{slice_get-get_or}
 use Rattle.doorbell_irq.specs.declared.device.Device.{Device}
 use Rattle.doorbell_irq.specs.declared.registers.Registers.{Registers}

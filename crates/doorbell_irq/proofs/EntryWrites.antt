@@ -1,14 +1,14 @@
 -- A write to an entry of the MSI-X table.
-use Rattle.std.proofs.Common.{◌≡◌, ◌≢◌, ℕ, ◌/◌, ◌%◌, ◌<◌, List, length, get_or, set, length-set, Some, None, refl, sym, ◌∙◌, ap, ap₂, inl, inr, arith, eq-eqb}
-use Rattle.std.specs.Prelude.{Bool, true, false, ◌&&◌, ◌==◌, nat_lt, if◌then◌else◌, Result, Ok, Err, IsOk, OnOk, slice_index, slice_get}
+use Rattle.std.proofs.Common.{◌≡◌, ◌≢◌, ℕ, ◌/◌, ◌%◌, ◌<◌, length, get_or, set, length-set, Some, None, refl, sym, ◌∙◌, ap, inl, inr, eq-eqb}
+use Rattle.std.specs.Prelude.{◌&&◌, ◌==◌, nat_lt, if◌then◌else◌, Result, Ok, Err, IsOk, OnOk, slice_index, slice_get}
 use Rattle.std.proofs.lemmas.Bool.{ne_eqb, lt-ltb}
 use Rattle.std.proofs.lemmas.Option.{slice_get-get_or}
 use Rattle.pci_space.specs.Fields.{Contents, byte_behind}
 use Rattle.pci_space.specs.declared.wiring.Wiring.{Wiring}
 use Rattle.doorbell_irq.specs.declared.registers.Registers.{Registers}
 use Rattle.doorbell_irq.specs.Events.{vector_count}
-use Rattle.doorbell_irq.specs.DeviceRules.{Write, entry_write, byte_after}
-use Rattle.doorbell_irq.specs.Registers.{Writes, IsWritten}
+use Rattle.doorbell_irq.specs.DeviceRules.{entry_write, byte_after}
+use Rattle.doorbell_irq.specs.Registers.{Writes}
 use Rattle.doorbell_irq.proofs.Lists.{slice_get-same, slice_get-set_same, slice_get-set_other, nat_cases}
 
 -- What holds on Ok, where it is Ok.

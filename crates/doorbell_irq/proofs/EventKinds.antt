@@ -1,12 +1,12 @@
 -- What each kind of event does to its peer, and that it spares the others.
 use Rattle.std.proofs.Common.{◌≡◌, ◌≢◌, ℕ, ◌/◌, ◌%◌, List, ◌∷◌, Some, None, refl, sym, ◌∙◌, ap, subst, inl, inr, eq-eqb}
-use Rattle.std.specs.Prelude.{Bool, true, false, ◌&&◌, ◌||◌, not, ◌==◌, if◌then◌else◌, Option, ◌⊎◌}
+use Rattle.std.specs.Prelude.{Bool, true, false, ◌&&◌, not, ◌==◌, if◌then◌else◌, ◌⊎◌}
 use Rattle.std.proofs.lemmas.Bool.{ne_eqb, eqb-true}
 use Rattle.pci_space.specs.declared.wiring.Wiring.{Wiring}
 use Rattle.doorbell_irq.specs.declared.registers.Registers.{Registers}
 use Rattle.doorbell_irq.specs.Events.{World, Event, ConfigWritten, RegisterWritten, MsixWritten, WasReset, WasDisconnected, WasConnected, Part, Config, Page, Entry}
-use Rattle.doorbell_irq.specs.DeviceRules.{Write, state_in, vector_by, register_vector, vector_of, page_write, entry_write, write_of, connected_behind, is_connected, bytes_after}
-use Rattle.doorbell_irq.specs.Registers.{IsPeer, Writes, IsReset, register_bytes}
+use Rattle.doorbell_irq.specs.DeviceRules.{state_in, vector_by, vector_of, page_write, entry_write, write_of, is_connected, bytes_after}
+use Rattle.doorbell_irq.specs.Registers.{IsPeer, Writes, IsReset}
 use Rattle.doorbell_irq.proofs.Steps.{peer_written, peer_kept, peer_reset}
 use Rattle.doorbell_irq.proofs.Devices.{Spares}
 

@@ -1,14 +1,12 @@
 -- Registers that are those of a peer give what the rules say of that peer.
-use Rattle.std.proofs.Common.{◌≡◌, ℕ, zero, suc, ◌+◌, ◌*◌, ◌/◌, ◌%◌, ◌<◌, ◌≤◌, List, length, Some, None, refl, sym, ◌∙◌, ap, ap₂, inl, inr, arith}
-use Rattle.std.specs.Prelude.{Bool, true, false, ◌&&◌, ◌||◌, not, ◌==◌, nat_lt, if◌then◌else◌, Option, is_some, slice_index, slice_get}
-use Rattle.std.proofs.lemmas.Bool.{cases_lt, ltb-false, le-ltb, lt-ltb}
-use Rattle.std.proofs.lemmas.Option.{slice_get-get_or}
-use Rattle.pci_space.specs.Fields.{Contents}
+use Rattle.std.proofs.Common.{◌≡◌, ℕ, zero, suc, ◌+◌, ◌*◌, ◌/◌, ◌%◌, ◌<◌, ◌≤◌, List, Some, None, refl, sym, ◌∙◌, ap, ap₂, inl, inr, arith}
+use Rattle.std.specs.Prelude.{Bool, true, false, ◌&&◌, ◌||◌, not, ◌==◌, nat_lt, if◌then◌else◌, Option}
+use Rattle.std.proofs.lemmas.Bool.{cases_lt, le-ltb}
 use Rattle.pci_space.specs.Numbers.{number_from}
 use Rattle.pci_space.specs.declared.wiring.Wiring.{Wiring}
 use Rattle.pci_space.specs.declared.wiring.Wiring.TheVariants.{Msix, Intx}
 use Rattle.doorbell_irq.specs.declared.registers.Registers.{Registers}
-use Rattle.doorbell_irq.specs.Events.{World, Event, Part, Config, Page, Entry, vector_count}
+use Rattle.doorbell_irq.specs.Events.{World, Event, Config, Page, Entry, vector_count}
 use Rattle.doorbell_irq.specs.DeviceRules.{bit, state_in, is_enabled, is_one_shot, lets_through, reported, delivery_by, is_connected, bytes_after, register_at, msix_at}
 use Rattle.doorbell_irq.specs.Registers.{IsPeer, byte_in, register_bytes, delivery_at}
 use Rattle.doorbell_irq.proofs.Lists.{slice_get-within}

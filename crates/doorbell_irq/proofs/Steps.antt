@@ -1,8 +1,7 @@
 -- How one peer's registers go on with an event.
-use Rattle.std.proofs.Common.{◌≡◌, ℕ, ◌<◌, ◌≤◌, List, [], ◌∷◌, length, Some, None, refl, sym, ◌∙◌, ap, ap₂, subst, arith}
-use Rattle.std.specs.Prelude.{Bool, true, false, ◌&&◌, if◌then◌else◌, Option, is_some, slice_index, slice_get}
+use Rattle.std.proofs.Common.{◌≡◌, ℕ, ◌≤◌, List, ◌∷◌, Some, None, refl, sym, ◌∙◌, ap, ap₂, arith}
+use Rattle.std.specs.Prelude.{Bool, true, false, ◌&&◌, if◌then◌else◌, Option, is_some, slice_index}
 use Rattle.pci_space.specs.Fields.{Contents, reset_byte}
-use Rattle.pci_space.specs.declared.wiring.Wiring.{Wiring}
 use Rattle.doorbell_irq.specs.declared.registers.Registers.{Registers}
 use Rattle.doorbell_irq.specs.Events.{World, Event, Part, Config, Page, Entry, rows_of, vector_count}
 use Rattle.doorbell_irq.specs.DeviceRules.{Write, is_one_shot, vector_of, resets, write_of, clear_of, write_or, byte_after, delivery_of, delivery_by, whole_write_of, connected_behind, is_connected, bytes_after}

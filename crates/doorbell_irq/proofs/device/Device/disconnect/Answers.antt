@@ -1,7 +1,4 @@
 use Rattle.std.proofs.Common.{◌≡◌, ℕ, List, Some, refl, inr, ◌∙◌, ap, get_or}
-use Rattle.doorbell_irq.specs.declared.effect.Effect.{Effect}
-use Rattle.doorbell_irq.specs.declared.registers.Registers.{Registers}
-use Rattle.doorbell_irq.specs.declared.device.Device.{Device}
 use Rattle.doorbell_irq.specs.Events.{World, Event, WasDisconnected}
 use Rattle.doorbell_irq.specs.DeviceRules.{vector_by, vector_of, bytes_after}
 use Rattle.doorbell_irq.specs.Stands.{Stands}

@@ -1,5 +1,4 @@
-use Rattle.std.proofs.Common.{◌≡◌, ◌∙◌, ap, subst, ◌≤◌}
-use Rattle.doorbell_irq.specs.Events.{vector_count}
+use Rattle.std.proofs.Common.{◌∙◌, ap}
 use Rattle.doorbell_irq.specs.DeviceRules.{bytes_after, msix_at}
 use Rattle.doorbell_irq.proofs.Same.{msix_same}
 use Rattle.doorbell_irq.proofs.Devices.{peer_at}

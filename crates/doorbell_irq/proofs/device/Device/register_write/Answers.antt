@@ -1,9 +1,7 @@
 use Rattle.std.proofs.Common.{◌≡◌, ℕ, List, refl, ◌∙◌, ap, ap₂, get_or}
 use Rattle.std.specs.Prelude.{Bool, true, false, ◌==◌, if◌then◌else◌, Option, Some, None}
 use Rattle.std.specs.Bool.{then_some}
-use Rattle.arrayvec.specs.ArrayVec.{ArrayVec}
 use Rattle.doorbell_irq.specs.declared.effect.Delivery.{Delivery}
-use Rattle.doorbell_irq.specs.declared.effect.Effect.{Effect}
 use Rattle.doorbell_irq.specs.Events.{World, Event, RegisterWritten}
 use Rattle.doorbell_irq.specs.DeviceRules.{register_vector, vector_of, bytes_after}
 use Rattle.doorbell_irq.specs.Stands.{Stands}

@@ -1,4 +1,4 @@
-use Rattle.std.proofs.Common.{◌≡◌, ℕ, [], refl, sym, ◌∙◌, ap, subst}
+use Rattle.std.proofs.Common.{[], refl, sym, ◌∙◌, ap, subst}
 use Rattle.std.proofs.lemmas.List.{length-replicate}
 use Rattle.pci_space.specs.Fields.{Contents, reset_byte}
 use Rattle.doorbell_irq.specs.Events.{World, page_rows, Entry}

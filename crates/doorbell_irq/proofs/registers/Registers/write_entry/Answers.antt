@@ -1,4 +1,4 @@
-use Rattle.std.proofs.Common.{◌≡◌, ◌%◌, ◌+◌, ◌≤◌, ap₂, arith, rules, eq-eqb, true}
+use Rattle.std.proofs.Common.{◌%◌, ◌+◌, ap₂, arith, eq-eqb}
 use Rattle.std.specs.Prelude.{IsOk, IsTrue, ◌&&◌}
 use Rattle.std.proofs.lemmas.Bool.{le-leb}
 use Rattle.pci_space.specs.Fields.{is_access}

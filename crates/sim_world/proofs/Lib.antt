@@ -1,0 +1,5 @@
+pub mod Looks
+pub mod Words
+pub mod Carries
+pub mod Turns
+pub mod Runs

@@ -1,0 +1,5 @@
+use Rattle.sim_world.proofs.Runs.{begun}
+use Rattle.sim_world.proofs.simulation.Simulation.new.Goals as goal
+
+pub returns : goal.returns
+returns c = begun _ _ c.args.scenario.now.world c.in_ok-links.ensures c.in_ok-region.ensures.zero c.new-2.ensures

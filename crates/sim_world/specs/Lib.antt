@@ -1,0 +1,3 @@
+pub mod Endpoint
+pub mod Link
+pub mod Simulation

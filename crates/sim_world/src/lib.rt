@@ -1,0 +1,39 @@
+//! The simulation: the lawful history of a scenario, step by step over a region. It stands on `link_handshake` for the
+//! phases of an end, on `section_map` for the region, and on the laws of `link_laws` and `link_model`. The contract of
+//! `simulate` promises the one lawful history of its scenario.
+#![tactic(auto)]
+
+ghost use Rattle.std.specs.Prelude.{◌≡◌, IfOk};
+ghost use Rattle.link_model.specs.Sides.{world_of};
+ghost use Rattle.link_model.specs.Schedule.{IsBuilt};
+ghost use Rattle.link_model.specs.Lawful.{IsLawful};
+ghost use Rattle.link_model.specs.History.{history};
+
+mod endpoint;
+mod link;
+mod simulation;
+
+use ivs_base::NoMemory;
+use link_model::history_is_lawful;
+use record_text::Trace;
+use scenario_text::Scenario;
+use simulation::Simulation;
+use std::alloc::Global;
+
+/// The scenario with its one lawful history. Each of its acts is one that is built. NoMemory comes only where memory ran out.
+pub fn simulate(alloc: Global, scenario: Scenario) -> Result<Trace, NoMemory>
+    requires { IsBuilt scenario.acts }
+    ensures scenario { IfOk result (λ trace. trace.scenario ≡ scenario) }
+    ensures history { IfOk result (λ trace. trace.lines ≡ history (world_of scenario)) }
+    ensures lawful { IfOk result (λ trace. IsLawful (world_of scenario) trace.lines) }
+{
+    history_is_lawful();
+    let mut simulation = Simulation::new(alloc, &scenario)?;
+    for act in scenario.acts.items() {
+        simulation.act(act)?;
+    }
+    Ok(Trace {
+        lines: simulation.into_lines(),
+        scenario,
+    })
+}

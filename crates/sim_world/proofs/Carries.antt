@@ -1,5 +1,5 @@
 -- A step that is performed, taken and told is the step of the history.
-use Rattle.std.proofs.Common.{◌≡◌, ℕ, false, List, [], ◌∷◌, ◌++◌, refl, sym, ◌∙◌, ap, subst, append_assoc}
+use Rattle.std.proofs.Common.{◌≡◌, ℕ, false, List, [], ◌∷◌, ◌++◌, refl, sym, ◌∙◌, ap, subst, append_assoc, All}
 use Rattle.std.specs.Prelude.{Option, Some, None, reverse, map}
 use Rattle.std.proofs.lemmas.List.{reverse-append}
 use Rattle.section_map.specs.Geometry.{Words}
@@ -17,7 +17,9 @@ use Rattle.link_model.specs.Memory.{last_write}
 use Rattle.link_model.specs.Entries.{access_lines, mark_line, step_lines, turn_lines}
 use Rattle.link_model.specs.Peers.{Peer}
 use Rattle.link_model.specs.History.{opened, step_by, rest_by, end_by, moved, turn_step, turned}
-use Rattle.sim_world.specs.Endpoint.{Engine, is_open, left_at, place_at, access_of, IsEndOf, Advances}
+use Rattle.sim_world.specs.Endpoint.{Engine, is_open, left_at, place_at, access_of, IsEndOf, Advances, IsFrameless}
+use Rattle.record_text.specs.Frames.{HaveFrames}
+use Rattle.sim_world.proofs.Framed.{frames-append, access_frames, notes_frames}
 use Rattle.sim_world.specs.Link.{Performs, Holds, LinkStands, Steps}
 use Rattle.sim_world.specs.declared.endpoint.Place.{Place}
 use Rattle.sim_world.specs.declared.endpoint.Place.TheVariants.{Closed, Look, Clear, SetState}
@@ -53,10 +55,10 @@ given access.Nothing value word is = absurd (cc)
 pub carried : (region region' : Words) (link : Link) (end' : Engine) (lines mid lines' : List Line) (me : ℕ) (a : Access) (value : ℕ) (notes : List Note) →
     me ≡ link.end.me → a ≡ access_of link.end → Performs region.shape me a region.words value region'.words →
     Advances link.end (step_of (access_of link.end) value (marks_of [] notes)) end' →
-    mid ≡ lines ++ access_lines me a value → lines' ≡ mid ++ map (mark_line me) (marks_of [] notes) →
+    All IsFrameless notes → mid ≡ lines ++ access_lines me a value → lines' ≡ mid ++ map (mark_line me) (marks_of [] notes) →
     (who : Who) (peer : Peer) → Holds region.words (reverse lines) → LinkStands who peer link →
     Steps who (step_by peer.left (reverse lines)) (moved peer (reverse lines)) lines region'.words (record { end = end'; waiting = link.waiting }) lines'
-carried region region' link end' lines mid lines' me a value notes me_is a_is performs advances told_access told_notes who peer holds stands =
+carried region region' link end' lines mid lines' me a value notes me_is a_is performs advances frameless told_access told_notes who peer holds stands =
     let past = reverse lines in
     let marks = marks_of [] notes in
     let step = step_of a value marks in
@@ -71,6 +73,8 @@ carried region region' link end' lines mid lines' me a value notes me_is a_is pe
       holds = subst (λ (ls : List Line). Holds region'.words (reverse ls)) (sym whole) (stepped region.shape me a region.words value region'.words marks lines holds performs);
       told = whole ∙ append_assoc lines (access_lines me a value) (map (mark_line me) marks) ∙ ap (λ (ls : List Line). lines ++ (ls ++ map (mark_line me) marks)) (sym (same_lines me a value))
           ∙ ap (λ p. lines ++ step_lines p step []) whose ∙ ap (λ (w : Option Step). lines ++ turn_lines who.me w []) (sym by.0);
+      frames = λ have. subst (λ (ls : List Line). HaveFrames ls) (sym whole)
+          (frames-append (lines ++ access_lines me a value) (map (mark_line me) marks) (frames-append lines (access_lines me a value) have (access_frames me a value)) (notes_frames me notes frameless));
       stands = record {
         end = subst (λ (w : Option Step). IsEndOf end' who (end_by peer.end w)) (sym by.0) now;
         left = sym by.1;
@@ -101,6 +105,7 @@ idled words link mid lines lines' me me_is shut told opens who peer holds stands
     record {
       holds = rw (told, reverse-append) holds;
       told = told ∙ ap (λ p. lines ++ line.Idle p ∷ []) (me_is ∙ there.end.me) ∙ ap (λ (w : Option Step). lines ++ turn_lines who.me w []) (sym step_is);
+      frames = λ have. subst (λ (ls : List Line). HaveFrames ls) (sym told) (frames-append lines (line.Idle me ∷ []) have refl);
       stands = record {
         end = subst (λ (w : Option Step). IsEndOf mid.end who (end_by (opened who peer).end w)) (sym step_is) there.end;
         left = there.left ∙ sym left_is;

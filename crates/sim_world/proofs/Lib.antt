@@ -1,5 +1,6 @@
 pub mod Looks
 pub mod Words
+pub mod Framed
 pub mod Carries
 pub mod Turns
 pub mod Runs

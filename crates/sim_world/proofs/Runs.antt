@@ -15,6 +15,7 @@ use Rattle.link_model.specs.Entries.{turn_lines}
 use Rattle.link_model.specs.Peers.{Peer, at_start}
 use Rattle.link_model.specs.History.{Moment, turn_step, turned, peer_at, peer_behind, happens, run, beginning, history}
 use Rattle.sim_world.specs.Endpoint.{call_of}
+use Rattle.record_text.specs.Frames.{HaveFrames}
 use Rattle.sim_world.specs.Link.{Holds, IsPlaced, LinkStands, MayStand, TakesTurn}
 use Rattle.sim_world.specs.Simulation.{AreAtStart, IsForItsPeer, IsLinked, moment_of, RunsTo}
 use Rattle.sim_world.specs.declared.endpoint.Call as rust
@@ -80,6 +81,7 @@ begun world s is start region lines = record {
   shape = ap (λ r. r.shape) region;
   count = start.length_is;
   holds = rw (region, lines) (λ word inside. get_or-replicate (word_count world.geometry) word 0 0 (simp length-replicate at inside));
+  frames = rw lines refl;
   past = ap reverse lines;
   stands = λ p link at. let within = slice_get_within s.links.items p link at in let count = start.length_is in
       subst (λ (x : Peer). MayStand (who_of world p) x link) (sym (get_or-replicate world.geometry.peers p at_start at_start (omega arith))) (start.stands p link at);
@@ -91,6 +93,7 @@ record OneMore (world : World) (moment : Moment) (event : Event) (s s' : Simulat
   items : s'.links.items ≡ slice_set s.links.items (event_peer event) link
   shape : s'.region.shape ≡ s.region.shape
   holds : Holds s'.region.words (reverse s'.lines)
+  frames : HaveFrames s'.lines
   past : reverse s'.lines ≡ (happens world moment event).past
   stands : MayStand (who_of world (event_peer event)) (peer_behind world moment event) link
   linked : is_link world (event_peer event) ≡ true → IsSome link
@@ -129,6 +132,7 @@ goes_on world events event s s' link inside more runs =
       shape = more.shape ∙ runs.shape;
       count = ap length more.items ∙ length-set s.links.items (event_peer event) link ∙ runs.count;
       holds = more.holds;
+      frames = more.frames;
       past = more.past ∙ ap (λ (m : Moment). m.past) (sym next);
       stands = λ k found is. subst (λ (m : Moment). MayStand (who_of world k) (peer_at m k) found) (sym next) (at k found is).0;
       linked = λ k found is. (at k found is).1;
@@ -169,6 +173,7 @@ turns_at world events s s' p maybe maybe' inside is items shape some takes runs 
       items = items;
       shape = shape;
       holds = t.holds;
+      frames = t.frames runs.frames;
       past = past_is;
       stands = subst (λ l. MayStand who (turned who (peer_at moment p) l) maybe') runs.past t.stands;
       linked = λ is_one. some (runs.linked p maybe here is_one);
@@ -190,6 +195,7 @@ asks_at world events s s' p call maybe link link' inside is some items region li
       items = items;
       shape = ap (λ r. r.shape) region;
       holds = kept;
+      frames = rw lines runs.frames;
       past = ap reverse lines ∙ runs.past;
       stands = record {
         end = rw end stands.end;

@@ -10,6 +10,8 @@ use Rattle.link_model.specs.declared.line.Line.TheVariants as line
 use Rattle.link_model.specs.Entries.{turn_lines}
 use Rattle.link_model.specs.Peers.{Peer}
 use Rattle.link_model.specs.History.{opened_by, opened, step_by, moved, turn_step, turned}
+use Rattle.record_text.specs.Frames.{HaveFrames}
+use Rattle.sim_world.proofs.Framed.{frames-append}
 use Rattle.sim_world.specs.Link.{Holds, LinkStands, MayStand, Steps, TakesTurn}
 use Rattle.sim_world.specs.declared.link.Link.{Link}
 
@@ -19,7 +21,7 @@ pub linked_turn : (who : Who) (peer : Peer) (words words' : List ℕ) (lines lin
 linked_turn who peer words words' lines lines' maybe link link' is steps holds stands =
     let there : MayStand who peer (Some link) = subst (λ (m : Option Link). MayStand who peer m) is stands in
     let s = steps who peer holds there in
-    record { holds = s.holds; told = s.told; stands = s.stands }
+    record { holds = s.holds; told = s.told; frames = s.frames; stands = s.stands }
 
 -- a peer without a call takes no step
 nothing_opened : (who : Who) (peer : Peer) → peer.left ≡ Ended → peer.waiting ≡ [] → opened who peer ≡ record { end = peer.end; left = Ended; waiting = [] }
@@ -36,5 +38,6 @@ unlinked_turn who peer words lines lines' maybe me is whose told holds stands =
     record {
       holds = rw (told, reverse-append) holds;
       told = told ∙ ap (λ p. lines ++ line.Idle p ∷ []) (sym whose) ∙ ap (λ (w : Option Step). lines ++ turn_lines who.me w []) (sym step_is);
+      frames = λ have. subst (λ (ls : List Line). HaveFrames ls) (sym told) (frames-append lines (line.Idle me ∷ []) have refl);
       stands = subst (λ (p : Peer). MayStand who p None) (sym turned_is) (refl, refl);
     }

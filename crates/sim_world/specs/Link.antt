@@ -12,6 +12,7 @@ use Rattle.link_model.specs.Memory.{last_write}
 use Rattle.link_model.specs.Entries.{turn_lines}
 use Rattle.link_model.specs.Peers.{Peer}
 use Rattle.link_model.specs.History.{turn_step, turned}
+use Rattle.record_text.specs.Frames.{HaveFrames}
 use Rattle.sim_world.specs.Endpoint.{Engine, call_of, left_at, IsEndOf}
 use Rattle.sim_world.specs.declared.link.Link.{Link}
 
@@ -60,6 +61,7 @@ pub record LinkStands (who : Who) (peer : Peer) (link : Link) : Type 0 where
 pub record Steps (who : Who) (went : Option Step) (next : Peer) (lines : List Line) (words' : List ℕ) (link' : Link) (lines' : List Line) : Type 0 where
   pub holds : Holds words' (reverse lines')
   pub told : lines' ≡ lines ++ turn_lines who.me went []
+  pub frames : HaveFrames lines → HaveFrames lines'
   pub stands : LinkStands who next link'
 
 -- a peer without a link has no call, open or waiting
@@ -71,4 +73,5 @@ MayStand who peer (Some link) = LinkStands who peer link
 pub record TakesTurn (who : Who) (peer : Peer) (lines : List Line) (words' : List ℕ) (link' : Option Link) (lines' : List Line) : Type 0 where
   pub holds : Holds words' (reverse lines')
   pub told : lines' ≡ lines ++ turn_lines who.me (turn_step who peer (reverse lines)) []
+  pub frames : HaveFrames lines → HaveFrames lines'
   pub stands : MayStand who (turned who peer (reverse lines)) link'

@@ -7,6 +7,7 @@ use Rattle.link_model.specs.Schedule.{Event}
 use Rattle.link_model.specs.Sides.{who_of}
 use Rattle.link_model.specs.Peers.{at_start}
 use Rattle.link_model.specs.History.{Moment, run, beginning, peer_at}
+use Rattle.record_text.specs.Frames.{HaveFrames}
 use Rattle.sim_world.specs.Link.{Holds, MayStand}
 use Rattle.sim_world.specs.declared.link.Link.{Link}
 use Rattle.sim_world.specs.declared.simulation.Simulation.{Simulation}
@@ -35,6 +36,7 @@ pub record RunsTo (world : World) (events : List Event) (s : Simulation) : Type 
   pub shape : s.region.shape ≡ world.geometry
   pub count : length s.links.items ≡ world.geometry.peers
   pub holds : Holds s.region.words (reverse s.lines)
+  pub frames : HaveFrames s.lines
   pub past : reverse s.lines ≡ (moment_of world events).past
   pub stands : (p : ℕ) (link : Option Link) → slice_get s.links.items p ≡ Some link → MayStand (who_of world p) (peer_at (moment_of world events) p) link
   pub linked : (p : ℕ) (link : Option Link) → slice_get s.links.items p ≡ Some link → is_link world p ≡ true → IsSome link

@@ -3,6 +3,7 @@ use Rattle.link_model.specs.declared.line.Line.{Line}
 use Rattle.link_model.specs.Sides.{world_of}
 use Rattle.link_model.specs.Schedule.{schedule}
 use Rattle.link_model.specs.Lawful.{IsLawful}
+use Rattle.record_text.specs.Frames.{HaveFrames}
 use Rattle.sim_world.proofs.Runs.{one_act, for_its_peer, whole_history}
 use Rattle.sim_world.proofs.simulate.Goals as goal
 
@@ -22,3 +23,6 @@ returns-clause-lawful c =
     let world = world_of c.args.scenario in
     let same = whole_history world c.loop-act.act-index c.loop-act.simulation (omega (arith, ap length c.items-act-items.ensures)) c.loop-act.invariant in
     subst (λ (lines : List Line). IsLawful world lines) (sym (c.into_lines.ensures ∙ same)) (c.history_is_lawful.ensures world c.args.scenario.world c.requires)
+
+pub invariant_of-result : goal.invariant_of-result
+invariant_of-result c = record { frames = subst (λ (lines : List Line). HaveFrames lines) (sym c.into_lines.ensures) c.loop-act.invariant.frames }

@@ -11,7 +11,7 @@ use Rattle.link_pair.specs.Standing.{words_of_bytes, Place, Standing, accepted_c
 use Rattle.link_pair.specs.Standing.Place.{Closed, Ticking, Refusing, Reclaiming, Filling, AfterLow, AfterHigh, AfterLength, AfterFlags, AfterEntry, AtEntry, AtLow, AtHigh, AtLength, AtFlags, AtWord, AtUsedId, AtUsedLength, AtUsedIndex}
 use Rattle.link_pair.specs.Moves.{address_of, IsAddress, IsLength}
 use Rattle.link_pair.specs.Moves.Moves.{read_state, clear_word, write_state, stop, give_up, reset, read_used_index, refuse_used_index, read_id, refuse_id, write_word, write_low, write_high, write_length, write_flags, write_entry, write_avail_index, read_avail_index, read_no_news, refuse_avail_index, read_entry, refuse_entry, read_low, read_high, refuse_address, read_length, refuse_length, read_flags, refuse_flags, read_word, read_last_word, write_id, write_used_length, write_used_index}
-use Rattle.link_pair.specs.Fold.{Read, Write, Reset, stand, after_read, after_write, after_state, offered, polled, is_address, is_length, FoldGoesAlong}
+use Rattle.link_pair.specs.Fold.{Read, Write, Reset, stand, after_read, after_write, after_state, offered, polled, is_address, is_length, FoldGoesAlong, AccessDecides}
 use Rattle.link_pair.proofs.Words.{at_is}
 use Rattle.link_pair.proofs.StepsKeepPair.{one_test}
 use Rattle.link_pair.proofs.AloneKept.{within_at}
@@ -107,3 +107,7 @@ along z memory after p s _ _ is p2 o (read_last_word more e a l ws here last) ma
 along z memory after p s _ _ is p2 o (write_id more e here) made = writes_at z p s _ _ (AtUsedId more e) (high_base z p (z.word_of (UsedId (s.returned % z.size))) is p2) here
 along z memory after p s _ _ is p2 o (write_used_length more here) made = writes_at z p s _ _ (AtUsedLength more) (high_base z p (z.word_of (UsedLength (s.returned % z.size))) is p2) here
 along z memory after p s _ _ is p2 o (write_used_index more here) made = writes_at z p s _ _ (AtUsedIndex (more + 1)) (high_base z p (z.word_of UsedIndex) is p2) here ∙ ap (having_returned s) (omega arith)
+
+-- two steps with one access
+pub decides : AccessDecides
+decides z memory after other_after p s effect other t u is p2 o step made rival rival_made same = sym (along z memory after p s effect t is p2 o step made) ∙ (ap (stand z p s) same ∙ along z memory other_after p s other u is p2 o rival rival_made)

@@ -123,3 +123,9 @@ access_of layout p memory s (write_used_index more here) = puts layout p memory 
 -- The fold goes along with each step: the access of a step leaves the end where the step leads.
 abbrev pub FoldGoesAlong : Type 0
 FoldGoesAlong = (layout : Layout) (memory after : ℕ → ℕ) (p : ℕ) (s : Standing) (effect : Effect) (t : Standing) → IsLayout layout → p < 2 → Alone layout memory p s → (step : MovesIn layout memory p s effect t) → Changes layout p memory effect after → stand layout p s (access_of layout p memory s step) ≡ t
+
+-- The access decides: two steps from one standing that make the same access lead to the same standing.
+abbrev pub AccessDecides : Type 0
+AccessDecides = (layout : Layout) (memory after other_after : ℕ → ℕ) (p : ℕ) (s : Standing) (effect other : Effect) (t u : Standing) → IsLayout layout → p < 2 → Alone layout memory p s →
+    (step : MovesIn layout memory p s effect t) → Changes layout p memory effect after → (rival : MovesIn layout memory p s other u) → Changes layout p memory other other_after →
+    access_of layout p memory s step ≡ access_of layout p memory s rival → t ≡ u

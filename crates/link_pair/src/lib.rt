@@ -4,7 +4,7 @@
 #![tactic(auto)]
 
 ghost use Rattle.link_pair.specs.Alone.{RunsKeepWhole};
-ghost use Rattle.link_pair.specs.Fold.{FoldGoesAlong};
+ghost use Rattle.link_pair.specs.Fold.{FoldGoesAlong, AccessDecides};
 ghost use Rattle.link_pair.specs.HonestRows.{HonestRowsHold};
 ghost use Rattle.link_pair.specs.Laws.{StartIsWhole};
 ghost use Rattle.link_pair.specs.Laws.{StepKeepsPair};
@@ -98,4 +98,9 @@ pub fn fold_goes_along()
 /// The split ring's layout of a section is a layout.
 pub fn ring_layout_is_a_layout()
     ensures { RingLayoutIsLayout }
+{}
+
+/// Two steps from one standing that make the same access lead to the same standing.
+pub fn access_decides()
+    ensures { AccessDecides }
 {}

@@ -130,6 +130,7 @@ others_lem ground p memory after end place s is stands keep = let lay = is_layou
   mark = stands.mark;
   accepted = stands.accepted;
   delivered = stands.delivered;
+  frames = stands.frames;
   returned = stands.returned;
   freed = stands.freed;
   written = λ j lt. keep.section j lt ∙ stands.written j lt;

@@ -6,3 +6,5 @@ pub mod OfferMoves
 pub mod WriteMoves
 pub mod TickMoves
 pub mod CallMoves
+pub mod Frames
+pub mod Kept

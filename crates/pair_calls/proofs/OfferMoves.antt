@@ -82,6 +82,7 @@ used_index ground p memory end s job freed value is alone stands met = let h = s
         mark = x.1;
         accepted = stands.accepted;
         delivered = stands.delivered;
+        frames = stands.frames;
         returned = stands.returned;
         freed = λ two m. let f = stands.freed two m in let ids = x.2 in omega arith;
         written = stands.written;
@@ -107,6 +108,7 @@ used_id ground p memory end s job freed more value is alone stands met = let h =
         mark = x.1;
         accepted = stands.accepted;
         delivered = stands.delivered;
+        frames = stands.frames;
         returned = stands.returned;
         freed = λ two m. let f = stands.freed two m in let ids = x.2 in omega arith;
         written = stands.written;

@@ -60,7 +60,7 @@ run_mark ground p memory end s place alone run mark = dite_bool end.handshake.ma
 more_entries : (ground : Ground) (p : ℕ) (memory : ℕ → ℕ) (end : End) (s : Standing) (taken count : ℕ) → IsGround ground → StandsAs ground p memory end (AtAvailIndex taken) s → count ≡ distance (delivered_count s) (at (layout_of ground) memory (1 - p) field.AvailIndex) → count ≤ size_of ground.sizes →
     (b : Bool) → (count == 0) ≡ b → ReadsTo ground p memory (noted_all end (if b then Look 0 ∷ Done ∷ [] else Look count ∷ [])) s (if b then Closed else items_place taken count)
 more_entries ground p memory end s taken count is stands read few true zero_test = let none : 0 ≡ count = grind (arith, nat_tests) in let h = stands.at in
-    (s, move.read_no_news h.1 h.0 (none ∙ read), record { phase = stands.phase; mark = stands.mark; accepted = stands.accepted; delivered = stands.delivered; returned = stands.returned; freed = stands.freed; written = stands.written; flags = stands.flags; at = h.0 })
+    (s, move.read_no_news h.1 h.0 (none ∙ read), record { phase = stands.phase; mark = stands.mark; accepted = stands.accepted; delivered = stands.delivered; frames = stands.frames; returned = stands.returned; freed = stands.freed; written = stands.written; flags = stands.flags; at = h.0 })
 more_entries ground p memory end s taken zero is stands read few false zero_test = let f : true ≡ false = zero_test in absurd (cc)
 more_entries ground p memory end s taken (suc more) is stands read few false zero_test = let h = stands.at in (
   at_place s (pair.AtEntry (suc more)),

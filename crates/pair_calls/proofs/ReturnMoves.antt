@@ -42,6 +42,7 @@ next_word ground p memory end s number more e a l read words value alone stands 
         phase = stands.phase;
         mark = stands.mark;
         accepted = stands.accepted;
+        frames = stands.frames;
         delivered = ap (λ (d : List (List ℕ)). d ++ frame_in l (read ++ value ∷ []) ∷ []) stands.delivered ∙ sym (map_last delivered_frame s.delivered (word_frame l (read ++ value ∷ [])));
         returned = stands.returned;
         freed = stands.freed;
@@ -127,6 +128,7 @@ give_index ground p memory after end s number more value alone stands stored = l
       mark = items_mark s.refused end.handshake.mark (number + 1) more stands.mark;
       accepted = stands.accepted;
       delivered = stands.delivered;
+      frames = stands.frames;
       returned = ap (λ k. k + 1) stands.returned;
       freed = λ two m. ap (λ k. s.freed + k) (sym (items_ids (number + 1) more)) ∙ stands.freed two m;
       written = written_kept memory after (section_of ground p) x (index_word (number + 1)) ground.words end.written stored stands.written;

@@ -26,6 +26,7 @@ stands_read ground p memory end s place place' x stands mark left at = record {
   mark = mark;
   accepted = stands.accepted;
   delivered = stands.delivered;
+  frames = stands.frames;
   returned = stands.returned;
   freed = λ two m. let f = stands.freed two m in omega arith;
   written = stands.written;
@@ -41,6 +42,7 @@ stands_refused ground p memory end s place stands run = record {
   mark = refl;
   accepted = stands.accepted;
   delivered = stands.delivered;
+  frames = stands.frames;
   returned = stands.returned;
   freed = λ two m. absurd (let f : true ≡ false = m in cc);
   written = stands.written;
@@ -57,6 +59,7 @@ stands_written ground p memory after end s place place' x word v stored avail us
   mark = mark;
   accepted = stands.accepted;
   delivered = stands.delivered;
+  frames = stands.frames;
   returned = stands.returned;
   freed = λ two m. let f = stands.freed two m in omega arith;
   written = written_kept memory after (section_of ground p) word v ground.words end.written stored stands.written;

@@ -24,7 +24,7 @@ use Rattle.link_pair.specs.Moves as move
 use Rattle.link_pair.specs.Alone.{Alone}
 use Rattle.link_pair.proofs.AloneKept.{keeps_at}
 use Rattle.link_pair.proofs.HandshakeSteps.{target_few, target_two, target_three, entered_two, entered_else}
-use Rattle.pair_calls.specs.Ground.{Ground, IsGround, section_of, who_of, layout_of, offered_frame, ids_left, MarkIs, PlaceIs, StandsAs}
+use Rattle.pair_calls.specs.Ground.{AreOffered, Ground, IsGround, section_of, who_of, layout_of, offered_frame, ids_left, MarkIs, PlaceIs, StandsAs}
 use Rattle.pair_calls.proofs.Grounds.{is_layout, avail_place, used_place, written_kept}
 use Rattle.pair_calls.proofs.Steps.{wrote, stands_read}
 use Rattle.pair_calls.proofs.PollMoves.{ReadsTo, StepsTo}
@@ -85,6 +85,7 @@ same_stands ground p memory end s place place' stands mark left at = record {
   mark = mark;
   accepted = stands.accepted;
   delivered = stands.delivered;
+  frames = stands.frames;
   returned = stands.returned;
   freed = λ two m. let f = stands.freed two m in omega arith;
   written = stands.written;
@@ -129,6 +130,7 @@ clearing ground p memory after end s at more state value stands stored = let h =
         mark = c.1 s.refused end.handshake.mark stands.mark;
         accepted = stands.accepted;
         delivered = stands.delivered;
+        frames = stands.frames;
         returned = stands.returned;
         freed = λ two. absurd (omega arith);
         written = written_kept memory after (section_of ground p) at 0 ground.words end.written stored stands.written;
@@ -149,6 +151,7 @@ rests ground p memory after end s place refused mark is p2 stored stands same = 
   mark = same;
   accepted = stands.accepted;
   delivered = stands.delivered;
+  frames = stands.frames;
   returned = stands.returned;
   freed = λ two. absurd (omega arith);
   written = λ j lt. state_beside ground p memory after 0 is p2 stored j ∙ stands.written j lt;
@@ -168,6 +171,7 @@ enters ground p memory after end s v j n is p2 alone stands here all n_is stored
       mark = stands.mark;
       accepted = sym (ap (map offered_frame) (yes (n == 2) [] end.accepted (eq-eqb n 2 two)));
       delivered = yes (n == 2) [] end.delivered (eq-eqb n 2 two);
+      frames = subst (AreOffered ground) (sym (yes (n == 2) [] end.accepted (eq-eqb n 2 two))) tt;
       returned = sym (yes (n == 2) 0 end.returned (eq-eqb n 2 two));
       freed = λ _ _. sym (yes (n == 2) 0 end.freed (eq-eqb n 2 two));
       written = λ k lt. state_beside ground p memory after n is p2 stored k ∙ stands.written k lt;
@@ -183,6 +187,7 @@ enters ground p memory after end s v j n is p2 alone stands here all n_is stored
       mark = stands.mark;
       accepted = stands.accepted ∙ sym (ap (map offered_frame) (no (n == 2) [] end.accepted (ne_eqb n 2 ne)));
       delivered = no (n == 2) [] end.delivered (ne_eqb n 2 ne) ∙ stands.delivered;
+      frames = subst (AreOffered ground) (sym (no (n == 2) [] end.accepted (ne_eqb n 2 ne))) stands.frames;
       returned = stands.returned ∙ sym (no (n == 2) 0 end.returned (ne_eqb n 2 ne));
       freed = λ two m. stands.freed (let r = ready two in omega arith) m ∙ sym (no (n == 2) 0 end.freed (ne_eqb n 2 ne));
       written = λ k lt. state_beside ground p memory after n is p2 stored k ∙ stands.written k lt;

@@ -15,7 +15,7 @@ use Rattle.link_pair.specs.Standing as pair
 use Rattle.link_pair.specs.Standing.{Standing, WordFrame, word_frame, accepted_count, at_place, having_accepted}
 use Rattle.link_pair.specs.Pair.{IsFrameSize}
 use Rattle.link_pair.specs.Moves as move
-use Rattle.pair_calls.specs.Ground.{Ground, IsGround, section_of, layout_of, first_words, offered_frame, IsOffered, entry_word, IsJobFrom, ids_left, MarkIs, PlaceIs, StandsAs}
+use Rattle.pair_calls.specs.Ground.{Ground, IsGround, AreOffered, section_of, layout_of, first_words, offered_frame, IsOffered, entry_word, IsJobFrom, ids_left, MarkIs, PlaceIs, StandsAs}
 use Rattle.pair_calls.proofs.Grounds.{numbers, is_layout, payload_words, avail_place, entry_place, low_place, high_place, length_place, flags_place, slot_start, slot_place, field_put, written_kept}
 use Rattle.pair_calls.proofs.Steps.{wrote, stands_written}
 use Rattle.pair_calls.proofs.PollMoves.{StepsTo, put_comes}
@@ -129,6 +129,11 @@ writing_entry ground p memory after end s job value is stands stored = let h = s
 indices_apart : (own n : ℕ) → own + ((18 * n + 6 + 63) / 64 * 64 + 2) / 4 ≢ own + (16 * n + 2) / 4
 indices_apart own n e = omega arith
 
+-- one more frame that may be offered
+offered_more : (ground : Ground) (frames : List (List ℕ)) (frame : List ℕ) → AreOffered ground frames → IsOffered ground frame → AreOffered ground (frames ++ frame ∷ [])
+offered_more ground [] frame all one = (one, tt)
+offered_more ground (first ∷ frames) frame all one = (all.0, offered_more ground frames frame all.1 one)
+
 pub writing_index : (ground : Ground) (p : ℕ) (memory after : ℕ → ℕ) (end : End) (s : Standing) (job : Job) (value : ℕ) → StandsAs ground p memory end (WritingIndex job) s →
     Stored memory after (section_of ground p + word_place ground.sizes AvailableIndex) (index_word (job.number + 1)) → StepsTo ground p memory after end (WritingIndex job) value s
 writing_index ground p memory after end s job value stands stored = let h = stands.at in let n = size_of ground.sizes in let ws = first_words job.frame (words_for (length job.frame)) in let l = length job.frame in
@@ -140,6 +145,7 @@ writing_index ground p memory after end s job value stands stored = let h = stan
       mark = stands.mark;
       accepted = ap (λ (a : List WordFrame). a ++ word_frame l ws ∷ []) stands.accepted ∙ sym (map_last offered_frame end.accepted job.frame);
       delivered = stands.delivered;
+      frames = offered_more ground end.accepted job.frame stands.frames h.1.frame;
       returned = stands.returned;
       freed = stands.freed;
       written = written_kept memory after (section_of ground p) x (index_word (job.number + 1)) ground.words end.written stored stands.written;

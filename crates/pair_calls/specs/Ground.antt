@@ -58,6 +58,11 @@ pub record IsOffered (ground : Ground) (frame : List ℕ) : Type 0 where
   pub most : length frame ≤ ground.sizes.mtu + 18
   pub bytes : All (λ byte. byte < 256) frame
 
+-- each of these frames may be offered
+abbrev pub AreOffered : Ground → List (List ℕ) → Type 0
+AreOffered ground [] = Unit {0}
+AreOffered ground (frame ∷ frames) = IsOffered ground frame × AreOffered ground frames
+
 -- the job of an open offer: the frame may be offered, and has the number of the next frame
 pub record IsJob (ground : Ground) (s : Standing) (job : Job) : Type 0 where
   pub frame : IsOffered ground job.frame
@@ -117,6 +122,7 @@ pub record StandsAs (ground : Ground) (p : ℕ) (memory : ℕ → ℕ) (end : En
   pub mark : MarkIs place s.refused end.handshake.mark
   pub accepted : s.accepted ≡ map offered_frame end.accepted
   pub delivered : end.delivered ≡ map delivered_frame s.delivered
+  pub frames : AreOffered ground end.accepted
   pub returned : s.returned ≡ end.returned
   pub freed : 2 ≤ s.phase → end.handshake.mark ≡ false → s.freed + ids_left place ≡ end.freed
   pub written : (j : ℕ) → j < ground.words → memory (section_of ground p + j) ≡ end.written (section_of ground p + j)

@@ -4,8 +4,34 @@
 #![tactic(auto)]
 
 ghost use Rattle.pair_calls.specs.Laws.{CallsAreMoves};
+ghost use Rattle.pair_calls.specs.Both.{EndsAreKept};
+ghost use Rattle.pair_calls.specs.Both.{HonestCallsNeverRefuse};
+ghost use Rattle.pair_calls.specs.Both.{FramesComeWhole};
+ghost use Rattle.pair_calls.specs.Both.{HonestCallsDeliver};
 
-/// Each step of a call is a step of the pair, or touches no word.
+/// Each step of a call that meets what memory has is a step of the pair, or touches no word; a device reset is a step of the pair; and a
+/// change of words elsewhere leaves the end where it stands.
 pub fn calls_are_moves()
     ensures { CallsAreMoves }
+{}
+
+/// The two ends, each honest or not, keep the whole of the pair: from their start on, by each step of a call, a reset, or a store of a
+/// hostile peer.
+pub fn ends_are_kept()
+    ensures { EndsAreKept }
+{}
+
+/// Two honest ends never refuse.
+pub fn honest_calls_never_refuse()
+    ensures { HonestCallsNeverRefuse }
+{}
+
+/// A frame is delivered by the bytes by which it was offered.
+pub fn frames_come_whole()
+    ensures { FramesComeWhole }
+{}
+
+/// What one honest end delivered in its session begins what the other accepted in its own.
+pub fn honest_calls_deliver()
+    ensures { HonestCallsDeliver }
 {}

@@ -1,3 +1,5 @@
 pub mod Bodies
 pub mod Bytes
+pub mod ExactFaults
 pub mod Items
+pub mod OneListing

@@ -1,4 +1,4 @@
-use crate::{DumpFault, dump};
+use crate::{DumpFault, dump, faults_are_exact, listings_are_one};
 use byteorder::{ByteOrder, LittleEndian};
 use section_map::{GeometryFault, Part};
 use std::alloc::{AllocError, Global};
@@ -162,4 +162,10 @@ fn bad_items(rt: HostRuntime) -> Result<(), Fail> {
         bad 0 DescLength 14593\nbad 1 DescFlags 1\nframe 2 4 16368 16 00000000000000000000000000000001\n\
         section 1 65 0\nbad 65 AvailIndex 65\nend\n";
     sections_are(&rt, alloc, &words, want)
+}
+
+#[test]
+fn laws() {
+    faults_are_exact();
+    listings_are_one();
 }

@@ -4,19 +4,8 @@ use Rattle.section_map.specs.Geometry.{section_start}
 use Rattle.pci_space.specs.declared.wiring.Wiring.{Wiring}
 use Rattle.pci_space.specs.declared.wiring.Wiring.TheVariants.{Msix, Intx}
 use Rattle.scenario_text.specs.Scenario.{World}
-use Rattle.scenario_text.specs.declared.scenarios.Scenario.{Scenario}
 use Rattle.link_laws.specs.Calls.{Who}
-
--- what a scenario says, without the proof that it is one
-abbrev pub world_of : Scenario → World
-world_of scenario = record {
-  version = scenario.version;
-  geometry = scenario.geometry;
-  queue = scenario.queue;
-  wiring = scenario.wiring;
-  honest = scenario.honest;
-  acts = scenario.acts;
-}
+pub use Rattle.scenario_text.specs.Spelling.{world_of}
 
 -- peers 0 and 1 are the two ends of the link (profile)
 abbrev pub partner : ℕ → ℕ

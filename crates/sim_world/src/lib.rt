@@ -12,6 +12,8 @@ ghost use Rattle.link_model.specs.History.{history};
 mod endpoint;
 mod link;
 mod simulation;
+#[cfg(test)]
+mod tests;
 
 use ivs_base::NoMemory;
 use link_model::history_is_lawful;

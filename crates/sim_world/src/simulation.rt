@@ -64,6 +64,17 @@ fn links_of(alloc: Global, scenario: &Scenario) -> Result<Vec<Option<Link>>, NoM
     Ok(links)
 }
 
+/// How many turns the acts ask for.
+fn turn_count(acts: &[Act]) -> usize {
+    let mut turns: usize = 0;
+    for act in acts {
+        if let Act::Turn { steps, .. } = act {
+            turns = turns.saturating_add(*steps as usize);
+        }
+    }
+    turns
+}
+
 impl Simulation {
     /// The world in which nothing has happened.
     pub fn new(alloc: Global, scenario: &Scenario) -> Result<Simulation, NoMemory>
@@ -71,10 +82,13 @@ impl Simulation {
     {
         let links = links_of(alloc, scenario)?;
         let region = Region::new(alloc, &scenario.geometry)?;
+        let mut lines = Lines::new(alloc);
+        // Each turn has a line at least, and most have just one.
+        lines.reserve(turn_count(scenario.acts.items()))?;
         Ok(Simulation {
             region,
             links,
-            lines: Lines::new(alloc),
+            lines,
         })
     }
 

@@ -16,7 +16,7 @@ use section_map::Geometry;
 ///
 /// A contract says where a device stands: behind which list of events, the newest first. Each call adds one event, and its answer is
 /// what the rules say of that event there. Every call's peer is below the number of peers.
-#[derive(Debug)]
+#[derive(Debug, Drop)]
 pub struct Device {
     peers: u32,
     wiring: Wiring,

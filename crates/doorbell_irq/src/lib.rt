@@ -10,3 +10,6 @@ mod trigger;
 
 pub use device::Device;
 pub use effect::{Delivery, Effect};
+
+#[cfg(test)]
+mod tests;

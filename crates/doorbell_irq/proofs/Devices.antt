@@ -2,7 +2,7 @@
 use Rattle.std.proofs.Common.{◌≡◌, ◌≢◌, ℕ, zero, suc, ◌<◌, ◌≤◌, List, ◌∷◌, ◌++◌, length, get_or, set, length-set, Some, None, refl, sym, ◌∙◌, ap, ap₂, subst, inl, inr, arith}
 use Rattle.std.specs.Prelude.{Bool, false, Option, slice_get, ◌⊎◌}
 use Rattle.std.proofs.lemmas.Option.{slice_get-get_or}
-use Rattle.doorbell_irq.specs.declared.device.Device.{Device}
+use Rattle.doorbell_irq.specs.Devices.{Devices, IsDevices}
 use Rattle.doorbell_irq.specs.declared.registers.Registers.{Registers}
 use Rattle.doorbell_irq.specs.Events.{World, Event, Part, vector_count}
 use Rattle.doorbell_irq.specs.DeviceRules.{vector_of, resets, write_of, delivery_by, delivery_of, deliveries_below, delivery_to, connected_behind, is_connected, bytes_after}
@@ -20,11 +20,11 @@ deliveries_same f g zero same = refl
 deliveries_same f g (suc n) same = ap₂ (λ ds d. ds ++ delivery_to n d) (deliveries_same f g n (λ peer less. same peer (omega arith))) (same n (omega arith))
 
 -- The registers of a peer of a device that stands there.
-pub peer_at : (w : World) (events : List Event) (device : Device) → Stands w events device → (peer : ℕ) (d : Registers) → peer < device.peers →
+pub peer_at : (w : World) (events : List Event) (device : Devices) → IsDevices device → Stands w events device → (peer : ℕ) (d : Registers) → peer < device.peers →
     IsPeer w events peer (get_or device.registers peer d)
-peer_at w events device stands peer d inside =
+peer_at w events device sound stands peer d inside =
     stands.registers peer (get_or device.registers peer d) (omega (arith, stands.peers))
-    (slice_get-get_or device.registers peer d (omega (arith, stands.seats, device.few)))
+    (slice_get-get_or device.registers peer d (omega (arith, stands.seats, sound.few)))
 
 -- The event leaves the other peers alone, but for what it triggers.
 pub record Spares (w : World) (event : Event) (peer : ℕ) : Type 0 where
@@ -32,10 +32,10 @@ pub record Spares (w : World) (event : Event) (peer : ℕ) : Type 0 where
   pub connection : (before : Bool) → connected_behind event peer before ≡ before
   pub writes : (part : Part) → write_of w.wiring event peer part ≡ None
 
-module _ (w : World) (events : List Event) (event : Event) (old : Device) (stands : Stands w events old) (source : ℕ) (inside : source < old.peers)
+module _ (w : World) (events : List Event) (event : Event) (old : Devices) (sound : IsDevices old) (stands : Stands w events old) (source : ℕ) (inside : source < old.peers)
     (spares : (peer : ℕ) → peer ≢ source → Spares w event peer) where
   entries_few : vector_count w.wiring ≤ 64
-  entries_few = subst (λ wiring. vector_count wiring ≤ 64) stands.wiring old.entries
+  entries_few = subst (λ wiring. vector_count wiring ≤ 64) stands.wiring sound.entries
 
   -- A peer that isn't triggered stays as it is.
   spared : (peer : ℕ) (r : Registers) → peer ≢ source → vector_of (bytes_after w events) event peer ≡ None → IsPeer w events peer r → IsPeer w (event ∷ events) peer r
@@ -44,7 +44,7 @@ module _ (w : World) (events : List Event) (event : Event) (old : Device) (stand
       quiet (spares peer other).writes is (keeps r)
 
   -- An event that triggers nobody: the source's registers alone go on.
-  pub moved : (new : Device) (own : Registers) → new.peers ≡ old.peers → new.wiring ≡ old.wiring → new.registers ≡ set old.registers source own →
+  pub moved : (new : Devices) (own : Registers) → new.peers ≡ old.peers → new.wiring ≡ old.wiring → new.registers ≡ set old.registers source own →
       ((peer : ℕ) → vector_of (bytes_after w events) event peer ≡ None) → IsPeer w (event ∷ events) source own → Stands w (event ∷ events) new
   moved new own peers wiring registers quiet is = record {
     peers = peers ∙ stands.peers;
@@ -53,7 +53,7 @@ module _ (w : World) (events : List Event) (event : Event) (old : Device) (stand
     registers = λ peer r here at. elim (nat_cases peer source) [
       | inl same ↦ (
           let found : own ≡ r = slice_get-same (set old.registers source own) source own r
-          (slice_get-set_same old.registers source own (omega (arith, stands.seats, old.few)))
+          (slice_get-set_same old.registers source own (omega (arith, stands.seats, sound.few)))
           (ap (slice_get (set old.registers source own)) (sym same) ∙ ap (λ rs. slice_get rs peer) (sym registers) ∙ at) in
           subst (λ p. IsPeer w (event ∷ events) p r) (sym same) (subst (λ x. IsPeer w (event ∷ events) source x) found is)
           )
@@ -72,7 +72,7 @@ module _ (w : World) (events : List Event) (event : Event) (old : Device) (stand
       (triggered : (peer : ℕ) → vector_at trigger peer ≡ vector_of (bytes_after w events) event peer) where
     -- The registers of a peer before it is triggered.
     before_of : (peer : ℕ) → peer < old.peers → (r : Registers) × (slice_get (set old.registers source own) peer ≡ Some r)
-    before_of peer here = slice_get-within (set old.registers source own) peer (omega (arith, length-set old.registers source own, stands.seats, old.few))
+    before_of peer here = slice_get-within (set old.registers source own) peer (omega (arith, length-set old.registers source own, stands.seats, sound.few))
 
     others_are : (peer : ℕ) (r : Registers) → peer < old.peers → peer ≢ source → slice_get (set old.registers source own) peer ≡ Some r → IsPeer w events peer r
     others_are peer r here other at =
@@ -80,7 +80,7 @@ module _ (w : World) (events : List Event) (event : Event) (old : Device) (stand
 
     own_is : (peer : ℕ) (r : Registers) → peer ≡ source → slice_get (set old.registers source own) peer ≡ Some r → own ≡ r
     own_is peer r same at = slice_get-same (set old.registers source own) source own r
-        (slice_get-set_same old.registers source own (omega (arith, stands.seats, old.few)))
+        (slice_get-set_same old.registers source own (omega (arith, stands.seats, sound.few)))
         (ap (slice_get (set old.registers source own)) (sym same) ∙ at)
 
     -- A peer behind the event and its triggers.
@@ -109,7 +109,7 @@ module _ (w : World) (events : List Event) (event : Event) (old : Device) (stand
         ]
 
     -- The device behind the event.
-    pub led : (new : Device) → new.peers ≡ old.peers → new.wiring ≡ old.wiring → length new.registers ≡ length (set old.registers source own) →
+    pub led : (new : Devices) → new.peers ≡ old.peers → new.wiring ≡ old.wiring → length new.registers ≡ length (set old.registers source own) →
         ((peer : ℕ) (before after : Registers) → peer < old.peers → slice_get (set old.registers source own) peer ≡ Some before →
         slice_get new.registers peer ≡ Some after → Takes old.wiring (vector_at trigger peer) before after) →
         Stands w (event ∷ events) new
@@ -130,7 +130,7 @@ module _ (w : World) (events : List Event) (event : Event) (old : Device) (stand
         let before = before_of peer here in
         let by_peer : IsPeer w events peer before.0 → delivery_at old.wiring before.0 (vector_at trigger peer)
         ≡ delivery_of w.wiring (is_connected events) (bytes_after w events) event peer =
-        λ is. delivery_same w events peer before.0 is old.wiring old.entries (vector_at trigger peer)
+        λ is. delivery_same w events peer before.0 is old.wiring sound.entries (vector_at trigger peer)
         ∙ ap₂ (λ wiring v. delivery_by wiring (is_connected events peer) (bytes_after w events peer) v) stands.wiring (triggered peer) in
         ap (delivery_if old.wiring (vector_at trigger peer)) before.1 ∙ elim (nat_cases peer source) [
           | inl same ↦ elim goes [

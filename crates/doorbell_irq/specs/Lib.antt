@@ -2,4 +2,5 @@ pub mod Events
 pub mod DeviceRules
 pub mod Registers
 pub mod Triggers
+pub mod Devices
 pub mod Stands

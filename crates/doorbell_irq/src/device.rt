@@ -5,12 +5,14 @@ ghost use Rattle.pci_space.specs.Fields.{is_access};
 ghost use Rattle.pci_space.specs.Wiring.{IsWiring};
 ghost use Rattle.doorbell_irq.specs.Events.{World, Event, ConfigWritten, RegisterWritten, MsixWritten, WasReset, WasDisconnected, WasConnected, Config, vector_count};
 ghost use Rattle.doorbell_irq.specs.DeviceRules.{bytes_after, effect_of, register_at, msix_at};
+ghost use Rattle.doorbell_irq.specs.Stands.{Stands, peer_count};
 
 use crate::effect::Effect;
 use crate::registers::Registers;
 use crate::trigger::deliver;
 use pci_space::{BadAccess, Wiring};
 use section_map::Geometry;
+use std::marker::Model;
 
 /// The devices of a world of at most 8 peers.
 ///
@@ -21,13 +23,19 @@ pub struct Device {
     peers: u32,
     wiring: Wiring,
     registers: [Registers; 8],
-    ghost few: { peers ≤ 8 },
-    ghost entries: { vector_count wiring ≤ 64 },
+}
+
+impl Model for Device {
+    ghost use Rattle.doorbell_irq.specs.Devices.{Devices, IsDevices};
+
+    ghost Value = { Devices };
+
+    ghost view = { λ d. record { peers = d.peers; wiring = d.wiring; registers = d.registers } };
+
+    ghost invariant = { λ d. IsDevices (record { peers = d.peers; wiring = d.wiring; registers = d.registers }) };
 }
 
 impl Device {
-    ghost use Rattle.doorbell_irq.specs.Stands.{Stands, peer_count};
-
     /// The devices of a world: all peers are connected and at reset.
     pub fn new(geometry: &Geometry, wiring: Wiring) -> Device
         requires few { geometry.now.peers ≤ 8 }

@@ -1,6 +1,8 @@
-use Rattle.std.proofs.Common.{◌≡◌, ◌∙◌}
+use Rattle.std.proofs.Common.{◌≡◌, ◌<◌, ◌∙◌, sym, subst}
 use Rattle.std.proofs.lemmas.Result.{IfOk-weaker}
 use Rattle.pci_space.specs.Numbers.{number_from}
+use Rattle.doorbell_irq.specs.Devices.{Devices, IsDevices}
+use Rattle.doorbell_irq.specs.Stands.{Stands}
 use Rattle.doorbell_irq.specs.Events.{Config}
 use Rattle.doorbell_irq.specs.DeviceRules.{bytes_after}
 use Rattle.doorbell_irq.proofs.Same.{number_from-same}
@@ -9,7 +11,11 @@ use Rattle.doorbell_irq.proofs.device.Device.config_read.Goals as goal
 
 pub returns-clause-value : goal.returns-clause-value
 returns-clause-value c w events stands =
-    let is = peer_at w events c.args.self.now stands c.args.peer c.index-self-peer.result c.requires in
+    let d : Devices = record { peers = c.self.inside.peers; wiring = c.self.inside.wiring; registers = c.self.inside.registers } in
+    let sound : IsDevices d = c.self.invariant in
+    let was : Stands w events d = subst (Stands w events) (sym c.self.view_is) stands in
+    let below : c.args.peer < d.peers = subst (λ v. c.args.peer < v.peers) (sym c.self.view_is) c.requires in
+    let is = peer_at w events d sound was c.args.peer c.index-self-peer.result below in
     IfOk-weaker c.read.result
     _
     (λ v. v ≡ number_from (bytes_after w events c.args.peer Config) c.args.offset c.args.width)

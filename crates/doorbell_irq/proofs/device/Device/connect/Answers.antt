@@ -1,4 +1,6 @@
-use Rattle.std.proofs.Common.{refl}
+use Rattle.std.proofs.Common.{◌<◌, refl, sym, subst}
+use Rattle.doorbell_irq.specs.Devices.{Devices, IsDevices}
+use Rattle.doorbell_irq.specs.Stands.{Stands}
 use Rattle.doorbell_irq.specs.Events.{WasConnected}
 use Rattle.doorbell_irq.proofs.Devices.{peer_at, moved}
 use Rattle.doorbell_irq.proofs.EventKinds.{connect_spares, was_connected}
@@ -6,7 +8,10 @@ use Rattle.doorbell_irq.proofs.device.Device.connect.Goals as goal
 
 pub returns-clause-stands : goal.returns-clause-stands
 returns-clause-stands c w events stands =
-    moved w events (WasConnected c.args.peer) c.args.self.now stands c.args.peer c.requires (connect_spares w events c.args.peer)
+    let d : Devices = record { peers = c.self.inside.peers; wiring = c.self.inside.wiring; registers = c.self.inside.registers } in
+    let sound : IsDevices d = c.self.invariant in
+    let was : Stands w events d = subst (Stands w events) (sym c.self.view_is) stands in
+    let below : c.args.peer < d.peers = subst (λ v. c.args.peer < v.peers) (sym c.self.view_is) c.requires in
+    moved w events (WasConnected c.args.peer) d sound was c.args.peer below (connect_spares w events c.args.peer)
     _ c.connect.new.self refl refl refl (λ peer. refl)
-    (was_connected w events c.args.peer _ c.connect.new.self
-    (peer_at w events c.args.self.now stands c.args.peer c.index-self-peer.result c.requires) c.connect.ensures)
+    (was_connected w events c.args.peer _ c.connect.new.self (peer_at w events d sound was c.args.peer c.index-self-peer.result below) c.connect.ensures)

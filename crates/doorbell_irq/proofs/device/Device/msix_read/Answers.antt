@@ -1,4 +1,6 @@
-use Rattle.std.proofs.Common.{◌∙◌, ap}
+use Rattle.std.proofs.Common.{◌<◌, ◌∙◌, ap, sym, subst}
+use Rattle.doorbell_irq.specs.Devices.{Devices, IsDevices}
+use Rattle.doorbell_irq.specs.Stands.{Stands}
 use Rattle.doorbell_irq.specs.DeviceRules.{bytes_after, msix_at}
 use Rattle.doorbell_irq.proofs.Same.{msix_same}
 use Rattle.doorbell_irq.proofs.Devices.{peer_at}
@@ -6,7 +8,10 @@ use Rattle.doorbell_irq.proofs.device.Device.msix_read.Goals as goal
 
 pub returns : goal.returns
 returns c w events stands =
+    let d : Devices = record { peers = c.self.inside.peers; wiring = c.self.inside.wiring; registers = c.self.inside.registers } in
+    let sound : IsDevices d = c.self.invariant in
+    let was : Stands w events d = subst (Stands w events) (sym c.self.view_is) stands in
+    let below : c.args.peer < d.peers = subst (λ v. c.args.peer < v.peers) (sym c.self.view_is) c.requires in
     c.read_entry.ensures
-    ∙ msix_same w events c.args.peer _ (peer_at w events c.args.self.now stands c.args.peer c.index-self-peer.result c.requires)
-    c.args.self.now.wiring c.args.self.now.entries c.args.offset
-    ∙ ap (λ wiring. msix_at wiring (bytes_after w events c.args.peer) c.args.offset) stands.wiring
+    ∙ msix_same w events c.args.peer _ (peer_at w events d sound was c.args.peer c.index-self-peer.result below) d.wiring sound.entries c.args.offset
+    ∙ ap (λ wiring. msix_at wiring (bytes_after w events c.args.peer) c.args.offset) was.wiring

@@ -1,4 +1,6 @@
-use Rattle.std.proofs.Common.{refl}
+use Rattle.std.proofs.Common.{◌<◌, refl, sym, subst}
+use Rattle.doorbell_irq.specs.Devices.{Devices, IsDevices}
+use Rattle.doorbell_irq.specs.Stands.{Stands}
 use Rattle.doorbell_irq.specs.Events.{MsixWritten}
 use Rattle.doorbell_irq.proofs.Devices.{peer_at, moved}
 use Rattle.doorbell_irq.proofs.EventKinds.{msix_spares, msix_written}
@@ -6,9 +8,13 @@ use Rattle.doorbell_irq.proofs.device.Device.msix_write.Goals as goal
 
 pub returns-clause-stands : goal.returns-clause-stands
 returns-clause-stands c w events stands =
-    moved w events (MsixWritten c.args.peer c.args.offset c.args.value) c.args.self.now stands c.args.peer c.requires
+    let d : Devices = record { peers = c.self.inside.peers; wiring = c.self.inside.wiring; registers = c.self.inside.registers } in
+    let sound : IsDevices d = c.self.invariant in
+    let was : Stands w events d = subst (Stands w events) (sym c.self.view_is) stands in
+    let below : c.args.peer < d.peers = subst (λ v. c.args.peer < v.peers) (sym c.self.view_is) c.requires in
+    moved w events (MsixWritten c.args.peer c.args.offset c.args.value) d sound was c.args.peer below
     (msix_spares w events c.args.peer c.args.offset c.args.value)
     _ c.write_entry.new.self refl refl refl (λ peer. refl)
     (msix_written w events c.args.peer _ c.write_entry.new.self
-    (peer_at w events c.args.self.now stands c.args.peer c.index-self-peer.result c.requires)
-    c.args.self.now.wiring c.args.offset c.args.value stands.wiring c.write_entry.ensures)
+    (peer_at w events d sound was c.args.peer c.index-self-peer.result below)
+    d.wiring c.args.offset c.args.value was.wiring c.write_entry.ensures)

@@ -10,3 +10,4 @@ pub mod ReadingLaws
 pub mod TableLaws
 pub mod RowLaws
 pub mod StepLaws
+pub mod FitLaws

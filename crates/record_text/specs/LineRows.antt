@@ -48,41 +48,45 @@ row_of_line (lines.Deliver peer frame) = row Deliver (peer ∷ []) frame
 row_of_line (lines.Return peer) = row Return (peer ∷ []) []
 row_of_line (lines.Refuse peer refused) = row (refuse_form refused.field) (peer ∷ refused.value ∷ []) []
 
--- the history line of a row, where its form is that of one
-abbrev pub line_of_row : LineForm → List ℕ → List ℕ → Option Line
-line_of_row Read ns frame = Some (lines.Read (slice_index ns 0) (slice_index ns 1) (slice_index ns 2))
-line_of_row Write ns frame = Some (lines.Write (slice_index ns 0) (slice_index ns 1) (slice_index ns 2))
-line_of_row Denied ns frame = Some (lines.Denied (slice_index ns 0) (slice_index ns 1))
-line_of_row State ns frame = Some (lines.State (slice_index ns 0) (slice_index ns 1))
-line_of_row Doorbell ns frame = Some (lines.Doorbell (slice_index ns 0) (slice_index ns 1) (slice_index ns 2))
-line_of_row Interrupt ns frame = Some (lines.Interrupt (slice_index ns 0) (slice_index ns 1))
-line_of_row Lost ns frame = Some (lines.Lost (slice_index ns 0) (slice_index ns 1))
-line_of_row Reset ns frame = Some (lines.Reset (slice_index ns 0))
-line_of_row Idle ns frame = Some (lines.Idle (slice_index ns 0))
-line_of_row ConfigRead ns frame = Some (lines.ConfigRead (slice_index ns 0) (slice_index ns 1) (slice_index ns 2) (slice_index ns 3))
-line_of_row ConfigWrite ns frame = Some (lines.ConfigWrite (slice_index ns 0) (slice_index ns 1) (slice_index ns 2) (slice_index ns 3))
-line_of_row RegisterRead ns frame = Some (lines.RegisterRead (slice_index ns 0) (slice_index ns 1) (slice_index ns 2))
-line_of_row RegisterWrite ns frame = Some (lines.RegisterWrite (slice_index ns 0) (slice_index ns 1) (slice_index ns 2))
-line_of_row MsixRead ns frame = Some (lines.MsixRead (slice_index ns 0) (slice_index ns 1) (slice_index ns 2))
-line_of_row MsixWrite ns frame = Some (lines.MsixWrite (slice_index ns 0) (slice_index ns 1) (slice_index ns 2))
-line_of_row Saw ns frame = Some (lines.Saw (slice_index ns 0) (slice_index ns 1))
-line_of_row Reclaim ns frame = Some (lines.Reclaim (slice_index ns 0) (slice_index ns 1))
-line_of_row Look ns frame = Some (lines.Look (slice_index ns 0) (slice_index ns 1))
-line_of_row Full ns frame = Some (lines.Full (slice_index ns 0))
-line_of_row Done ns frame = Some (lines.Done (slice_index ns 0))
-line_of_row Over ns frame = Some (lines.Over (slice_index ns 0))
-line_of_row Down ns frame = Some (lines.Down (slice_index ns 0))
-line_of_row Accept ns frame = Some (lines.Accept (slice_index ns 0) frame)
-line_of_row Deliver ns frame = Some (lines.Deliver (slice_index ns 0) frame)
-line_of_row Return ns frame = Some (lines.Return (slice_index ns 0))
-line_of_row RefuseAvailIndex ns frame = Some (lines.Refuse (slice_index ns 0) (record { field = names.AvailIndex; value = slice_index ns 1 }))
-line_of_row RefuseAvailEntry ns frame = Some (lines.Refuse (slice_index ns 0) (record { field = names.AvailEntry; value = slice_index ns 1 }))
-line_of_row RefuseDescAddress ns frame = Some (lines.Refuse (slice_index ns 0) (record { field = names.DescAddress; value = slice_index ns 1 }))
-line_of_row RefuseDescLength ns frame = Some (lines.Refuse (slice_index ns 0) (record { field = names.DescLength; value = slice_index ns 1 }))
-line_of_row RefuseDescFlags ns frame = Some (lines.Refuse (slice_index ns 0) (record { field = names.DescFlags; value = slice_index ns 1 }))
-line_of_row RefuseUsedIndex ns frame = Some (lines.Refuse (slice_index ns 0) (record { field = names.UsedIndex; value = slice_index ns 1 }))
-line_of_row RefuseUsedId ns frame = Some (lines.Refuse (slice_index ns 0) (record { field = names.UsedId; value = slice_index ns 1 }))
-line_of_row Count ns frame = None
+-- the refusal of a field, as a history line
+abbrev pub refusal_of : ℕ → Refused → Line
+refusal_of peer refused = lines.Refuse peer refused
+
+-- the history line of a row, where its form is that of one; only `end COUNT` is none
+abbrev pub entry_of : LineForm → List ℕ → List ℕ → Option Line
+entry_of Read ns frame = Some (lines.Read (slice_index ns 0) (slice_index ns 1) (slice_index ns 2))
+entry_of Write ns frame = Some (lines.Write (slice_index ns 0) (slice_index ns 1) (slice_index ns 2))
+entry_of Denied ns frame = Some (lines.Denied (slice_index ns 0) (slice_index ns 1))
+entry_of State ns frame = Some (lines.State (slice_index ns 0) (slice_index ns 1))
+entry_of Doorbell ns frame = Some (lines.Doorbell (slice_index ns 0) (slice_index ns 1) (slice_index ns 2))
+entry_of Interrupt ns frame = Some (lines.Interrupt (slice_index ns 0) (slice_index ns 1))
+entry_of Lost ns frame = Some (lines.Lost (slice_index ns 0) (slice_index ns 1))
+entry_of Reset ns frame = Some (lines.Reset (slice_index ns 0))
+entry_of Idle ns frame = Some (lines.Idle (slice_index ns 0))
+entry_of ConfigRead ns frame = Some (lines.ConfigRead (slice_index ns 0) (slice_index ns 1) (slice_index ns 2) (slice_index ns 3))
+entry_of ConfigWrite ns frame = Some (lines.ConfigWrite (slice_index ns 0) (slice_index ns 1) (slice_index ns 2) (slice_index ns 3))
+entry_of RegisterRead ns frame = Some (lines.RegisterRead (slice_index ns 0) (slice_index ns 1) (slice_index ns 2))
+entry_of RegisterWrite ns frame = Some (lines.RegisterWrite (slice_index ns 0) (slice_index ns 1) (slice_index ns 2))
+entry_of MsixRead ns frame = Some (lines.MsixRead (slice_index ns 0) (slice_index ns 1) (slice_index ns 2))
+entry_of MsixWrite ns frame = Some (lines.MsixWrite (slice_index ns 0) (slice_index ns 1) (slice_index ns 2))
+entry_of Saw ns frame = Some (lines.Saw (slice_index ns 0) (slice_index ns 1))
+entry_of Reclaim ns frame = Some (lines.Reclaim (slice_index ns 0) (slice_index ns 1))
+entry_of Look ns frame = Some (lines.Look (slice_index ns 0) (slice_index ns 1))
+entry_of Full ns frame = Some (lines.Full (slice_index ns 0))
+entry_of Done ns frame = Some (lines.Done (slice_index ns 0))
+entry_of Over ns frame = Some (lines.Over (slice_index ns 0))
+entry_of Down ns frame = Some (lines.Down (slice_index ns 0))
+entry_of Accept ns frame = Some (lines.Accept (slice_index ns 0) frame)
+entry_of Deliver ns frame = Some (lines.Deliver (slice_index ns 0) frame)
+entry_of Return ns frame = Some (lines.Return (slice_index ns 0))
+entry_of RefuseAvailIndex ns frame = Some (lines.Refuse (slice_index ns 0) (record { field = names.AvailIndex; value = slice_index ns 1 }))
+entry_of RefuseAvailEntry ns frame = Some (lines.Refuse (slice_index ns 0) (record { field = names.AvailEntry; value = slice_index ns 1 }))
+entry_of RefuseDescAddress ns frame = Some (lines.Refuse (slice_index ns 0) (record { field = names.DescAddress; value = slice_index ns 1 }))
+entry_of RefuseDescLength ns frame = Some (lines.Refuse (slice_index ns 0) (record { field = names.DescLength; value = slice_index ns 1 }))
+entry_of RefuseDescFlags ns frame = Some (lines.Refuse (slice_index ns 0) (record { field = names.DescFlags; value = slice_index ns 1 }))
+entry_of RefuseUsedIndex ns frame = Some (lines.Refuse (slice_index ns 0) (record { field = names.UsedIndex; value = slice_index ns 1 }))
+entry_of RefuseUsedId ns frame = Some (lines.Refuse (slice_index ns 0) (record { field = names.UsedId; value = slice_index ns 1 }))
+entry_of Count ns frame = None
 
 -- a line with a frame has at least one byte of it
 abbrev pub is_frame : LineForm → List ℕ → Bool

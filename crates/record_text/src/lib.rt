@@ -1,8 +1,16 @@
-//! Records: a scenario with a history of it, as a value and as a text. It stands on `scenario_text` for the scenario's
-//! text and on `link_model` for the lines of a history.
+//! Records as values and as text: a scenario with a history of it, lawful or not. It stands on `scenario_text` for the
+//! scenario's text, on `link_model` for the lines of a history, and on `line_text` for lines and forms. Its contracts
+//! promise that a record has one spelling, that parsing answers exactly where the bytes are one, and that each fault
+//! is the first in the order of the format (docs/FORMATS.md).
 #![tactic(auto)]
 
+mod failures;
+mod faults;
 mod forms;
+mod printing;
+mod taking;
 mod trace;
 
+pub use faults::{RecordCause, RecordFault};
+pub use printing::print;
 pub use trace::Trace;

@@ -5,6 +5,7 @@ use Rattle.std.specs.Option.{option_map_or}
 use Rattle.line_text.specs.Numbers.{number_of}
 use Rattle.line_text.specs.Forms.{Piece, Word, Number, Hex, Fit, FitBytes}
 use Rattle.line_text.specs.Rows.{row, fields_of_row}
+use Rattle.line_text.proofs.FitLaws.{counted, list_1, list_2, list_3, list_4}
 use Rattle.line_text.proofs.NumberLaws.{number_of-decimal}
 use Rattle.scenario_text.specs.declared.acts.Act.{Act}
 use Rattle.scenario_text.specs.declared.acts.Act.TheVariants as acts
@@ -17,42 +18,6 @@ use Rattle.scenario_text.specs.ActRows.{row_of_act}
 use Rattle.scenario_text.specs.Scenario.{is_too_late, IsAllowed}
 use Rattle.scenario_text.specs.Judge.{SoFar, world_so_far, is_out_of_turn, is_out_of_order, act_of, is_act, fits_sizes}
 use Rattle.scenario_text.proofs.Follows.{CanFollow}
-
--- ---- the numbers of a form
-
-abbrev count : List Piece → ℕ
-count [] = 0
-count (Word w ∷ ps) = count ps
-count (Hex ∷ ps) = count ps
-count (Number low high ∷ ps) = suc (count ps)
-
-pub counted : (ps : List Piece) (ns : List ℕ) → Fit ps ns → length ns ≡ count ps
-counted [] [] fit = refl
-counted [] (n ∷ ns) fit = absurd fit
-counted (Word w ∷ ps) ns fit = counted ps ns fit
-counted (Hex ∷ ps) ns fit = counted ps ns fit
-counted (Number low high ∷ ps) [] fit = absurd fit
-counted (Number low high ∷ ps) (n ∷ ns) fit = ap suc (counted ps ns fit.2)
-
-pub list_0 : (ns : List ℕ) → length ns ≡ 0 → [] ≡ ns
-list_0 [] e = refl
-list_0 (n ∷ ns) e = absurd (omega arith)
-
-pub list_1 : (ns : List ℕ) → length ns ≡ 1 → get_or ns 0 0 ∷ [] ≡ ns
-list_1 [] e = absurd (omega arith)
-list_1 (a ∷ ns) e = ap (λ (t : List ℕ). a ∷ t) (list_0 ns (omega arith))
-
-list_2 : (ns : List ℕ) → length ns ≡ 2 → get_or ns 0 0 ∷ get_or ns 1 0 ∷ [] ≡ ns
-list_2 [] e = absurd (omega arith)
-list_2 (a ∷ ns) e = ap (λ (t : List ℕ). a ∷ t) (list_1 ns (omega arith))
-
-list_3 : (ns : List ℕ) → length ns ≡ 3 → get_or ns 0 0 ∷ get_or ns 1 0 ∷ get_or ns 2 0 ∷ [] ≡ ns
-list_3 [] e = absurd (omega arith)
-list_3 (a ∷ ns) e = ap (λ (t : List ℕ). a ∷ t) (list_2 ns (omega arith))
-
-list_4 : (ns : List ℕ) → length ns ≡ 4 → get_or ns 0 0 ∷ get_or ns 1 0 ∷ get_or ns 2 0 ∷ get_or ns 3 0 ∷ [] ≡ ns
-list_4 [] e = absurd (omega arith)
-list_4 (a ∷ ns) e = ap (λ (t : List ℕ). a ∷ t) (list_3 ns (omega arith))
 
 pub same_row : (form : Form) (ns ms frame : List ℕ) → ns ≡ ms → [] ≡ frame → row form ns [] ≡ row form ms frame
 same_row form ns ms frame e f = rw (e, f) refl

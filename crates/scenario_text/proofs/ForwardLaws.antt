@@ -143,14 +143,14 @@ peers_along peers table common out mtu wiring front (b ∷ rest) p same all few 
 -- ---- the acts
 
 -- at the acts of this world, behind these
-abbrev at_acts : World → List Act → SoFar
+abbrev pub at_acts : World → List Act → SoFar
 at_acts w front = record { stage = AtActs; peers = w.geometry.peers; table = 4 * w.geometry.table; common = 4 * w.geometry.common; out = 4 * w.geometry.out; mtu = w.queue.mtu; wiring = w.wiring; honest = w.honest; acts = front }
 
 quarter : (n : ℕ) → 4 * n / 4 ≡ n
 quarter n = omega arith
 
 -- the sizes in bytes are those in words
-world_is : (w : World) (front : List Act) → IsWorld w → world_so_far (at_acts w front) ≡ record w { acts = front }
+pub world_is : (w : World) (front : List Act) → IsWorld w → world_so_far (at_acts w front) ≡ record w { acts = front }
 world_is w front is =
     rw (quarter w.geometry.table, quarter w.geometry.common, quarter w.geometry.out, ← is.version, ← is.out) refl
 

@@ -8,6 +8,7 @@ use Rattle.std.proofs.lemmas.List.Sums.{sum_by_push}
 use Rattle.line_text.specs.Numbers.{number_of}
 use Rattle.line_text.specs.Forms.{Piece, Word, Number, Fit, spell}
 use Rattle.line_text.specs.Rows.{Row, row}
+use Rattle.line_text.proofs.FitLaws.{counted, list_0, list_1}
 use Rattle.line_text.proofs.NumberLaws.{number_of-decimal}
 use Rattle.line_text.proofs.StepLaws.{not_false, same_some}
 use Rattle.pci_space.specs.declared.wiring.Wiring.{Wiring}
@@ -26,7 +27,7 @@ use Rattle.scenario_text.specs.Spelling.{row_of_wiring, row_of_peer, rows_of_pee
 use Rattle.scenario_text.specs.Judge.{SoFar, world_so_far, place_of, stage_of, is_act, with_act}
 use Rattle.scenario_text.proofs.SizeLaws.{HasRegion, has_region, has_queue, small_section}
 use Rattle.scenario_text.proofs.Follows.{CanFollow, with_row}
-use Rattle.scenario_text.proofs.ActRowLaws.{counted, list_0, list_1, same_row, act_row, allowed_act}
+use Rattle.scenario_text.proofs.ActRowLaws.{same_row, act_row, allowed_act}
 
 -- ---- the rows before a place
 

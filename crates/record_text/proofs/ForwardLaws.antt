@@ -1,0 +1,138 @@
+-- The spelling of a record is read as the record.
+use Rattle.std.proofs.Common.{◌≡◌, ℕ, zero, suc, ◌+◌, ◌-◌, ◌^◌, ◌<◌, ◌≤◌, Bool, true, false, cond, eqb, ◌&&◌, List, [], ◌∷◌, ◌++◌, length, get_or, map, Option, Some, None, Result, Ok, Err, refl, sym, ap, subst, ◌∙◌, append_assoc, arith, eq-eqb}
+use Rattle.std.specs.Prelude.{codes}
+use Rattle.std.specs.List.{list_all}
+use Rattle.std.specs.Str.{bytes_eq}
+use Rattle.std.proofs.lemmas.Slice.Eq.{bytes_eq-Decides}
+use Rattle.std.proofs.lemmas.List.{append-nil, map-append}
+use Rattle.std.proofs.lemmas.List.Concat.{flat_map-append, flat_map-cons}
+use Rattle.line_text.specs.Forms.{numbers_of, hex_of, hex_bytes, Fit, is_printable}
+use Rattle.line_text.specs.Rows.{Row, row, text_of, fields_of_row}
+use Rattle.line_text.specs.Machine.{Leads, HasNoNewline, text_of_lines}
+use Rattle.line_text.proofs.SpellLaws.{both_true, numbers_of-spell}
+use Rattle.line_text.proofs.LineLaws.{free_of}
+use Rattle.line_text.proofs.MachineLaws.{Goes, goes-append, goes-leads, reads}
+use Rattle.line_text.proofs.TableLaws.{finds}
+use Rattle.line_text.proofs.RowLaws.{IsRow, bare, row_plain, row_printable, row_cut, hex_of-spell, text_is_lines}
+use Rattle.link_model.specs.declared.line.Line.{Line}
+use Rattle.scenario_text.specs.Scenario.{World, IsWorld}
+use Rattle.scenario_text.specs.Table as scenario_table
+use Rattle.scenario_text.specs.Spelling as scenario
+use Rattle.scenario_text.specs.Judge as scenario_judge
+use Rattle.scenario_text.specs.Judge.{SoFar, at_start, world_so_far}
+use Rattle.scenario_text.proofs.ForwardLaws as scenario_laws
+use Rattle.record_text.specs.declared.faults.RecordCause.{RecordCause}
+use Rattle.record_text.specs.declared.forms.LineForm.{LineForm}
+use Rattle.record_text.specs.declared.forms.LineForm.TheVariants.{Count}
+use Rattle.record_text.specs.Frames.{has_frame, HaveFrames}
+use Rattle.record_text.specs.Table.{pieces_of, all_forms}
+use Rattle.record_text.specs.LineRows.{row_of_line, entry_of, is_frame}
+use Rattle.record_text.specs.Spelling.{Record, Fits, AllFit, IsRecord, first_line, history_rows, spelling, IsSpelling}
+use Rattle.record_text.specs.Judge.{Part, AtFirst, InScenario, InHistory, Whole, History, Longer, Counted, put, frame_in, judge, history_step, step, machine, reading, faulted, answer_in, answer}
+use Rattle.record_text.proofs.TableLaws.{is_table}
+use Rattle.record_text.proofs.EntryLaws.{entry_of-row, frame_is}
+
+-- ---- the scenario's lines
+
+goes_on : (d now : SoFar) (line : List ℕ) → scenario_judge.step d line ≡ Ok now → scenario_judge.has_ended now ≡ false → step (InScenario d) line ≡ Ok (InScenario now)
+goes_on d now line is on = rw (is, on) refl
+
+goes_over : (d now : SoFar) (line : List ℕ) → scenario_judge.step d line ≡ Ok now → scenario_judge.has_ended now ≡ true → step (InScenario d) line ≡ Ok (InHistory (world_so_far now) [])
+goes_over d now line is over = rw (is, over) refl
+
+-- the lines of a scenario are the lines of a record's scenario part
+pub scenario_goes : (d e : SoFar) (lines : List (List ℕ)) → Leads scenario_judge.machine d lines e → Goes machine (InScenario d) lines (InHistory (world_so_far e) [])
+scenario_goes d e [] leads = absurd leads
+scenario_goes d e (line ∷ []) leads = (InHistory (world_so_far e) [], leads.0, goes_over d e line leads.1 leads.2, refl, refl)
+scenario_goes d e (line ∷ next ∷ more) leads = (InScenario leads.0, leads.1, goes_on d leads.0 line leads.2 leads.3, refl, scenario_goes leads.0 e (next ∷ more) leads.4)
+
+-- ---- the history's lines
+
+judge-row : (lines : List Line) (r : Row LineForm) (said : Result History RecordCause) → IsRow pieces_of r → is_frame r.form r.frame ≡ true → put lines r.numbers (entry_of r.form r.numbers r.frame) ≡ said → judge lines r.form (fields_of_row pieces_of r) ≡ said
+unfolding judge
+judge-row lines r said is framed puts =
+    let ns : numbers_of (pieces_of r.form) (fields_of_row pieces_of r) ≡ Some r.numbers = numbers_of-spell (pieces_of r.form) r.numbers r.frame (is_table.good r.form) is.values in
+    let bs : hex_bytes (hex_of (pieces_of r.form) (fields_of_row pieces_of r)) ≡ Some r.frame = hex_of-spell (pieces_of r.form) r.numbers r.frame is.values is.hex in
+    rw (ns, bs, framed) puts
+
+history-row : (lines : List Line) (r : Row LineForm) (said : Result History RecordCause) → IsRow pieces_of r → is_frame r.form r.frame ≡ true → put lines r.numbers (entry_of r.form r.numbers r.frame) ≡ said → history_step lines (bare pieces_of r) ≡ said
+unfolding history_step
+history-row lines r said is framed puts =
+    rw (row_printable pieces_of all_forms is_table r is, row_cut pieces_of all_forms is_table r is, finds pieces_of all_forms is_table r.form r.numbers r.frame is.values) (judge-row lines r said is framed puts)
+
+row_fits : (line : Line) → Fits line → IsRow pieces_of (row_of_line line)
+row_fits line fits = record { values = fits.values; hex = fits.bytes }
+
+line_step : (w : World) (lines : List Line) (line : Line) → Fits line → has_frame line ≡ true → step (InHistory w lines) (bare pieces_of (row_of_line line)) ≡ Ok (InHistory w (lines ++ line ∷ []))
+line_step w lines line fits framed =
+    let puts : put lines (row_of_line line).numbers (entry_of (row_of_line line).form (row_of_line line).numbers (row_of_line line).frame) ≡ Ok (Longer (lines ++ line ∷ [])) = rw (entry_of-row line) refl in
+    rw (history-row lines (row_of_line line) (Ok (Longer (lines ++ line ∷ []))) (row_fits line fits) (frame_is line ∙ framed) puts) refl
+
+pub history_goes : (w : World) (front rest : List Line) → AllFit rest → HaveFrames rest → Goes machine (InHistory w front) (map (bare pieces_of) (map row_of_line rest)) (InHistory w (front ++ rest))
+history_goes w front [] fits frames = ap (λ (ls : List Line). InHistory w ls) (sym (append-nil front))
+history_goes w front (line ∷ rest) fits frames =
+    let here : Fits line = fits 0 line (omega arith) in
+    let later : AllFit rest = λ k d lt. fits (suc k) d (omega arith) in
+    let framed = both_true (has_frame line) (list_all has_frame rest) frames in
+    let goes = subst (λ (ls : List Line). Goes machine (InHistory w (front ++ line ∷ [])) (map (bare pieces_of) (map row_of_line rest)) (InHistory w ls)) (append_assoc front (line ∷ []) rest)
+    (history_goes w (front ++ line ∷ []) rest later framed.1) in
+    (InHistory w (front ++ line ∷ []), row_plain pieces_of all_forms is_table (row_of_line line) (row_fits line here), line_step w front line here framed.0, refl, goes)
+
+-- ---- the whole text
+
+abbrev pub scenario_lines : World → List (List ℕ)
+scenario_lines w = map (bare scenario_table.pieces_of) (scenario.rows_of w)
+
+abbrev pub history_lines : List Line → List (List ℕ)
+history_lines lines = map (bare pieces_of) (map row_of_line lines)
+
+abbrev pub count_line : List Line → List ℕ
+count_line lines = bare pieces_of (row Count (length lines ∷ []) [])
+
+-- the lines before the count
+abbrev pub body : Record → List (List ℕ)
+body r = first_line ∷ (scenario_lines r.world ++ history_lines r.lines)
+
+count_row : (lines : List Line) → length lines < 2 ^ 64 → IsRow pieces_of (row Count (length lines ∷ []) [])
+count_row lines few = record { values = (omega arith, omega arith, tt); hex = refl }
+
+count_step : (w : World) (lines : List Line) → length lines < 2 ^ 64 → step (InHistory w lines) (count_line lines) ≡ Ok (Whole w lines)
+count_step w lines few =
+    let same : eqb (length lines) (length lines) ≡ true = eq-eqb _ _ refl in
+    let puts : put lines (length lines ∷ []) None ≡ Ok (Counted lines) = rw same refl in
+    rw (history-row lines (row Count (length lines ∷ []) []) (Ok (Counted lines)) (count_row lines few) refl puts) refl
+
+first_plain : HasNoNewline first_line
+first_plain = free_of is_printable 10 (λ e. cc) first_line refl
+
+first_step : step AtFirst first_line ≡ Ok (InScenario at_start)
+first_step = refl
+
+-- the lines of a record lead to its end
+pub spelled_leads : (r : Record) → IsRecord r → Leads machine AtFirst (body r ++ count_line r.lines ∷ []) (Whole r.world r.lines)
+spelled_leads r is =
+    let w = r.world in
+    let part = scenario_goes at_start (scenario_laws.at_end w) (scenario_lines w) (scenario_laws.spelled_leads w is.world) in
+    let world : world_so_far (scenario_laws.at_end w) ≡ w = scenario_laws.world_is w w.acts is.world in
+    let part' = subst (λ (x : World). Goes machine (InScenario at_start) (scenario_lines w) (InHistory x [])) world part in
+    let all = goes-append machine (InScenario at_start) (scenario_lines w) (history_lines r.lines) (InHistory w []) (InHistory w r.lines) part' (history_goes w [] r.lines is.fits is.frames) in
+    let whole : Goes machine AtFirst (body r) (InHistory w r.lines) = (InScenario at_start, first_plain, first_step, refl, all) in
+    goes-leads machine AtFirst (body r) (InHistory w r.lines) (count_line r.lines) (Whole w r.lines) whole (row_plain pieces_of all_forms is_table (row Count (length r.lines ∷ []) []) (count_row r.lines is.count)) (count_step w r.lines is.count) refl
+
+line-cons : (line : List ℕ) (lines : List (List ℕ)) → text_of_lines (line ∷ lines) ≡ line ++ 10 ∷ text_of_lines lines
+line-cons line lines = flat_map-cons (λ l. l ++ 10 ∷ []) line lines ∙ append_assoc line (10 ∷ []) (text_of_lines lines)
+
+lines-append : (ls ms : List (List ℕ)) → text_of_lines (ls ++ ms) ≡ text_of_lines ls ++ text_of_lines ms
+lines-append ls ms = flat_map-append (λ l. l ++ 10 ∷ []) ls ms
+
+pub text_is : (r : Record) → spelling r ≡ text_of_lines (body r ++ count_line r.lines ∷ [])
+text_is r =
+    let history : text_of pieces_of (history_rows r.lines) ≡ text_of_lines (history_lines r.lines ++ count_line r.lines ∷ []) = text_is_lines pieces_of (history_rows r.lines) ∙ ap text_of_lines (map-append (bare pieces_of) (map row_of_line r.lines) (row Count (length r.lines ∷ []) [] ∷ [])) in
+    let parts : scenario.spelling r.world ++ text_of pieces_of (history_rows r.lines) ≡ text_of_lines (scenario_lines r.world ++ history_lines r.lines ++ count_line r.lines ∷ []) =
+    rw (scenario_laws.text_is r.world, history) (sym (lines-append (scenario_lines r.world) (history_lines r.lines ++ count_line r.lines ∷ [])) ∙ ap text_of_lines (sym (append_assoc (scenario_lines r.world) (history_lines r.lines) (count_line r.lines ∷ [])))) in
+    append_assoc first_line (10 ∷ scenario.spelling r.world) (text_of pieces_of (history_rows r.lines)) ∙ ap (λ (t : List ℕ). first_line ++ 10 ∷ t) parts ∙ sym (line-cons first_line (scenario_lines r.world ++ history_lines r.lines ++ count_line r.lines ∷ []))
+
+pub is_answered : (r : Record) (bytes : List ℕ) → IsSpelling r bytes → answer bytes ≡ Ok r
+is_answered r bytes is =
+    let read : reading (text_of_lines (body r ++ count_line r.lines ∷ [])) ≡ Ok (Whole r.world r.lines) = reads machine AtFirst 0 (body r ++ count_line r.lines ∷ []) (Whole r.world r.lines) (spelled_leads r is.0) in
+    ap (λ (t : List ℕ). answer_in (faulted (reading t))) (is.1 ∙ text_is r) ∙ ap (λ x. answer_in (faulted x)) read

@@ -1,0 +1,4 @@
+pub mod TableLaws
+pub mod EntryLaws
+pub mod PrintLaws
+pub mod ForwardLaws

@@ -1,0 +1,3 @@
+pub mod Playing
+pub mod Accepted
+pub mod Changed

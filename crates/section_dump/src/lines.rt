@@ -6,7 +6,7 @@ ghost use Rattle.section_dump.specs.Lines.{line_of, name_of, Peers, Table, Commo
 use split_ring::FieldName;
 use std::alloc::{AllocError, Global};
 
-/// The four sizes of a header, one line each.
+/// How many peers the region serves.
 #[tactic(auto, unfolding(crate::specs::Lines::line_of))]
 pub fn put_peers(text: &mut String, peers: u32) -> Result<(), AllocError>
     ensures { OnOk result (string_bytes text.new ≡ string_bytes text.old ++ line_of (Peers peers)) }
@@ -14,6 +14,7 @@ pub fn put_peers(text: &mut String, peers: u32) -> Result<(), AllocError>
     writeln!(text, "peers {peers}")
 }
 
+/// The bytes of the State Table.
 #[tactic(auto, unfolding(crate::specs::Lines::line_of))]
 pub fn put_table(text: &mut String, table: u32) -> Result<(), AllocError>
     ensures { OnOk result (string_bytes text.new ≡ string_bytes text.old ++ line_of (Table table)) }
@@ -21,6 +22,7 @@ pub fn put_table(text: &mut String, table: u32) -> Result<(), AllocError>
     writeln!(text, "table {table}")
 }
 
+/// The bytes of the common section.
 #[tactic(auto, unfolding(crate::specs::Lines::line_of))]
 pub fn put_common(text: &mut String, common: u64) -> Result<(), AllocError>
     ensures { OnOk result (string_bytes text.new ≡ string_bytes text.old ++ line_of (Common common)) }
@@ -28,6 +30,7 @@ pub fn put_common(text: &mut String, common: u64) -> Result<(), AllocError>
     writeln!(text, "common {common}")
 }
 
+/// The bytes of an output section.
 #[tactic(auto, unfolding(crate::specs::Lines::line_of))]
 pub fn put_out(text: &mut String, out: u64) -> Result<(), AllocError>
     ensures { OnOk result (string_bytes text.new ≡ string_bytes text.old ++ line_of (Out out)) }
@@ -35,7 +38,7 @@ pub fn put_out(text: &mut String, out: u64) -> Result<(), AllocError>
     writeln!(text, "out {out}")
 }
 
-/// The queue's size, its ring part and its data area.
+/// The queue's size, and the bytes of its ring part and its data area.
 #[tactic(auto, unfolding(crate::specs::Lines::line_of))]
 pub fn put_queue(text: &mut String, size: u32, ring: u32, room: u32) -> Result<(), AllocError>
     ensures { OnOk result (string_bytes text.new ≡ string_bytes text.old ++ line_of (QueueSizes size ring room)) }
@@ -43,6 +46,7 @@ pub fn put_queue(text: &mut String, size: u32, ring: u32, room: u32) -> Result<(
     writeln!(text, "queue {size} {ring} {room}")
 }
 
+/// No queue size fits.
 #[tactic(auto, unfolding(crate::specs::Lines::line_of))]
 pub fn put_no_queue(text: &mut String) -> Result<(), AllocError>
     ensures { OnOk result (string_bytes text.new ≡ string_bytes text.old ++ line_of NoQueue) }
@@ -50,6 +54,7 @@ pub fn put_no_queue(text: &mut String) -> Result<(), AllocError>
     writeln!(text, "queue none")
 }
 
+/// The state of a peer.
 #[tactic(auto, unfolding(crate::specs::Lines::line_of))]
 pub fn put_state(text: &mut String, peer: u32, value: u32) -> Result<(), AllocError>
     ensures { OnOk result (string_bytes text.new ≡ string_bytes text.old ++ line_of (State peer value)) }
@@ -101,6 +106,7 @@ pub fn put_bad(
     writeln!(text, "bad {position} {name} {value}")
 }
 
+/// The listing is over.
 #[tactic(auto, unfolding(crate::specs::Lines::line_of))]
 pub fn put_end(text: &mut String) -> Result<(), AllocError>
     ensures { OnOk result (string_bytes text.new ≡ string_bytes text.old ++ line_of End) }

@@ -57,7 +57,7 @@ bytes_length : (words : List ℕ) → length (flat_map word_bytes words) ≡ 4 *
 bytes_length [] = refl
 bytes_length (word ∷ words) = let e = bytes_length words in omega arith
 
-frame_length : (bytes : ℕ) (words : List ℕ) → length words ≡ words_for bytes → length (frame_in bytes words) ≡ bytes
+pub frame_length : (bytes : ℕ) (words : List ℕ) → length words ≡ words_for bytes → length (frame_in bytes words) ≡ bytes
 frame_length bytes words is = length-take-le bytes (flat_map word_bytes words) (let e = bytes_length words in omega arith)
 
 -- the reads of so many words, of which the last delivers

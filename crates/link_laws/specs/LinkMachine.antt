@@ -1,10 +1,10 @@
 -- The link machine: what the steps of the two link peers may do to their states, lists and counts. It has no rings, places or doorbells (profile).
-use Rattle.std.specs.Prelude.{ℕ, ◌≡◌, ◌≢◌, ◌+◌, ◌-◌, ◌<◌, ◌≤◌, ◌==◌, ◌⊎◌, Bool, true, false, if◌then◌else◌, Option, Some, None, List, [], ◌∷◌, ◌++◌, length, slice_get}
+use Rattle.std.specs.Prelude.{ℕ, ◌≡◌, ◌≢◌, ◌%◌, ◌+◌, ◌-◌, ◌<◌, ◌≤◌, ◌==◌, ◌⊎◌, Bool, true, false, if◌then◌else◌, Option, Some, None, List, [], ◌∷◌, ◌++◌, length, slice_get}
 use Rattle.link_handshake.specs.PhaseTable.{phase_at}
 use Rattle.split_ring.specs.declared.ranges.FieldName.{FieldName}
 use Rattle.split_ring.specs.declared.ranges.FieldName.TheVariants as field_name
 use Rattle.split_ring.specs.Layout.{Sizes, size_of, limit_of}
-use Rattle.split_ring.specs.Ranges.{IsAvailIndex, IsAvailEntry, IsDescAddress, IsDescLength, IsDescFlags, IsUsedIndex}
+use Rattle.split_ring.specs.Ranges.{IsAvailIndex, IsAvailEntry, IsDescAddress, IsDescLength, IsDescFlags, IsUsedIndex, IsUsedId}
 use Rattle.link_laws.specs.Steps.{Mark, Saw, Reclaim, Full, Accept, Look, Deliver, Return, Done, Down, Refuse, Over}
 use Rattle.link_laws.specs.Rows.{MovesTo}
 
@@ -62,15 +62,16 @@ abbrev pub MayDeliver : Bool → Side → Side → List ℕ → Type 0
 MayDeliver true side other frame = slice_get other.accepted (length side.delivered) ≡ Some frame
 MayDeliver false side other frame = (14 ≤ length frame) × (length frame ≤ 65553)
 
--- the value is outside the range of its field; that of a length depends on an address that was in range
+-- the value is outside the range of its field, counted from the side's own counts. That of a length depends on an address that was in range, and an id is that of a
+-- frame that the side has reclaimed
 abbrev pub IsBeyond : Sizes → Side → FieldName → ℕ → Type 0
-IsBeyond sizes side field_name.AvailIndex value = (last : ℕ) × (¬ IsAvailIndex sizes last value)
+IsBeyond sizes side field_name.AvailIndex value = ¬ IsAvailIndex sizes (length side.delivered % 65536) value
 IsBeyond sizes side field_name.AvailEntry value = ¬ IsAvailEntry sizes value
 IsBeyond sizes side field_name.DescAddress value = ¬ IsDescAddress sizes value
 IsBeyond sizes side field_name.DescLength value = (address : ℕ) × IsDescAddress sizes address × (¬ IsDescLength sizes address value)
 IsBeyond sizes side field_name.DescFlags value = ¬ IsDescFlags value
-IsBeyond sizes side field_name.UsedIndex value = (last : ℕ) × (¬ IsUsedIndex last value (length side.accepted))
-IsBeyond sizes side field_name.UsedId value = (expected : ℕ) × (expected < limit_of sizes) × (value ≢ expected)
+IsBeyond sizes side field_name.UsedIndex value = ¬ IsUsedIndex (side.freed % 65536) value (length side.accepted - side.freed)
+IsBeyond sizes side field_name.UsedId value = (number : ℕ) × (number < side.freed) × (¬ IsUsedId (number % limit_of sizes) value)
 
 -- the row of a mark: where it is allowed to a side against an other that is honest or not, and what it makes of the side. The marks of offers and polls come in RUN alone
 abbrev pub MarkRow : Sizes → Bool → Side → Side → Mark → Side → Type 0

@@ -15,11 +15,11 @@ use Rattle.link_pair.proofs.OfferSteps.{run_at, level_at, id_named}
 use Rattle.link_pair.proofs.PollSteps.{news_is, hand_spelled, polls_at, word_is}
 use Rattle.link_pair.proofs.StepsKeepPair.{never, used_good, available_good, entry_good, address_good, length_good, flags_good}
 
-reclaims_is : (z : Layout) (memory : ℕ → ℕ) (st : ℕ → Standing) (p : ℕ) → IsLayout z → p < 2 → Pair z memory st → (st p).phase ≡ 3 → (st p).freed + distance (st p).freed (at z memory (1 - p) UsedIndex) ≡ (st (1 - p)).returned
+pub reclaims_is : (z : Layout) (memory : ℕ → ℕ) (st : ℕ → Standing) (p : ℕ) → IsLayout z → p < 2 → Pair z memory st → (st p).phase ≡ 3 → (st p).freed + distance (st p).freed (at z memory (1 - p) UsedIndex) ≡ (st (1 - p)).returned
 reclaims_is z memory st p is p2 m run = let l = (linked z memory st p p2 m (inl (inl run))).0 in let r = l.returned in let d = l.delivered in let a = l.accepted in let room = l.room in let few = is.few in let c = is.counted in
     let exact : distance (st p).freed (at z memory (1 - p) UsedIndex) ≡ (st (1 - p)).returned - (st p).freed = ap (distance (st p).freed) l.used ∙ distance_is (st p).freed (st (1 - p)).returned r (omega arith) in omega arith
 
-delivers_next : (z : Layout) (memory : ℕ → ℕ) (st : ℕ → Standing) (p more e a l : ℕ) (ws : List ℕ) → IsLayout z → p < 2 → Pair z memory st → (st p).place ≡ AtWord more e a l ws → length ws + 1 ≡ words_of_bytes l →
+pub delivers_next : (z : Layout) (memory : ℕ → ℕ) (st : ℕ → Standing) (p more e a l : ℕ) (ws : List ℕ) → IsLayout z → p < 2 → Pair z memory st → (st p).place ≡ AtWord more e a l ws → length ws + 1 ≡ words_of_bytes l →
     (delivered_count (st p) < accepted_count (st (1 - p))) × (word_frame l (ws ++ memory (z.base (1 - p) + (a / 4 + length ws)) ∷ []) ≡ frame_at (st (1 - p)).accepted (delivered_count (st p)))
 delivers_next z memory st p more e a l ws is p2 m here last =
     let s = st p in let u = st (1 - p) in let run : s.phase ≡ 3 = run_at z memory st p (AtWord more e a l ws) p2 m here in let h = polls_at z memory st p (AtWord more e a l ws) p2 m run here in

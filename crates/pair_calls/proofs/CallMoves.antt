@@ -1,5 +1,5 @@
 -- The calls of the grammar are moves of the pair.
-use Rattle.std.proofs.Common.{◌≡◌, ℕ, ◌+◌, ◌%◌, ◌<◌, inl, inr, true, false, List, [], ◌∷◌, length, refl, sym, ap, ◌∙◌, subst, arith}
+use Rattle.std.proofs.Common.{◌≡◌, ◌≢◌, ℕ, ◌+◌, ◌%◌, ◌<◌, inl, inr, true, false, List, [], ◌∷◌, length, refl, sym, ap, ◌∙◌, subst, arith}
 use Rattle.std.specs.Prelude.{if◌then◌else◌, map}
 use Rattle.std.proofs.lemmas.Nat.{mod_below}
 use Rattle.split_ring.specs.Layout.{size_of, word_place, AvailableIndex, UsedIndex, Entry}
@@ -40,7 +40,7 @@ steps_lem ground p memory after end (AtState handshake) value s is p2 alone stan
 steps_lem ground p memory after end (Clearing at more state) value s is p2 alone stands opened met left = clearing ground p memory after end s at more state value stands left
 steps_lem ground p memory after end (Setting state) value s is p2 alone stands opened met left = setting ground p memory after end s state value is p2 alone stands left
 steps_lem ground p memory after end Refusing value s is p2 alone stands opened met left = refusing ground p memory after end s value is p2 stands left
-steps_lem ground p memory after end Downed value s is p2 alone stands opened met left = quiet ground p memory after end s Downed left stands stands.mark refl stands.at
+steps_lem ground p memory after end Downed value s is p2 alone stands opened met left = quiet ground p memory after end s Downed left stands stands.mark refl stands.at.0
 steps_lem ground p memory after end (AtUsedIndex job freed) value s is p2 alone stands opened met left = read_comes ground p memory after _ s _ left (used_index ground p memory end s job freed value is alone stands met)
 steps_lem ground p memory after end (AtUsedId job freed more) value s is p2 alone stands opened met left = read_comes ground p memory after _ s _ left (used_id ground p memory end s job freed more value is alone stands met)
 steps_lem ground p memory after end (Filling job at more) value s is p2 alone stands opened met left = filling ground p memory after end s job at more value is stands left
@@ -61,7 +61,7 @@ steps_lem ground p memory after end (AtWord number more e a l read words) value 
 steps_lem ground p memory after end (GivingId number more e) value s is p2 alone stands opened met left = give_id ground p memory after end s number more e value is alone stands left
 steps_lem ground p memory after end (GivingLength number more) value s is p2 alone stands opened met left = give_length ground p memory after end s number more value stands left
 steps_lem ground p memory after end (GivingIndex number more) value s is p2 alone stands opened met left = give_index ground p memory after end s number more value alone stands left
-steps_lem ground p memory after end RingingPoll value s is p2 alone stands opened met left = quiet ground p memory after end s RingingPoll left stands stands.mark refl stands.at
+steps_lem ground p memory after end RingingPoll value s is p2 alone stands opened met left = quiet ground p memory after end s RingingPoll left stands stands.mark refl stands.at.0
 
 -- A device reset
 
@@ -71,7 +71,7 @@ resets_lem ground p memory after end place s is p2 stands stored = (move.reset, 
 
 -- A call begins
 
-map_length : {A B : Type 0} → (f : A → B) → (xs : List A) → length (map f xs) ≡ length xs
+pub map_length : {A B : Type 0} → (f : A → B) → (xs : List A) → length (map f xs) ≡ length xs
 map_length f [] = refl
 map_length f (x ∷ xs) = let e = map_length f xs in omega arith
 
@@ -80,16 +80,16 @@ begins_lem ground p memory end Tick s is given alone stands = same_stands ground
 begins_lem ground p memory end Stop s is given alone stands = same_stands ground p memory end s Closed (Setting 0) stands stands.mark refl (inl (refl, stands.at))
 begins_lem ground p memory end (Offer frame) s is given alone stands = by_phase end.handshake.phase refl
   where
-    down : StandsAs ground p memory end Downed s
-    down = same_stands ground p memory end s Closed Downed stands stands.mark refl stands.at
+    down : s.phase ≢ 3 → StandsAs ground p memory end Downed s
+    down ne = same_stands ground p memory end s Closed Downed stands stands.mark refl (stands.at, ne)
 
     n : ℕ
     n = size_of ground.sizes
 
     by_phase : (phase : Phase) → end.handshake.phase ≡ phase → StandsAs ground p memory end (if in_run phase then AtUsedIndex (job_of (who_of ground p) end frame) end.freed else Downed) s
-    by_phase Reset e = down
-    by_phase Init e = down
-    by_phase Ready e = down
+    by_phase Reset e = down (λ three. let is : s.phase ≡ state_of Reset = stands.phase ∙ ap state_of e in omega arith)
+    by_phase Init e = down (λ three. let is : s.phase ≡ state_of Init = stands.phase ∙ ap state_of e in omega arith)
+    by_phase Ready e = down (λ three. let is : s.phase ≡ state_of Ready = stands.phase ∙ ap state_of e in omega arith)
     by_phase Run e = let run : s.phase ≡ 3 = stands.phase ∙ ap state_of e in let count : length end.accepted ≡ accepted_count s = sym (map_length offered_frame end.accepted) ∙ sym (ap length stands.accepted) in
         let k = length end.accepted % size_of ground.sizes in let least = (numbers ground is).size_least in
         let inside : word_place ground.sizes (Entry k) < ground.words = subst (λ w. w < ground.words) (sym (entry_place ground k)) ((is_layout ground is).inside (field.AvailEntry k) (one_test _ _ (mod_below (length end.accepted) (size_of ground.sizes) (omega arith)))) in
@@ -97,13 +97,13 @@ begins_lem ground p memory end (Offer frame) s is given alone stands = by_phase 
         same_stands ground p memory end s Closed (AtUsedIndex (job_of (who_of ground p) end frame) end.freed) stands stands.mark refl (stands.at, (record { frame = given; number = count; run = run }, sym (stands.written (word_place ground.sizes (Entry k)) inside)), omega arith)
 begins_lem ground p memory end Poll s is given alone stands = by_phase end.handshake.phase refl
   where
-    down : StandsAs ground p memory end Downed s
-    down = same_stands ground p memory end s Closed Downed stands stands.mark refl stands.at
+    down : s.phase ≢ 3 → StandsAs ground p memory end Downed s
+    down ne = same_stands ground p memory end s Closed Downed stands stands.mark refl (stands.at, ne)
 
     by_phase : (phase : Phase) → end.handshake.phase ≡ phase → StandsAs ground p memory end (if in_run phase then AtAvailIndex (length end.delivered) else Downed) s
-    by_phase Reset e = down
-    by_phase Init e = down
-    by_phase Ready e = down
+    by_phase Reset e = down (λ three. let is : s.phase ≡ state_of Reset = stands.phase ∙ ap state_of e in omega arith)
+    by_phase Init e = down (λ three. let is : s.phase ≡ state_of Init = stands.phase ∙ ap state_of e in omega arith)
+    by_phase Ready e = down (λ three. let is : s.phase ≡ state_of Ready = stands.phase ∙ ap state_of e in omega arith)
     by_phase Run e = same_stands ground p memory end s Closed (AtAvailIndex (length end.delivered)) stands stands.mark refl (stands.at, stands.phase ∙ ap state_of e, ap length stands.delivered ∙ map_length delivered_frame s.delivered)
 
 -- Words elsewhere

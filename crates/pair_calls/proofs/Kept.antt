@@ -21,10 +21,10 @@ use Rattle.pair_calls.proofs.CallMoves.{calls_lem}
 use Rattle.pair_calls.proofs.Frames.{frames_lem}
 
 -- one standing changed
-at_once : (ℕ → Standing) → ℕ → Standing → ℕ → Standing
+pub at_once : (ℕ → Standing) → ℕ → Standing → ℕ → Standing
 at_once standings p t q = if q == p then t else standings q
 
-turns : (standings : ℕ → Standing) (p : ℕ) (t : Standing) → TakesTurn standings (at_once standings p t) p t
+pub turns : (standings : ℕ → Standing) (p : ℕ) (t : Standing) → TakesTurn standings (at_once standings p t) p t
 unfolding at_once
 turns standings p t = record { here = yes (p == p) t (standings p) (eq-eqb p p refl); beside = λ q ne. no (q == p) t (standings q) (ne_eqb q p ne) }
 

@@ -8,3 +8,7 @@ pub mod TickMoves
 pub mod CallMoves
 pub mod Frames
 pub mod Kept
+pub mod MachineRows
+pub mod CountRows
+pub mod PlaceRows
+pub mod AllRows

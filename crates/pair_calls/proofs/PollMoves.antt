@@ -99,10 +99,10 @@ low ground p memory end s number more e value alone stands met = let h = stands.
     let read = field_read ground memory (1 - p) (field.AddressLow e) (section_of ground (1 - p) + word_place ground.sizes (Address e)) value (one_test _ _ w.1) (ap (λ w. section_of ground (1 - p) + w) (low_place ground e)) met in
     (at_place s (pair.AtHigh (suc more) e value), move.read_low (suc more) e value h.0 (sym read), stands_read ground p memory end s (AtLow number more e) (AtHigh number more e value) (pair.AtHigh (suc more) e value) stands stands.mark refl (refl, h.1, h.2))
 
-address_is : (ground : Ground) (a : ℕ) → IsGround ground → IsDescAddress ground.sizes a → IsAddress (layout_of ground) a
+pub address_is : (ground : Ground) (a : ℕ) → IsGround ground → IsDescAddress ground.sizes a → IsAddress (layout_of ground) a
 address_is ground a is h = let payload = payload_words (size_of ground.sizes) in let words = is.words in let low = h.1 in let high = h.2 in (h.0, omega arith, omega arith)
 
-address_back : (ground : Ground) (a : ℕ) → IsGround ground → IsAddress (layout_of ground) a → IsDescAddress ground.sizes a
+pub address_back : (ground : Ground) (a : ℕ) → IsGround ground → IsAddress (layout_of ground) a → IsDescAddress ground.sizes a
 address_back ground a is h = let payload = payload_words (size_of ground.sizes) in let words = is.words in let low = h.1 in let high = h.2 in (h.0, omega arith, omega arith)
 
 pub high : (ground : Ground) (p : ℕ) (memory : ℕ → ℕ) (end : End) (s : Standing) (number more e lo value : ℕ) → IsGround ground → Alone (layout_of ground) memory p s → StandsAs ground p memory end (AtHigh number more e lo) s → value ≡ memory (section_of ground (1 - p) + word_place ground.sizes (Address e) + 1) →

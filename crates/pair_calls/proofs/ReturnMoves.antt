@@ -105,7 +105,7 @@ index_put w n m low same = omega (arith, ap (λ k. k % 65536) same)
 
 -- the place of a poll behind a return
 return_place : (ground : Ground) (p : ℕ) (memory : ℕ → ℕ) (end : End) (s : Standing) (number more : ℕ) → s.phase ≡ 3 → number + 1 ≡ delivered_count s → s.place ≡ place_after_items more → PlaceIs ground p memory end s (items_place (number + 1) more)
-return_place ground p memory end s number zero run next here = here
+return_place ground p memory end s number zero run next here = (here, run)
 return_place ground p memory end s number (suc more) run next here = (here ∙ no (suc more == 0) pair.Closed (pair.AtEntry (suc more)) (ne_eqb (suc more) 0 (λ e. omega arith)), run, next)
 
 items_mark : (refused mark : Bool) (number more : ℕ) → refused ≡ mark → MarkIs (items_place number more) refused mark

@@ -1,5 +1,5 @@
 -- An end of the call grammar as an end of the pair.
-use Rattle.std.specs.Prelude.{ℕ, zero, suc, ◌≡◌, ◌+◌, ◌-◌, ◌*◌, ◌/◌, ◌%◌, ◌<◌, ◌≤◌, ◌⊎◌, Bool, true, false, List, [], ◌∷◌, ◌++◌, length, map, All}
+use Rattle.std.specs.Prelude.{ℕ, zero, suc, ◌≡◌, ◌≢◌, ◌+◌, ◌-◌, ◌*◌, ◌/◌, ◌%◌, ◌<◌, ◌≤◌, ◌⊎◌, Bool, true, false, List, [], ◌∷◌, ◌++◌, length, map, All}
 use Rattle.split_ring.specs.declared.steps.Access.{Access}
 use Rattle.split_ring.specs.declared.steps.Access.TheVariants as access
 use Rattle.split_ring.specs.Layout.{Sizes, IsQueue, size_of, limit_of, slot_of, word_place, AvailableIndex, UsedIndex, Entry}
@@ -88,7 +88,7 @@ PlaceIs ground p memory end s (AtState handshake) = (handshake ≡ end.handshake
 PlaceIs ground p memory end s (Clearing at more state) = (v : ℕ) × (j : ℕ) × (s.place ≡ pair.Ticking v j) × (s.phase ≡ 1) × (at ≡ section_of ground p + j) × (j + suc more ≡ ground.words) × (state ≡ phase_after s.phase v)
 PlaceIs ground p memory end s (Setting state) = ((state ≡ 0) × (s.place ≡ pair.Closed)) ⊎ ((v : ℕ) × (j : ℕ) × (s.place ≡ pair.Ticking v j) × (s.phase ≡ 1 → j ≡ ground.words) × (state ≡ phase_after s.phase v))
 PlaceIs ground p memory end s Refusing = (s.place ≡ pair.Refusing) × (s.phase ≡ 3)
-PlaceIs ground p memory end s Downed = s.place ≡ pair.Closed
+PlaceIs ground p memory end s Downed = (s.place ≡ pair.Closed) × (s.phase ≢ 3)
 PlaceIs ground p memory end s (AtUsedIndex job freed) = (s.place ≡ pair.Closed) × IsJobFrom ground p memory s job × (freed ≡ s.freed)
 PlaceIs ground p memory end s (AtUsedId job freed more) = (s.place ≡ pair.Reclaiming (suc more)) × IsJobFrom ground p memory s job × (freed ≡ s.freed)
 PlaceIs ground p memory end s (Filling job at more) = (s.place ≡ pair.Filling (first_words job.frame at)) × IsJobFrom ground p memory s job × (at + suc more ≡ words_for (length job.frame))
@@ -109,7 +109,7 @@ PlaceIs ground p memory end s (AtWord number more entry address bytes read words
 PlaceIs ground p memory end s (GivingId number more entry) = (s.place ≡ pair.AtUsedId (suc more) entry) × (s.phase ≡ 3) × (number ≡ s.returned)
 PlaceIs ground p memory end s (GivingLength number more) = (s.place ≡ pair.AtUsedLength (suc more)) × (s.phase ≡ 3) × (number ≡ s.returned)
 PlaceIs ground p memory end s (GivingIndex number more) = (s.place ≡ pair.AtUsedIndex (suc more)) × (s.phase ≡ 3) × (number ≡ s.returned)
-PlaceIs ground p memory end s RingingPoll = s.place ≡ pair.Closed
+PlaceIs ground p memory end s RingingPoll = (s.place ≡ pair.Closed) × (s.phase ≡ 3)
 
 -- the mark of an end is set on the step that refuses, and the pair's with the State step behind it
 abbrev pub MarkIs : Place → Bool → Bool → Type 0

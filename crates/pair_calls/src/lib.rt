@@ -8,6 +8,7 @@ ghost use Rattle.pair_calls.specs.Both.{EndsAreKept};
 ghost use Rattle.pair_calls.specs.Both.{HonestCallsNeverRefuse};
 ghost use Rattle.pair_calls.specs.Both.{FramesComeWhole};
 ghost use Rattle.pair_calls.specs.Both.{HonestCallsDeliver};
+ghost use Rattle.pair_calls.specs.Sides.{StepsFollowRows};
 
 /// Each step of a call that meets what memory has is a step of the pair, or touches no word; a device reset is a step of the pair; and a
 /// change of words elsewhere leaves the end where it stands.
@@ -34,4 +35,9 @@ pub fn frames_come_whole()
 /// What one honest end delivered in its session begins what the other accepted in its own.
 pub fn honest_calls_deliver()
     ensures { HonestCallsDeliver }
+{}
+
+/// Each step of an honest end goes along the rows of the link machine, against an honest or a hostile other.
+pub fn steps_follow_rows()
+    ensures { StepsFollowRows }
 {}

@@ -1,11 +1,10 @@
 -- Rows of history lines: each form's row is a line's, and back.
-use Rattle.std.proofs.Common.{◌≡◌, ℕ, suc, ◌+◌, ◌<◌, Bool, true, false, List, [], ◌∷◌, length, get_or, Option, Some, None, refl, sym, ap, ◌∙◌, arith}
-use Rattle.line_text.specs.Forms.{Piece, Word, Number, Hex, Fit, FitBytes}
-use Rattle.line_text.specs.Rows.{Row, row}
-use Rattle.line_text.proofs.FitLaws.{counted, list_0, list_1, list_2, list_3, list_4}
+use Rattle.std.proofs.Common.{◌≡◌, ℕ, true, List, [], ◌∷◌, get_or, Some, None, refl, sym, ap}
+use Rattle.line_text.specs.Forms.{Fit, FitBytes}
+use Rattle.line_text.specs.Rows.{row}
+use Rattle.line_text.proofs.FitLaws.{counted, list_1, list_2, list_3, list_4}
 use Rattle.link_model.specs.declared.line.Line.{Line}
 use Rattle.link_model.specs.declared.line.Line.TheVariants as lines
-use Rattle.split_ring.specs.declared.ranges.Refused.{Refused}
 use Rattle.split_ring.specs.declared.ranges.FieldName.{FieldName}
 use Rattle.split_ring.specs.declared.ranges.FieldName.TheVariants as names
 use Rattle.record_text.specs.declared.forms.LineForm.{LineForm}

@@ -1,12 +1,9 @@
 -- The spelling of a record is read as the record.
-use Rattle.std.proofs.Common.{◌≡◌, ℕ, zero, suc, ◌+◌, ◌-◌, ◌^◌, ◌<◌, ◌≤◌, Bool, true, false, cond, eqb, ◌&&◌, List, [], ◌∷◌, ◌++◌, length, get_or, map, Option, Some, None, Result, Ok, Err, refl, sym, ap, subst, ◌∙◌, append_assoc, arith, eq-eqb}
-use Rattle.std.specs.Prelude.{codes}
+use Rattle.std.proofs.Common.{◌≡◌, ℕ, suc, ◌^◌, ◌<◌, true, false, eqb, List, [], ◌∷◌, ◌++◌, length, map, Some, None, Result, Ok, refl, sym, ap, subst, ◌∙◌, append_assoc, arith, eq-eqb}
 use Rattle.std.specs.List.{list_all}
-use Rattle.std.specs.Str.{bytes_eq}
-use Rattle.std.proofs.lemmas.Slice.Eq.{bytes_eq-Decides}
 use Rattle.std.proofs.lemmas.List.{append-nil, map-append}
 use Rattle.std.proofs.lemmas.List.Concat.{flat_map-append, flat_map-cons}
-use Rattle.line_text.specs.Forms.{numbers_of, hex_of, hex_bytes, Fit, is_printable}
+use Rattle.line_text.specs.Forms.{numbers_of, hex_of, hex_bytes, is_printable}
 use Rattle.line_text.specs.Rows.{Row, row, text_of, fields_of_row}
 use Rattle.line_text.specs.Machine.{Leads, HasNoNewline, text_of_lines}
 use Rattle.line_text.proofs.SpellLaws.{both_true, numbers_of-spell}
@@ -15,7 +12,7 @@ use Rattle.line_text.proofs.MachineLaws.{Goes, goes-append, goes-leads, reads}
 use Rattle.line_text.proofs.TableLaws.{finds}
 use Rattle.line_text.proofs.RowLaws.{IsRow, bare, row_plain, row_printable, row_cut, hex_of-spell, text_is_lines}
 use Rattle.link_model.specs.declared.line.Line.{Line}
-use Rattle.scenario_text.specs.Scenario.{World, IsWorld}
+use Rattle.scenario_text.specs.Scenario.{World}
 use Rattle.scenario_text.specs.Table as scenario_table
 use Rattle.scenario_text.specs.Spelling as scenario
 use Rattle.scenario_text.specs.Judge as scenario_judge
@@ -28,16 +25,16 @@ use Rattle.record_text.specs.Frames.{has_frame, HaveFrames}
 use Rattle.record_text.specs.Table.{pieces_of, all_forms}
 use Rattle.record_text.specs.LineRows.{row_of_line, entry_of, is_frame}
 use Rattle.record_text.specs.Spelling.{Record, Fits, AllFit, IsRecord, first_line, history_rows, spelling, IsSpelling}
-use Rattle.record_text.specs.Judge.{Part, AtFirst, InScenario, InHistory, Whole, History, Longer, Counted, put, frame_in, judge, history_step, step, machine, reading, faulted, answer_in, answer}
+use Rattle.record_text.specs.Judge.{AtFirst, InScenario, InHistory, Whole, History, Longer, Counted, put, judge, history_step, step, machine, reading, faulted, answer_in, answer}
 use Rattle.record_text.proofs.TableLaws.{is_table}
 use Rattle.record_text.proofs.EntryLaws.{entry_of-row, frame_is}
 
 -- ---- the scenario's lines
 
-goes_on : (d now : SoFar) (line : List ℕ) → scenario_judge.step d line ≡ Ok now → scenario_judge.has_ended now ≡ false → step (InScenario d) line ≡ Ok (InScenario now)
+pub goes_on : (d now : SoFar) (line : List ℕ) → scenario_judge.step d line ≡ Ok now → scenario_judge.has_ended now ≡ false → step (InScenario d) line ≡ Ok (InScenario now)
 goes_on d now line is on = rw (is, on) refl
 
-goes_over : (d now : SoFar) (line : List ℕ) → scenario_judge.step d line ≡ Ok now → scenario_judge.has_ended now ≡ true → step (InScenario d) line ≡ Ok (InHistory (world_so_far now) [])
+pub goes_over : (d now : SoFar) (line : List ℕ) → scenario_judge.step d line ≡ Ok now → scenario_judge.has_ended now ≡ true → step (InScenario d) line ≡ Ok (InHistory (world_so_far now) [])
 goes_over d now line is over = rw (is, over) refl
 
 -- the lines of a scenario are the lines of a record's scenario part

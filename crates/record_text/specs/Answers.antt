@@ -8,7 +8,15 @@ use Rattle.record_text.specs.declared.faults.RecordFault.{RecordFault}
 use Rattle.record_text.specs.declared.faults.RecordFault.TheVariants as faults
 use Rattle.record_text.specs.declared.trace.Trace.{Trace}
 use Rattle.record_text.specs.Spelling.{Record, record_of}
-use Rattle.record_text.specs.Judge.{History, Longer, Counted, fault_at}
+use Rattle.scenario_text.specs.Scenario.{World}
+use Rattle.scenario_text.specs.Spelling.{world_of}
+use Rattle.scenario_text.specs.Judge.{at_start}
+use Rattle.scenario_text.specs.declared.failures.Failure as scenario_failure
+use Rattle.scenario_text.specs.declared.failures.Failure.TheVariants as scenario_failures
+use Rattle.record_text.specs.declared.faults.RecordCause.TheVariants.{Scenario}
+use Rattle.record_text.specs.Judge.{Part, InScenario, InHistory, Whole, History, Longer, Counted, machine, faulted, fault_at}
+use Rattle.line_text.specs.Forms.{cuts}
+use Rattle.line_text.specs.Machine.{Wrong as Fault, read_pieces}
 
 -- the line is wrong for this cause, unless memory ran out
 abbrev pub Fails : {Y : Type 0} → Failure → Result Y RecordCause → Type 0
@@ -33,3 +41,21 @@ Answers (Err fault) said = Refuses fault said
 abbrev pub fault_of_failure : Failure → ℕ → RecordFault
 fault_of_failure NoMemory n = faults.NoMemory
 fault_of_failure (Wrong cause) n = fault_at cause n
+
+-- a fault of a scenario's line keeps its name
+abbrev pub failure_of_scenario : scenario_failure.Failure → Failure
+failure_of_scenario scenario_failures.NoMemory = NoMemory
+failure_of_scenario (scenario_failures.Wrong cause) = Wrong (Scenario cause)
+
+-- what a text is from its second line on
+abbrev pub from_scenario : List ℕ → Result Part (Fault RecordCause)
+from_scenario bytes = read_pieces machine (InScenario at_start) 1 (cuts 10 bytes)
+
+-- what a text is behind so many lines, of which the last are these of the history
+abbrev pub from_history : World → List Line → ℕ → List ℕ → Result Part (Fault RecordCause)
+from_history w lines before bytes = read_pieces machine (InHistory w lines) before (cuts 10 bytes)
+
+-- the record is what the text is, or the fault is its fault, unless memory ran out
+abbrev pub Ends : Result Trace RecordFault → Result Part (Fault RecordCause) → Type 0
+Ends (Ok trace) said = said ≡ Ok (Whole (world_of trace.scenario) trace.lines)
+Ends (Err fault) said = Refuses fault (faulted said)

@@ -4,3 +4,4 @@ pub mod LineRows
 pub mod Spelling
 pub mod Judge
 pub mod Answers
+pub mod Laws

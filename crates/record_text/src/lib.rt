@@ -7,10 +7,14 @@
 mod failures;
 mod faults;
 mod forms;
+mod laws;
 mod printing;
+mod reading;
 mod taking;
 mod trace;
 
 pub use faults::{RecordCause, RecordFault};
+pub use laws::{behind_is_bad_line, cut_is_no_end, fault_is_first};
 pub use printing::print;
+pub use reading::parse;
 pub use trace::Trace;

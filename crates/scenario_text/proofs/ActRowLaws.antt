@@ -1,9 +1,9 @@
 -- Rows of acts: each act form's row is an act's, and an act is allowed exactly where its row can follow.
-use Rattle.std.proofs.Common.{◌≡◌, ℕ, suc, ◌+◌, ◌-◌, ◌^◌, ◌≤◌, Bool, true, false, List, [], ◌∷◌, length, get_or, Some, refl, sym, ap, ◌∙◌, arith}
+use Rattle.std.proofs.Common.{◌≡◌, ℕ, ◌+◌, ◌-◌, ◌^◌, ◌≤◌, Bool, true, false, List, [], get_or, Some, refl, sym, ap, ◌∙◌, arith}
 use Rattle.std.specs.Prelude.{option_and_then, slice_get, decimal}
 use Rattle.std.specs.Option.{option_map_or}
 use Rattle.line_text.specs.Numbers.{number_of}
-use Rattle.line_text.specs.Forms.{Piece, Word, Number, Hex, Fit, FitBytes}
+use Rattle.line_text.specs.Forms.{Fit, FitBytes}
 use Rattle.line_text.specs.Rows.{row, fields_of_row}
 use Rattle.line_text.proofs.FitLaws.{counted, list_1, list_2, list_3, list_4}
 use Rattle.line_text.proofs.NumberLaws.{number_of-decimal}

@@ -31,11 +31,11 @@ line-cons : (line : List ℕ) (lines : List (List ℕ)) → text_of_lines (line 
 line-cons line lines = flat_map-cons (λ l. l ++ 10 ∷ []) line lines ∙ append_assoc line (10 ∷ []) (text_of_lines lines)
 
 -- what holds behind a line that is taken
-record Behind (d : SoFar) (line : List ℕ) (e : SoFar) : Type 0 where
-  good : Good e.stage e
-  text : (rest : List ℕ) → text_of pieces_of (before d.stage d) ++ (line ++ 10 ∷ rest) ≡ text_of pieces_of (before e.stage e) ++ rest
+pub record Behind (d : SoFar) (line : List ℕ) (e : SoFar) : Type 0 where
+  pub good : Good e.stage e
+  pub text : (rest : List ℕ) → text_of pieces_of (before d.stage d) ++ (line ++ 10 ∷ rest) ≡ text_of pieces_of (before e.stage e) ++ rest
 
-behind : (d : SoFar) (line : List ℕ) (e : SoFar) → Good d.stage d → step d line ≡ Ok e → Behind d line e
+pub behind : (d : SoFar) (line : List ℕ) (e : SoFar) → Good d.stage d → step d line ≡ Ok e → Behind d line e
 behind d line e good is =
     let t = step-ok d line e is in
     let a = row_adds d t.taken t.can good in
@@ -111,7 +111,7 @@ is_world e good = record {
   turns = good.1.turns;
 }
 
-rows_are : (e : SoFar) → Good Ended e → before Ended e ≡ rows_of (world_so_far e)
+pub rows_are : (e : SoFar) → Good Ended e → before Ended e ≡ rows_of (world_so_far e)
 rows_are e good =
     let t : 4 * (e.table / 4) ≡ e.table = whole_pages e.table good.0.region.table_pages.1 in
     let c : 4 * (e.common / 4) ≡ e.common = whole_pages e.common good.0.region.common_pages in

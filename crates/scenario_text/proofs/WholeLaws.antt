@@ -1,17 +1,20 @@
 -- A text is read exactly where it is the spelling of what is read.
-use Rattle.std.proofs.Common.{◌≡◌, ℕ, List, Result, Ok, Err, sym, ap, subst, ◌∙◌}
+use Rattle.std.proofs.Common.{◌≡◌, ℕ, true, List, Result, Ok, Err, refl, sym, ap, subst, ◌∙◌}
 use Rattle.line_text.specs.Machine.{Wrong}
 use Rattle.scenario_text.specs.declared.faults.Cause.{Cause}
 use Rattle.scenario_text.specs.declared.faults.ScenarioFault.{ScenarioFault}
+use Rattle.scenario_text.specs.declared.stages.Stage.{Stage}
+use Rattle.scenario_text.specs.declared.stages.Stage.TheVariants.{Ended}
 use Rattle.scenario_text.specs.Scenario.{World}
 use Rattle.scenario_text.specs.Spelling.{IsSpelling}
-use Rattle.scenario_text.specs.Judge.{SoFar, world_so_far, reading, faulted, world_in}
+use Rattle.scenario_text.specs.Judge.{SoFar, at_start, has_ended, step, world_so_far, reading, faulted, world_in}
 use Rattle.scenario_text.specs.Answers.{Refuses}
 use Rattle.scenario_text.specs.Drafts.{IsWhole}
 use Rattle.scenario_text.proofs.SizeLaws.{is_geometry-true, is_queue-true}
 use Rattle.scenario_text.proofs.ReadLaws.{same_fault}
 use Rattle.scenario_text.proofs.ForwardLaws.{is_answered}
-use Rattle.scenario_text.proofs.BackLaws.{is_read, is_world}
+use Rattle.scenario_text.proofs.StageLaws.{Good}
+use Rattle.scenario_text.proofs.BackLaws.{behind, ended_is, is_read, is_world}
 
 read_of : (said : Result SoFar (Wrong Cause)) (d : SoFar) → faulted said ≡ Ok d → said ≡ Ok d
 read_of (Ok e) d is = ap (λ (x : SoFar). Ok x) (same e d is)
@@ -19,6 +22,20 @@ read_of (Ok e) d is = ap (λ (x : SoFar). Ok x) (same e d is)
     same : (e d : SoFar) → ◌≡◌ {A = Result SoFar ScenarioFault} (Ok e) (Ok d) → e ≡ d
     same e d is = cc
 read_of (Err wrong) d is = absurd cc
+
+-- at the end the lines say a scenario
+pub whole_at_end : (e : SoFar) → Good e.stage e → has_ended e ≡ true → IsWhole e
+whole_at_end e good is =
+    let good' : Good Ended e = subst (λ (s : Stage). Good s e) (ended_is e is) good in
+    record { geometry = is_geometry-true _ _ _ _ good'.0.region; queue = is_queue-true _ good'.0.queue; world = is_world e good' }
+
+-- a good line keeps what holds
+pub line_keeps : (d : SoFar) (line : List ℕ) (e : SoFar) → Good d.stage d → step d line ≡ Ok e → Good e.stage e
+line_keeps d line e good is = (behind d line e good is).good
+
+-- it holds before the first line
+pub good_at_start : Good at_start.stage at_start
+good_at_start = record { honest_none = refl; acts_none = refl }
 
 pub is_whole : (bytes : List ℕ) (d : SoFar) → faulted (reading bytes) ≡ Ok d → IsWhole d
 is_whole bytes d is =

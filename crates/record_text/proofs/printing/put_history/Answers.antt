@@ -1,4 +1,3 @@
-use Rattle.std.proofs.Common.{◌≡◌}
 use Rattle.record_text.proofs.PrintLaws.{lines-more, all-more}
 use Rattle.record_text.proofs.printing.put_history.Goals as goal
 

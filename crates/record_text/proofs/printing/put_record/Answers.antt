@@ -1,4 +1,3 @@
-use Rattle.std.proofs.Common.{◌≡◌}
 use Rattle.record_text.specs.Spelling.{record_of}
 use Rattle.record_text.proofs.PrintLaws.{parts}
 use Rattle.record_text.proofs.printing.put_record.Goals as goal

@@ -1,0 +1,20 @@
+use Rattle.ivshm_cli.proofs.Complete.{usage, only_usage, complete, done, read_spelled}
+use Rattle.ivshm_cli.proofs.ivshm.Goals as goal
+
+pub returns-clause-usage : goal.returns-clause-usage
+returns-clause-usage g c =
+    usage _ _ _ _ _ _ c.answer_to.ensures.answer (λ e. (c.answer_to.ensures.read_fault e).1) (λ e. (c.answer_to.ensures.no_memory e).0)
+
+pub returns-clause-only_usage : goal.returns-clause-only_usage
+returns-clause-only_usage g c = only_usage _ _ _ _ _ _ c.answer_to.ensures.answer
+
+pub returns-clause-complete : goal.returns-clause-complete
+returns-clause-complete g c all told no_read no_write =
+    complete _ _ _ _ _ _ c.answer_to.ensures.answer all told
+    (λ e. no_read (c.answer_to.ensures.read_fault e).0) (λ e. no_write (c.answer_to.ensures.write_fault e).0) (λ e. (c.answer_to.ensures.no_memory e).0)
+
+pub returns-clause-done : goal.returns-clause-done
+returns-clause-done g c is all told short world spelled built no_read no_write =
+    done _ all (g.K.Sink.output c.args.sink.now) (g.K.Sink.output c.answer_to.new.sink) world _ is short (read_spelled world all spelled c.printed_is_read_again.ensures) built
+    (complete _ _ _ _ _ _ c.answer_to.ensures.answer all told
+    (λ e. no_read (c.answer_to.ensures.read_fault e).0) (λ e. no_write (c.answer_to.ensures.write_fault e).0) (λ e. (c.answer_to.ensures.no_memory e).0))

@@ -1,0 +1,4 @@
+pub mod Exit
+pub mod Headline
+pub mod Forms
+pub mod Due

@@ -1,0 +1,137 @@
+//! The top call of the program: it reads what the words ask for, does the work, and writes one whole text.
+//!
+//! It stands on the ends of bytes (`ivs_base`), the simulation (`sim_world`) and the types of scenarios and histories.
+//! Its contract says which text is due to which words and bytes, that each status has its cause, and the headline: where
+//! `sim` is done, what was written is the record of the scenario read and of its lawful history.
+#![tactic(auto)]
+
+ghost use Rattle.std.specs.Prelude.{◌≡◌, ◌⊎◌, ◌≤◌, ℕ, List, Some, None, IsSome, IsTrue, length, map, take};
+ghost use Rattle.std.specs.String.{string_bytes};
+ghost use Rattle.ivs_base.specs.Ends.{Took, SourceFailed, SinkFailed};
+ghost use Rattle.ivshm_cli.specs.Forms.{form_of};
+ghost use Rattle.ivshm_cli.specs.Due.{limit_for, is_answer, Delivers, BreaksOff, IsSettled};
+ghost use Rattle.ivshm_cli.specs.Headline.{Simulates};
+ghost use Rattle.scenario_text.specs.Spelling.{IsSpelling};
+ghost use Rattle.link_model.specs.Schedule.{IsBuilt};
+ghost use Rattle.scenario_text.specs.Scenario.{World};
+ghost use Rattle.ivshm_cli.specs.declared.words.Form.{Form};
+
+mod exit;
+mod refusals;
+mod replies;
+#[cfg(test)]
+mod tests;
+mod words;
+
+pub use exit::Status;
+use ivs_base::{ReadEnd, Sink, Source, write_whole};
+use replies::{read_for, reply_to};
+use scenario_text::printed_is_read_again;
+use std::alloc::Global;
+use words::read_form;
+
+/// The line that says which words the program knows.
+const USAGE: &[u8] = b"usage: ivshm sim | run | replay | dump | config P | load N\n";
+
+/// Writes a text, and answers its status where all of it was written.
+fn deliver<K: Sink>(sink: &mut K, text: &[u8], status: Status) -> Status
+    requires { IsTrue (is_answer status) }
+    ensures cases { (result ≡ status) ⊎ (result ≡ Status.WriteFault) }
+    ensures whole { IsTrue (is_answer result) → Took (K.output sink.old) text.now (K.output sink.new) }
+    ensures part { result ≡ Status.WriteFault → ((n : ℕ) × Took (K.output sink.old) (take n text.now) (K.output sink.new)) }
+    ensures fault { result ≡ Status.WriteFault → SinkFailed (K.output sink.old) (K.output sink.new) }
+    ensures later { (K.output sink.old).faults ≤ (K.output sink.new).faults }
+{
+    match write_whole(sink, text) {
+        Ok(()) => status,
+        Err(_) => Status::WriteFault,
+    }
+}
+
+/// The work of the top call: words, reading to the end, the work on what was read, writing.
+fn answer_to<S: Source, K: Sink>(
+    alloc: Global,
+    words: &[String],
+    source: &mut S,
+    sink: &mut K,
+) -> Status
+    ensures answer { IsTrue (is_answer result) → Delivers (form_of (map string_bytes words.now))
+        (S.input source.old) (S.input source.new) (K.output sink.old) (K.output sink.new) result }
+    ensures write_fault { result ≡ Status.WriteFault → SinkFailed (K.output sink.old) (K.output sink.new)
+        × BreaksOff (form_of (map string_bytes words.now)) (S.input source.old) (S.input source.new) (K.output sink.old) (K.output sink.new) }
+    ensures read_fault { result ≡ Status.ReadFault → SourceFailed (S.input source.old) (S.input source.new)
+        × IsSome (limit_for (form_of (map string_bytes words.now))) × (sink.new ≡ sink.old) }
+    ensures no_memory { result ≡ Status.NoMemory → IsSome (form_of (map string_bytes words.now)) × (sink.new ≡ sink.old) }
+    ensures unread { limit_for (form_of (map string_bytes words.now)) ≡ None → source.new ≡ source.old }
+    ensures source_later { (S.input source.old).faults ≤ (S.input source.new).faults }
+    ensures sink_later { (K.output sink.old).faults ≤ (K.output sink.new).faults }
+{
+    let form = match read_form(words) {
+        Some(form) => form,
+        None => return deliver(sink, USAGE, Status::Usage),
+    };
+    let bytes = match read_for(alloc, form, source) {
+        Ok(bytes) => bytes,
+        Err(ReadEnd::ReadFault) => return Status::ReadFault,
+        Err(ReadEnd::NoMemory) => return Status::NoMemory,
+        Err(ReadEnd::TooLong) => return deliver(sink, b"refused 0 TooLong\n", Status::Refused),
+    };
+    match reply_to(alloc, form, &bytes) {
+        Ok(reply) => deliver(sink, &reply.text, reply.status),
+        Err(_) => Status::NoMemory,
+    }
+}
+
+/// Answers the words of the program, which are its arguments after its name: reads what they ask for to its end, and
+/// writes the one text that is due. Nothing is written before that text is whole.
+///
+/// The statuses and the texts that go with them:
+/// - `Done`: the record of the scenario that was read and of its lawful history;
+/// - `Usage`: the words are none of the forms, and the usage line was written. Nothing is read, and no memory is taken;
+/// - `Refused`: what was read is longer than the form allows, or isn't a text of the form, and one `refused` line was
+///   written;
+/// - `ReadFault`: the source failed, and nothing was written;
+/// - `WriteFault`: the sink failed, and a first part of the text due was written;
+/// - `NoMemory`: nothing was written.
+pub fn ivshm<S: Source, K: Sink>(
+    alloc: Global,
+    words: &[String],
+    source: &mut S,
+    sink: &mut K,
+) -> Status
+    // The headline: a scenario was read to its end, and its record with a lawful history was written.
+    ensures headline { form_of (map string_bytes words.now) ≡ Some Form.Sim → result ≡ Status.Done
+        → Simulates (S.input source.old) (S.input source.new) (K.output sink.old) (K.output sink.new) }
+
+    // An answer is the status due to the words and to the bytes read, all up to the limit, and its text was written.
+    ensures answer { IsTrue (is_answer result) → Delivers (form_of (map string_bytes words.now))
+        (S.input source.old) (S.input source.new) (K.output sink.old) (K.output sink.new) result }
+
+    // Words that are no form read nothing and take no memory.
+    ensures usage { form_of (map string_bytes words.now) ≡ None → (result ≡ Status.Usage) ⊎ (result ≡ Status.WriteFault) }
+    ensures only_usage { result ≡ Status.Usage → form_of (map string_bytes words.now) ≡ None }
+    ensures unread { limit_for (form_of (map string_bytes words.now)) ≡ None → source.new ≡ source.old }
+
+    // Each fault has its cause.
+    ensures read_fault { result ≡ Status.ReadFault → SourceFailed (S.input source.old) (S.input source.new)
+        × IsSome (limit_for (form_of (map string_bytes words.now))) × (sink.new ≡ sink.old) }
+    ensures write_fault { result ≡ Status.WriteFault → SinkFailed (K.output sink.old) (K.output sink.new)
+        × BreaksOff (form_of (map string_bytes words.now)) (S.input source.old) (S.input source.new) (K.output sink.old) (K.output sink.new) }
+    ensures no_memory { result ≡ Status.NoMemory → IsSome (form_of (map string_bytes words.now)) × (sink.new ≡ sink.old) }
+
+    // Where neither count rose, all that is due to the bytes of the source was written, or memory ran out.
+    ensures complete { (all : List ℕ) → (S.input source.old).left ≡ Some all
+        → ¬ SourceFailed (S.input source.old) (S.input source.new) → ¬ SinkFailed (K.output sink.old) (K.output sink.new)
+        → IsSettled (form_of (map string_bytes words.now)) all (K.output sink.old) (K.output sink.new) result }
+
+    // A scenario within the limit whose acts are built is simulated.
+    ensures done { form_of (map string_bytes words.now) ≡ Some Form.Sim → (all : List ℕ) → (S.input source.old).left ≡ Some all
+        → length all ≤ 16777216 → (world : World) → IsSpelling world all → IsBuilt world.acts
+        → ¬ SourceFailed (S.input source.old) (S.input source.new) → ¬ SinkFailed (K.output sink.old) (K.output sink.new)
+        → (result ≡ Status.Done) ⊎ (result ≡ Status.NoMemory) }
+    ensures source_later { (S.input source.old).faults ≤ (S.input source.new).faults }
+    ensures sink_later { (K.output sink.old).faults ≤ (K.output sink.new).faults }
+{
+    printed_is_read_again();
+    answer_to(alloc, words, source, sink)
+}

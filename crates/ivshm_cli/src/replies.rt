@@ -1,0 +1,123 @@
+//! What is due to a form and to the bytes that it read.
+
+ghost use Rattle.std.specs.Prelude.{◌≡◌, ◌^◌, ◌<◌, ◌≤◌, ℕ, List, true, false, Some, None, IsSome, IsTrue, IfOk, OnOk, IsErrOf, length};
+ghost use Rattle.std.specs.List.{list_all};
+ghost use Rattle.ivs_base.specs.Ends.{SourceFailed};
+ghost use Rattle.ivshm_cli.specs.Forms.{limit_of, passes, text_fault, Answers};
+ghost use Rattle.ivshm_cli.specs.Due.{IsDue, HasRead, is_answer};
+ghost use Rattle.link_model.specs.Schedule.{IsBuilt, runs_by_now};
+ghost use Rattle.ivshm_cli.specs.Headline.{IsRecordOf};
+ghost use Rattle.ivshm_cli.specs.declared.refusals.Fault.{Fault};
+
+use crate::exit::Status;
+use crate::refusals::{Fault, refusal_line};
+use crate::words::{Form, limit};
+use ivs_base::{NoMemory, ReadEnd, Source, read_all};
+use record_text::print;
+use scenario_text::{Act, ScenarioFault, parse};
+use sim_world::simulate;
+use std::alloc::Global;
+
+/// A status and the text that is due with it.
+#[derive(Drop)]
+pub(crate) struct Reply {
+    pub(crate) status: Status,
+    pub(crate) text: Vec<u8>,
+}
+
+/// Why a form has no answer of its own.
+#[derive(Clone, Copy, Debug, PartialEq, Eq)]
+pub(crate) enum Failure {
+    Refused(Fault),
+    NoMemory,
+}
+
+/// What a form reads, to its end.
+pub(crate) fn read_for<S: Source>(
+    alloc: Global,
+    form: Form,
+    source: &mut S,
+) -> Result<Vec<u8>, ReadEnd>
+    ensures read { IfOk result (λ v. HasRead (limit_of form) (S.input source.old) (S.input source.new) v.items) }
+    ensures short { IfOk result (λ v. passes (limit_of form) v.items ≡ false) }
+    ensures small { IfOk result (λ v. length v.items < 2 ^ 63) }
+    ensures too_long { IsErrOf result ReadEnd.TooLong → ((bytes : List ℕ)
+        × HasRead (limit_of form) (S.input source.old) (S.input source.new) bytes × (passes (limit_of form) bytes ≡ true)) }
+    ensures fault { IsErrOf result ReadEnd.ReadFault → IsSome (limit_of form) × SourceFailed (S.input source.old) (S.input source.new) }
+    ensures nothing { limit_of form ≡ None → source.new ≡ source.old }
+    ensures later { (S.input source.old).faults ≤ (S.input source.new).faults }
+{
+    match limit(form) {
+        Some(most) => read_all(alloc, source, most),
+        None => Ok(Vec::new(alloc)),
+    }
+}
+
+/// Whether each of the acts is one that is built.
+fn are_built(acts: &[Act]) -> bool
+    ensures value { result ≡ list_all runs_by_now acts.now }
+    ensures built { IsTrue result → IsBuilt acts.now }
+{
+    acts.iter().all(|act| matches!(act, Act::Tick { .. } | Act::Stop { .. } | Act::Turn { .. }))
+}
+
+/// The record of the scenario that the bytes spell and of its lawful history.
+fn simulated(alloc: Global, bytes: &[u8]) -> Result<Vec<u8>, Failure>
+    ensures accepted { OnOk result (text_fault Form.Sim bytes.now ≡ None) }
+    ensures record { IfOk result (λ text. IsRecordOf bytes.now text.items) }
+    ensures refused { (fault : Fault) → IsErrOf result (Failure.Refused fault) → text_fault Form.Sim bytes.now ≡ Some fault }
+{
+    let scenario = match parse(alloc, bytes) {
+        Ok(scenario) => scenario,
+        Err(ScenarioFault::NoMemory) => return Err(Failure::NoMemory),
+        Err(fault) => return Err(Failure::Refused(Fault::Text(fault))),
+    };
+    if !are_built(scenario.acts.items()) {
+        return Err(Failure::Refused(Fault::Unbuilt));
+    }
+    let trace = match simulate(alloc, scenario) {
+        Ok(trace) => trace,
+        Err(_) => return Err(Failure::NoMemory),
+    };
+    match print(alloc, &trace) {
+        Ok(text) => Ok(text),
+        Err(_) => Err(Failure::NoMemory),
+    }
+}
+
+/// What a form answers to the bytes that it read.
+fn answer(alloc: Global, form: Form, bytes: &[u8]) -> Result<Reply, Failure>
+    ensures accepted { OnOk result (text_fault form bytes.now ≡ None) }
+    ensures answers { IfOk result (λ r. Answers form bytes.now r.status r.text.items) }
+    ensures answer { IfOk result (λ r. IsTrue (is_answer r.status)) }
+    ensures refused { (fault : Fault) → IsErrOf result (Failure.Refused fault) → text_fault form bytes.now ≡ Some fault }
+{
+    match form {
+        Form::Sim => match simulated(alloc, bytes) {
+            Ok(text) => Ok(Reply {
+                status: Status::Done,
+                text,
+            }),
+            Err(failure) => Err(failure),
+        },
+    }
+}
+
+/// What is due to a form and to the bytes that it read, which aren't too long.
+pub(crate) fn reply_to(alloc: Global, form: Form, bytes: &[u8]) -> Result<Reply, NoMemory>
+    requires { passes (limit_of form) bytes.now ≡ false }
+    ensures due { IfOk result (λ r. IsDue (Some form) bytes.now r.status r.text.items) }
+    ensures answer { IfOk result (λ r. IsTrue (is_answer r.status)) }
+{
+    match answer(alloc, form, bytes) {
+        Ok(reply) => Ok(reply),
+        Err(Failure::Refused(fault)) => match refusal_line(alloc, fault) {
+            Ok(text) => Ok(Reply {
+                status: Status::Refused,
+                text,
+            }),
+            Err(_) => Err(NoMemory),
+        },
+        Err(Failure::NoMemory) => Err(NoMemory),
+    }
+}

@@ -12,3 +12,4 @@ pub mod MachineRows
 pub mod CountRows
 pub mod PlaceRows
 pub mod AllRows
+pub mod HonestKept

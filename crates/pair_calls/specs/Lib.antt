@@ -2,3 +2,4 @@ pub mod Ground
 pub mod Laws
 pub mod Both
 pub mod Sides
+pub mod HonestRuns

@@ -9,6 +9,7 @@ ghost use Rattle.pair_calls.specs.Both.{HonestCallsNeverRefuse};
 ghost use Rattle.pair_calls.specs.Both.{FramesComeWhole};
 ghost use Rattle.pair_calls.specs.Both.{HonestCallsDeliver};
 ghost use Rattle.pair_calls.specs.Sides.{StepsFollowRows};
+ghost use Rattle.pair_calls.specs.HonestRuns.{HonestRunsDeliver};
 
 /// Each step of a call that meets what memory has is a step of the pair, or touches no word; a device reset is a step of the pair; and a
 /// change of words elsewhere leaves the end where it stands.
@@ -40,4 +41,9 @@ pub fn honest_calls_deliver()
 /// Each step of an honest end goes along the rows of the link machine, against an honest or a hostile other.
 pub fn steps_follow_rows()
     ensures { StepsFollowRows }
+{}
+
+/// Wherever two honest ends come, each has delivered in order what the other accepted, each frame once, through all its sessions.
+pub fn honest_runs_deliver()
+    ensures { HonestRunsDeliver }
 {}

@@ -1,0 +1,109 @@
+-- Runs of two honest ends are runs of the link machine.
+use Rattle.std.proofs.Common.{◌≡◌, ◌≢◌, ℕ, ◌-◌, ◌<◌, Bool, true, List, [], ◌∷◌, refl, sym, ap, ◌∙◌, subst, arith, eq-eqb, ne_eqb}
+use mathlib.Core.Logic.{dite}
+use native.Mathlib.Decide.{ℕ_discrete}
+use Rattle.std.specs.Prelude.{◌==◌, if◌then◌else◌}
+use Rattle.split_ring.specs.Layout.{Sizes}
+use Rattle.link_laws.specs.Ends.{End, fresh, after_reset}
+use Rattle.link_laws.specs.Places.{Place, Closed, first_place, step_at}
+use Rattle.link_laws.specs.LinkMachine.{Side, fresh_side, Told, WasReset, Row, Log, no_sessions, log_behind, MachineRuns, DeliversInOrder}
+use Rattle.link_laws.specs.LinkMachine as machine
+use Rattle.link_laws.proofs.OfferLists.{yes, no}
+use Rattle.link_laws.proofs.MachineLaws.{machine as machine_lem}
+use Rattle.pair_calls.specs.Ground.{Ground, IsGround, who_of}
+use Rattle.pair_calls.specs.Both.{Holds, OnlyComes}
+use Rattle.pair_calls.specs.Sides.{told_by, RowsAlong, SideIs}
+use Rattle.pair_calls.specs.HonestRuns.{HonestRuns, starts, begins, steps, resets, others, HonestRunsDeliver}
+use Rattle.pair_calls.proofs.Kept.{kept}
+use Rattle.pair_calls.proofs.AllRows.{follow_lem}
+
+all_honest : ℕ → Bool
+all_honest p = true
+
+-- two sides and their sessions in a run of the machine, and where the ends are these sides
+record Runs (ground : Ground) (ends : ℕ → End) (places : ℕ → Place) : Type 0 where
+  sides : ℕ → Side
+  logs : ℕ → Log
+  runs : MachineRuns ground.sizes (λ p. true) sides logs
+  are : (p : ℕ) → p < 2 → SideIs (ends p) (places p) (sides p)
+
+-- one side and its log changed
+changed : {A : Type 0} → (ℕ → A) → ℕ → A → ℕ → A
+changed f p x q = if q == p then x else f q
+
+changed_here : {A : Type 0} → (f : ℕ → A) (p : ℕ) (x : A) → changed f p x p ≡ x
+unfolding changed
+changed_here f p x = yes (p == p) x (f p) (eq-eqb p p refl)
+
+changed_beside : {A : Type 0} → (f : ℕ → A) (p q : ℕ) (x : A) → q ≢ p → changed f p x q ≡ f q
+unfolding changed
+changed_beside f p q x ne = no (q == p) x (f q) (ne_eqb q p ne)
+
+-- a row of p goes on with the run
+row_runs : (sizes : Sizes) (sides : ℕ → Side) (logs : ℕ → Log) (p : ℕ) (told : Told) (new : Side) → p < 2 → MachineRuns sizes (λ p. true) sides logs → Row sizes true true (sides p) (sides (1 - p)) told new →
+    (sides' : ℕ → Side) × (logs' : ℕ → Log) × MachineRuns sizes (λ p. true) sides' logs' × (sides' p ≡ new) × ((q : ℕ) → q ≢ p → sides' q ≡ sides q)
+row_runs sizes sides logs p told new p2 runs row = let l = log_behind (logs p) (logs (1 - p)) (sides p) told in let ne : 1 - p ≢ p = λ e. omega arith in (
+  changed sides p new,
+  changed logs p l,
+  machine.goes sides (changed sides p new) logs (changed logs p l) p told runs p2 (subst (λ (x : Side). Row sizes true true (sides p) (sides (1 - p)) told x) (sym (changed_here sides p new)) row)
+      (changed_beside sides p (1 - p) new ne) (changed_here logs p l) (changed_beside logs p (1 - p) l ne),
+  changed_here sides p new,
+  λ q ne. changed_beside sides p q new ne,
+)
+
+along_runs : (sizes : Sizes) (tolds : List Told) (sides : ℕ → Side) (logs : ℕ → Log) (p : ℕ) (new : Side) → p < 2 → MachineRuns sizes (λ p. true) sides logs → RowsAlong sizes true (sides (1 - p)) (sides p) tolds new →
+    (sides' : ℕ → Side) × (logs' : ℕ → Log) × MachineRuns sizes (λ p. true) sides' logs' × (sides' p ≡ new) × ((q : ℕ) → q ≢ p → sides' q ≡ sides q)
+along_runs sizes [] sides logs p new p2 runs along = (sides, logs, runs, sym along, λ q ne. refl)
+along_runs sizes (told ∷ tolds) sides logs p new p2 runs along = let r = row_runs sizes sides logs p told along.0 p2 runs along.1 in let ne : 1 - p ≢ p = λ e. omega arith in
+    let rest = along_runs sizes tolds r.0 r.1 p new p2 r.2 (subst (λ (x : Side). RowsAlong sizes true x (r.0 p) tolds new) (sym (r.4 (1 - p) ne)) (subst (λ (x : Side). RowsAlong sizes true (sides (1 - p)) x tolds new) (sym r.3) along.2)) in
+    (rest.0, rest.1, rest.2, rest.3, λ q ne. rest.4 q ne ∙ r.4 q ne)
+
+side_like : (end end' : End) (place place' : Place) (side side' : Side) → end' ≡ end → place' ≡ place → side' ≡ side → SideIs end place side → SideIs end' place' side'
+side_like end end' place place' side side' e f g h = subst (λ (x : End). SideIs x place' side') (sym e) (subst (λ (x : Place). SideIs end x side') (sym f) (subst (λ (x : Side). SideIs end place x) (sym g) h))
+
+-- the sides behind a step of p
+moved : (ground : Ground) (ends after_ends : ℕ → End) (places after_places : ℕ → Place) (p : ℕ) (end : End) (place : Place) (tolds : List Told) (new : Side) → p < 2 → (r : Runs ground ends places) → RowsAlong ground.sizes true (r.sides (1 - p)) (r.sides p) tolds new → SideIs end place new →
+    OnlyComes ends after_ends places after_places p end place → Runs ground after_ends after_places
+moved ground ends after_ends places after_places p end place tolds new p2 r along is only = let x = along_runs ground.sizes tolds r.sides r.logs p new p2 r.runs along in record {
+  sides = x.0;
+  logs = x.1;
+  runs = x.2;
+  are = λ q q2. dite (ℕ_discrete q p)
+      (λ e. side_like end (after_ends q) place (after_places q) new (x.0 q) (ap after_ends e ∙ only.end_is) (ap after_places e ∙ only.place_is) (ap x.0 e ∙ x.3) is)
+      (λ ne. side_like (ends q) (after_ends q) (places q) (after_places q) (r.sides q) (x.0 q) (only.ends_stay q ne) (only.places_stay q ne) (x.4 q ne) (r.are q q2));
+}
+
+honest_is : (p : ℕ) → all_honest p ≡ true
+unfolding all_honest
+honest_is p = refl
+
+both_kept : (ground : Ground) (memory : ℕ → ℕ) (ends : ℕ → End) (places : ℕ → Place) → IsGround ground → HonestRuns ground memory ends places → Holds ground (λ p. true) memory ends places × Runs ground ends places
+both_kept ground _ _ _ is (starts memory ends places none new closed) = (
+  kept.starts ground (λ p. true) memory ends places none new closed,
+  record {
+    sides = λ p. fresh_side;
+    logs = λ p. no_sessions;
+    runs = machine.starts (λ p. fresh_side) (λ p. no_sessions) (λ p. refl) (λ p. refl);
+    are = λ p p2. side_like fresh (ends p) Closed (places p) fresh_side fresh_side (new p) (closed p) refl follow_lem.starts;
+  },
+)
+both_kept ground _ _ _ is (begins memory ends after_ends places after_places p call run p2 given closed only) = let old = both_kept ground memory ends places is run in let r = old.1 in (
+  kept.begins ground (λ p. true) memory ends after_ends places after_places p call is p2 refl given closed only old.0,
+  moved ground ends after_ends places after_places p (ends p) (first_place (who_of ground p) (ends p) call) [] (r.sides p) p2 r refl (follow_lem.begins (who_of ground p) (ends p) call (r.sides p) (subst (λ (x : Place). SideIs (ends p) x (r.sides p)) closed (r.are p p2))) only,
+)
+both_kept ground _ _ _ is (steps memory after ends after_ends places after_places p value run p2 opened met left only) = let old = both_kept ground memory ends places is run in let r = old.1 in let held = old.0 in let o2 : 1 - p < 2 = omega arith in
+    let theirs = held.1.stands (1 - p) o2 refl in let alone = held.1.whole.alone (1 - p) o2 refl in
+    let state : (r.sides (1 - p)).state ≡ memory (1 - p) = (r.are (1 - p) o2).state ∙ (sym theirs.phase ∙ sym alone.state) in
+    let f = follow_lem.steps ground (λ p. true) memory ends places held.0 p value (r.sides p) (r.sides (1 - p)) is p2 refl held.1 (r.are p p2) state (λ _. r.are (1 - p) o2) opened met in (
+      kept.steps ground (λ p. true) memory after ends after_ends places after_places p value is p2 refl opened met left only old.0,
+      moved ground ends after_ends places after_places p _ _ (told_by (step_at (who_of ground p) (places p) value)) f.0 p2 r f.1 f.2 only,
+    )
+both_kept ground _ _ _ is (resets memory after ends after_ends places after_places p run p2 stored only) = let old = both_kept ground memory ends places is run in let r = old.1 in
+    let f = follow_lem.resets ground.sizes true (ends p) (places p) (r.sides p) (r.sides (1 - p)) (r.are p p2) in (
+      kept.resets ground (λ p. true) memory after ends after_ends places after_places p is p2 refl stored only old.0,
+      moved ground ends after_ends places after_places p (after_reset (ends p)) Closed (WasReset ∷ []) f.0 p2 r (f.0, f.1, refl) f.2 only,
+    )
+both_kept ground _ _ _ is (others memory after ends places run keep) = let old = both_kept ground memory ends places is run in (kept.others ground (λ p. true) memory after ends places is (λ q q2 _. keep q q2) old.0, old.1)
+
+pub runs_lem : HonestRunsDeliver
+runs_lem ground memory ends places is run = let r = (both_kept ground memory ends places is run).1 in (r.sides, r.logs, r.runs, λ p p2. (r.are p p2, machine_lem ground.sizes (λ p. true) r.sides r.logs refl refl r.runs p p2))

@@ -4,12 +4,12 @@ use Rattle.std.specs.Prelude.{replicate}
 use Rattle.link_handshake.specs.declared.Phase.TheVariants.{Reset, Init, Ready, Run}
 use Rattle.split_ring.specs.declared.steps.Access.TheVariants.{Nothing}
 use Rattle.split_ring.specs.Layout.{queue_size, limit_of}
-use Rattle.link_laws.specs.Steps.{Saw, Down, Over, step_of}
+use Rattle.link_laws.specs.Steps.{Saw, Look, Done, Down, Over, step_of}
 use Rattle.link_laws.specs.Trees.{CallTree, GoesAlong}
 use Rattle.link_laws.specs.Calls.{Tick, Stop, Offer, Poll, tree_of, IsCall}
 use Rattle.link_laws.proofs.Cuts.{cuts}
 use Rattle.link_laws.proofs.Lists.{lists}
-use Rattle.worked_calls.specs.Rows.{peer_0, peer_1, small_peer_0, end_at, frame, r, s, to_init, to_ready, to_run, offer_begun, offer_ended, item_read, item_returned, full_offer, index_refused, entry_refused, address_refused, length_refused, flags_refused, id_refused, used_refused, RowsAreCalls}
+use Rattle.worked_calls.specs.Rows.{peer_0, peer_1, small_peer_0, end_at, end_full, frame, r, w, s, to_init, to_ready, to_run, offer_begun, offer_ended, item_read, item_returned, full_offer, offer_46, index_refused, entry_refused, address_refused, length_refused, flags_refused, id_refused, used_refused, RowsAreCalls}
 use Rattle.worked_calls.proofs.Playing.{playing}
 
 shortest_handshake_init_is : IsCall peer_0 (end_at Reset []) Tick to_init
@@ -35,6 +35,26 @@ one_frame_polled_is = playing.call peer_1 (end_at Run []) Poll (item_read ++ ite
 full_ring_is : IsCall peer_0 (end_at Run (replicate 45 frame)) (Offer frame) full_offer
 unfolding queue_size limit_of
 full_ring_is = playing.call peer_0 (end_at Run (replicate 45 frame)) (Offer frame) full_offer (refl, refl, refl)
+
+full_ring_returned_is : IsCall peer_0 end_full (Offer frame) (offer_46 44)
+unfolding queue_size limit_of
+full_ring_returned_is = playing.call peer_0 end_full (Offer frame) (offer_46 44) (refl, refl, (refl, refl, (refl, refl, (refl, refl, (refl, refl, (refl, refl, (refl, refl, (refl, refl, (refl, refl, (refl, refl, (refl, refl, (refl, refl, (refl, refl, (refl, refl, (refl, refl, (refl, refl, (refl, refl, (refl, refl, (refl, refl, (refl, refl, (refl, refl, (refl, refl, (refl, refl, (refl, refl, (refl, refl, (refl, refl, (refl, refl, (refl, refl, (refl, refl, (refl, refl, (refl, refl, (refl, refl, (refl, refl, (refl, refl, (refl, refl, (refl, refl, (refl, refl, (refl, refl, (refl, refl, (refl, refl, (refl, refl, (refl, refl, (refl, refl, (refl, refl, (refl, refl, (refl, refl, (refl, refl, (refl, refl, (refl, refl, (refl, refl, (refl, refl, (refl, refl, (refl, refl, (refl, refl, (refl, refl, (refl, refl, (refl, refl, refl)))))))))))))))))))))))))))))))))))))))))))))))))))))))))
+
+nothing_published_is : IsCall peer_1 (end_at Run []) Poll (r 1280 0 (Look 0 ∷ Done ∷ []) ∷ [])
+unfolding queue_size limit_of
+nothing_published_is = playing.call peer_1 (end_at Run []) Poll (r 1280 0 (Look 0 ∷ Done ∷ []) ∷ []) (refl, refl, refl)
+
+state_seven_stays_is : IsCall peer_0 (end_at Reset []) Tick (r 1 7 (Saw 7 ∷ Over ∷ []) ∷ [])
+unfolding queue_size limit_of
+state_seven_stays_is = playing.call peer_0 (end_at Reset []) Tick (r 1 7 (Saw 7 ∷ Over ∷ []) ∷ []) (refl, refl, refl)
+
+state_seven_clears_is : IsCall small_peer_0 (end_at Init []) Tick (r 1 7 (Saw 7 ∷ []) ∷ w 1024 0 [] ∷ w 1025 0 [] ∷ w 1026 0 [] ∷ s 2 (Over ∷ []) ∷ [])
+unfolding queue_size limit_of
+state_seven_clears_is = playing.call small_peer_0 (end_at Init []) Tick (r 1 7 (Saw 7 ∷ []) ∷ w 1024 0 [] ∷ w 1025 0 [] ∷ w 1026 0 [] ∷ s 2 (Over ∷ []) ∷ []) (refl, refl, (refl, refl, (refl, refl, (refl, refl, (refl, refl, refl)))))
+
+state_seven_runs_is : IsCall peer_0 (end_at Ready []) Tick (r 1 7 (Saw 7 ∷ []) ∷ s 3 (Over ∷ []) ∷ [])
+unfolding queue_size limit_of
+state_seven_runs_is = playing.call peer_0 (end_at Ready []) Tick (r 1 7 (Saw 7 ∷ []) ∷ s 3 (Over ∷ []) ∷ []) (refl, refl, (refl, refl, refl))
 
 index_bound_is : IsCall peer_0 (end_at Run []) Poll index_refused
 unfolding queue_size limit_of
@@ -107,6 +127,11 @@ accepted = record {
   one_frame_offered = one_frame_offered_is;
   one_frame_polled = one_frame_polled_is;
   full_ring = full_ring_is;
+  full_ring_returned = full_ring_returned_is;
+  nothing_published = nothing_published_is;
+  state_seven_stays = state_seven_stays_is;
+  state_seven_clears = state_seven_clears_is;
+  state_seven_runs = state_seven_runs_is;
   index_bound = index_bound_is;
   each_descriptor_entry = each_descriptor_entry_is;
   each_descriptor_address_below = each_descriptor_address_below_is;

@@ -8,7 +8,7 @@ use Rattle.split_ring.specs.declared.steps.Access.{Access}
 use Rattle.split_ring.specs.Layout.{queue_size, limit_of}
 use Rattle.link_laws.specs.Steps.{Mark, Saw, Reclaim, Full, Accept, Look, Deliver, Return, Done, Down, Refuse, Over, Step}
 use Rattle.link_laws.specs.Calls.{Tick, Stop, Offer, Poll, IsCall}
-use Rattle.worked_calls.specs.Rows.{peer_0, peer_1, small_peer_0, end_at, frame, r, s, refuse, offer_begun, offer_ended, item_read, item_returned, full_offer, address_refused, length_refused, clear_short, byte_changed, never_accepted, other_entry, published_early, length_read_twice, word_changed, wrong_used_length, index_passed, id_passed, ChangedRowsAreNone}
+use Rattle.worked_calls.specs.Rows.{peer_0, peer_1, small_peer_0, end_at, end_full, frame, r, s, refuse, offer_begun, offer_ended, item_read, item_returned, full_offer, offer_46, address_refused, length_refused, clear_short, byte_changed, never_accepted, other_entry, published_early, length_read_twice, word_changed, wrong_used_length, index_passed, id_passed, ChangedRowsAreNone}
 use Rattle.worked_calls.proofs.Playing.{playing}
 
 -- numbers that tell accesses and marks apart
@@ -80,6 +80,18 @@ full_ring_not : ¬ IsCall peer_0 (end_at Run (replicate 44 frame)) (Offer frame)
 unfolding queue_size limit_of
 full_ring_not is = let p = playing.played peer_0 (end_at Run (replicate 44 frame)) (Offer frame) full_offer is in let e = ap (λ (x : Step). marks_code x.marks) (p.1) in omega arith
 
+full_ring_returned_not : ¬ IsCall peer_0 end_full (Offer frame) (offer_46 0)
+unfolding queue_size limit_of
+full_ring_returned_not is = let p = playing.played peer_0 end_full (Offer frame) (offer_46 0) is in let e = ap (λ (x : Step). access_code x.access) (p.2.2.2.2.2.2.2.2.2.2.2.2.2.2.2.2.2.2.2.2.2.2.2.2.2.2.2.2.2.2.2.2.2.2.2.2.2.2.2.2.2.2.2.2.2.2.2.2.2.2.2.2.2.2.1) in omega arith
+
+nothing_published_not : ¬ IsCall peer_1 (end_at Run []) Poll (r 1280 0 (Look 0 ∷ []) ∷ [])
+unfolding queue_size limit_of
+nothing_published_not is = let p = playing.played peer_1 (end_at Run []) Poll (r 1280 0 (Look 0 ∷ []) ∷ []) is in let e = ap (λ (x : Step). marks_code x.marks) (p.1) in omega arith
+
+state_seven_not : ¬ IsCall peer_0 (end_at Reset []) Tick (r 1 7 (Saw 7 ∷ []) ∷ s 1 (Over ∷ []) ∷ [])
+unfolding queue_size limit_of
+state_seven_not is = let p = playing.played peer_0 (end_at Reset []) Tick (r 1 7 (Saw 7 ∷ []) ∷ s 1 (Over ∷ []) ∷ []) is in let e = ap (λ (x : Step). marks_code x.marks) (p.1) in omega arith
+
 index_bound_not : ¬ IsCall peer_0 (end_at Run []) Poll index_passed
 unfolding queue_size limit_of
 index_bound_not is = let p = playing.played peer_0 (end_at Run []) Poll index_passed is in let e = ap (λ (x : Step). marks_code x.marks) (p.1) in omega arith
@@ -129,6 +141,9 @@ refused = record {
   one_frame_word_changed = one_frame_word_changed_not;
   one_frame_wrong_used_length = one_frame_wrong_used_length_not;
   full_ring = full_ring_not;
+  full_ring_returned = full_ring_returned_not;
+  nothing_published = nothing_published_not;
+  state_seven = state_seven_not;
   index_bound = index_bound_not;
   each_descriptor_entry = each_descriptor_entry_not;
   each_descriptor_address = each_descriptor_address_not;

@@ -1,5 +1,5 @@
 -- Worked examples of calls, line by line: a link of two peers with sections of 16,384 bytes at words 1,024 and 5,120 and an MTU of 256.
-use Rattle.std.specs.Prelude.{ℕ, false, List, [], ◌∷◌, ◌++◌, replicate}
+use Rattle.std.specs.Prelude.{ℕ, if◌then◌else◌, ◌==◌, ◌*◌, ◌+◌, suc, zero, false, List, [], ◌∷◌, ◌++◌, replicate}
 use Rattle.link_handshake.specs.declared.Phase.{Phase}
 use Rattle.link_handshake.specs.declared.Phase.TheVariants.{Reset, Init, Ready, Run}
 use Rattle.split_ring.specs.declared.ranges.FieldName.{FieldName}
@@ -72,6 +72,18 @@ item_returned = w 5425 0 [] ∷ w 5426 1 [] ∷ w 5424 65536 (Return ∷ []) ∷
 abbrev pub full_offer : List Step
 full_offer = r 5424 0 (Reclaim 0 ∷ Full ∷ []) ∷ []
 
+-- and once all 45 are returned the next offer reads their ids in order, and takes descriptor 0 and entry 45, which shares its word with entry 44
+abbrev pub end_full : End
+end_full = record (end_at Run (replicate 45 frame)) { written = λ word. if word == 1303 then 44 else 0 }
+
+abbrev pub returned_ids : (from count : ℕ) → List Step
+returned_ids from zero = []
+returned_ids from (suc more) = r (5425 + 2 * from) from [] ∷ returned_ids (from + 1) more
+
+abbrev pub offer_46 : ℕ → List Step
+offer_46 entry_word = r 5424 2949120 (Reclaim 45 ∷ []) ∷ (returned_ids 0 45 ++ (w 1472 4294967295 [] ∷ w 1473 196607 [] ∷ w 1474 16777216 [] ∷ w 1475 8 [] ∷ w 1024 1792 [] ∷ w 1025 0 [] ∷ w 1026 14 [] ∷ w 1027 0 [] ∷
+    w 1303 entry_word [] ∷ w 1280 3014656 (Accept frame ∷ []) ∷ d 1 1 (Over ∷ []) ∷ []))
+
 -- The bound of the available index
 abbrev pub index_refused : List Step
 index_refused = r 5376 4259840 (refuse AvailIndex 65) ∷ s 0 (Over ∷ []) ∷ []
@@ -104,6 +116,11 @@ pub record RowsAreCalls : Type 0 where
   pub one_frame_offered : IsCall peer_0 (end_at Run []) (Offer frame) (offer_begun ++ offer_ended)
   pub one_frame_polled : IsCall peer_1 (end_at Run []) Poll (item_read ++ item_returned)
   pub full_ring : IsCall peer_0 (end_at Run (replicate 45 frame)) (Offer frame) full_offer
+  pub full_ring_returned : IsCall peer_0 end_full (Offer frame) (offer_46 44)
+  pub nothing_published : IsCall peer_1 (end_at Run []) Poll (r 1280 0 (Look 0 ∷ Done ∷ []) ∷ [])
+  pub state_seven_stays : IsCall peer_0 (end_at Reset []) Tick (r 1 7 (Saw 7 ∷ Over ∷ []) ∷ [])
+  pub state_seven_clears : IsCall small_peer_0 (end_at Init []) Tick (r 1 7 (Saw 7 ∷ []) ∷ w 1024 0 [] ∷ w 1025 0 [] ∷ w 1026 0 [] ∷ s 2 (Over ∷ []) ∷ [])
+  pub state_seven_runs : IsCall peer_0 (end_at Ready []) Tick (r 1 7 (Saw 7 ∷ []) ∷ s 3 (Over ∷ []) ∷ [])
   pub index_bound : IsCall peer_0 (end_at Run []) Poll index_refused
   pub each_descriptor_entry : IsCall peer_0 (end_at Run []) Poll entry_refused
   pub each_descriptor_address_below : IsCall peer_0 (end_at Run []) Poll (address_refused 1788 0 1788)
@@ -168,6 +185,9 @@ pub record ChangedRowsAreNone : Type 0 where
   pub one_frame_word_changed : ¬ IsCall peer_1 (end_at Run []) Poll (word_changed ++ item_returned)
   pub one_frame_wrong_used_length : ¬ IsCall peer_1 (end_at Run []) Poll (item_read ++ wrong_used_length)
   pub full_ring : ¬ IsCall peer_0 (end_at Run (replicate 44 frame)) (Offer frame) full_offer
+  pub full_ring_returned : ¬ IsCall peer_0 end_full (Offer frame) (offer_46 0)
+  pub nothing_published : ¬ IsCall peer_1 (end_at Run []) Poll (r 1280 0 (Look 0 ∷ []) ∷ [])
+  pub state_seven : ¬ IsCall peer_0 (end_at Reset []) Tick (r 1 7 (Saw 7 ∷ []) ∷ s 1 (Over ∷ []) ∷ [])
   pub index_bound : ¬ IsCall peer_0 (end_at Run []) Poll index_passed
   pub each_descriptor_entry : ¬ IsCall peer_0 (end_at Run []) Poll (r 5376 65536 (Look 1 ∷ []) ∷ r 5377 63 (refuse AvailEntry 63) ∷ s 0 (Over ∷ []) ∷ [])
   pub each_descriptor_address : ¬ IsCall peer_0 (end_at Run []) Poll (address_refused 1792 0 1792)

@@ -5,3 +5,4 @@ pub mod Devices
 pub mod EventKinds
 pub mod EntryWrites
 pub mod Rounds
+pub mod PlainRules

@@ -5,11 +5,13 @@
 
 mod device;
 mod effect;
+mod laws;
 mod registers;
 mod trigger;
 
 pub use device::Device;
 pub use effect::{Delivery, Effect};
+pub use laws::{one_shot_turns_interrupts_off, state_is_what_was_written};
 
 #[cfg(test)]
 mod tests;

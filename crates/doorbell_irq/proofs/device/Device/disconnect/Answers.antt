@@ -1,11 +1,10 @@
-use Rattle.std.proofs.Common.{◌≡◌, ℕ, List, ◌<◌, Some, refl, inr, sym, subst, ◌∙◌, ap, ap₂}
+use Rattle.std.proofs.Common.{List, ◌<◌, Some, refl, inr, sym, subst, ◌∙◌, ap}
 use Rattle.doorbell_irq.specs.Devices.{Devices, IsDevices}
 use Rattle.doorbell_irq.specs.Stands.{Stands}
 use Rattle.doorbell_irq.specs.Events.{WasDisconnected}
 use Rattle.doorbell_irq.specs.DeviceRules.{vector_by}
 use Rattle.doorbell_irq.proofs.EventKinds.{disconnect_spares, was_disconnected, disconnect_quiet}
 use Rattle.doorbell_irq.specs.declared.effect.Delivery.{Delivery}
-use Rattle.doorbell_irq.specs.declared.effect.Effect.{Effect}
 use Rattle.doorbell_irq.proofs.Same.{state_same}
 use Rattle.doorbell_irq.proofs.Devices.{peer_at, led, came}
 use Rattle.doorbell_irq.proofs.device.Device.disconnect.Goals as goal

@@ -1,4 +1,4 @@
-use Rattle.std.proofs.Common.{◌≡◌, ℕ, List, ◌<◌, Some, refl, inr, sym, subst, ◌∙◌, ap, ap₂}
+use Rattle.std.proofs.Common.{◌≡◌, ℕ, List, ◌<◌, Some, refl, sym, subst, ◌∙◌, ap, ap₂}
 use Rattle.std.specs.Prelude.{Bool, true, false, ◌==◌, if◌then◌else◌, Option, None}
 use Rattle.std.specs.Bool.{then_some}
 use Rattle.doorbell_irq.specs.Devices.{Devices, IsDevices}
@@ -7,7 +7,6 @@ use Rattle.doorbell_irq.specs.Events.{RegisterWritten}
 use Rattle.doorbell_irq.specs.DeviceRules.{register_vector}
 use Rattle.doorbell_irq.proofs.EventKinds.{register_spares, register_written}
 use Rattle.doorbell_irq.specs.declared.effect.Delivery.{Delivery}
-use Rattle.doorbell_irq.specs.declared.effect.Effect.{Effect}
 use Rattle.doorbell_irq.proofs.Same.{state_same}
 use Rattle.doorbell_irq.proofs.Devices.{peer_at, led, came}
 use Rattle.doorbell_irq.proofs.device.Device.register_write.Goals as goal

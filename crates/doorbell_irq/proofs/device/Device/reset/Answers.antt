@@ -1,11 +1,10 @@
-use Rattle.std.proofs.Common.{◌≡◌, ℕ, List, ◌<◌, Some, refl, inr, sym, subst, ◌∙◌, ap, ap₂}
+use Rattle.std.proofs.Common.{List, ◌<◌, Some, refl, inr, sym, subst, ◌∙◌, ap}
 use Rattle.doorbell_irq.specs.Devices.{Devices, IsDevices}
 use Rattle.doorbell_irq.specs.Stands.{Stands}
 use Rattle.doorbell_irq.specs.Events.{WasReset}
 use Rattle.doorbell_irq.specs.DeviceRules.{vector_by}
 use Rattle.doorbell_irq.proofs.EventKinds.{reset_spares, was_reset, reset_quiet}
 use Rattle.doorbell_irq.specs.declared.effect.Delivery.{Delivery}
-use Rattle.doorbell_irq.specs.declared.effect.Effect.{Effect}
 use Rattle.doorbell_irq.proofs.Same.{state_same}
 use Rattle.doorbell_irq.proofs.Devices.{peer_at, led, came}
 use Rattle.doorbell_irq.proofs.device.Device.reset.Goals as goal

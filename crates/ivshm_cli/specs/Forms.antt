@@ -53,7 +53,7 @@ Answers Sim bytes _ text = ⊥
 
 -- ---- refusals
 
--- the name of what is wrong with a scenario's text
+-- the name of what is wrong with a scenario's text; no text has the fault NoMemory
 abbrev pub name_of : ScenarioFault → List ℕ
 name_of (faults.BadLine line) = codes "BadLine"
 name_of (faults.BadNumber line) = codes "BadNumber"

@@ -11,6 +11,8 @@ mod laws;
 mod printing;
 mod reading;
 mod taking;
+#[cfg(test)]
+mod tests;
 mod trace;
 
 pub use faults::{RecordCause, RecordFault};

@@ -16,6 +16,8 @@ mod reading;
 mod scenarios;
 mod stages;
 mod taking;
+#[cfg(test)]
+mod tests;
 
 pub use acts::{Act, Acts, Flags};
 pub use drafts::Draft;

@@ -1,14 +1,14 @@
 -- What follows from the clauses of the work.
 use Rattle.std.proofs.Common.{◌≡◌, ℕ, ◌⊎◌, ◌≤◌, ◌<◌, List, [], ◌++◌, length, refl, sym, ◌∙◌, ap, subst, inl, inr, arith, length-append}
-use Rattle.std.specs.Prelude.{Option, Some, None, true, false, IsTrue, IsSome, MatchOption, if◌then◌else◌, Ok}
+use Rattle.std.specs.Prelude.{Option, Some, None, true, false, IsTrue, IsSome, MatchBool, if◌then◌else◌, Ok}
 use Rattle.std.proofs.lemmas.List.{append-nil}
 use Rattle.std.proofs.lemmas.List.Sums.{list_all-from_AllPass}
-use Rattle.std.proofs.lemmas.Bool.{cases_lt, lt-ltb, le-ltb}
+use Rattle.std.proofs.lemmas.Bool.{cases_lt, lt-ltb}
 use Rattle.ivs_base.specs.Ends.{Input, Output, ahead, IsAtEnd}
 use Rattle.ivshm_cli.specs.declared.words.Form.{Form}
-use Rattle.ivshm_cli.specs.declared.words.Form.TheVariants.{Sim}
+use Rattle.ivshm_cli.specs.declared.words.Form.TheVariants.{Sim, Dump, Config}
 use Rattle.ivshm_cli.specs.declared.refusals.Fault.{Fault}
-use Rattle.ivshm_cli.specs.declared.refusals.Fault.TheVariants.{TooLong, Unbuilt}
+use Rattle.ivshm_cli.specs.declared.refusals.Fault.TheVariants.{TooLong, Text, Unbuilt, BadPeer, Image}
 use Rattle.ivshm_cli.specs.declared.exit.Status.{Status}
 use Rattle.ivshm_cli.specs.declared.exit.Status.TheVariants.{Done, Differs, Usage, Refused, ReadFault, WriteFault, NoMemory}
 use Rattle.std.specs.List.{list_all}
@@ -19,8 +19,10 @@ use Rattle.scenario_text.specs.Spelling.{IsSpelling}
 use Rattle.scenario_text.specs.Laws.{IsReadAgain}
 use Rattle.scenario_text.specs.Judge.{answer}
 use Rattle.link_model.specs.Schedule.{IsBuilt, runs_by_now}
-use Rattle.ivshm_cli.specs.Forms.{limit_of, passes, refusal, text_fault, scenario_fault, line_of, Answers}
-use Rattle.ivshm_cli.specs.Due.{IsDue, limit_for, HasRead, is_answer, Delivers, given_by, input_of, IsSettled}
+use Rattle.section_dump.specs.Image.{IsImage}
+use Rattle.section_dump.specs.Laws.{FaultsAreOfNoImage}
+use Rattle.ivshm_cli.specs.Forms.{limit_of, passes, unbuilt_in, missing_in, scenario_fault, IsImageVerdict, IsTextVerdict, Accepts, line_of, Answers}
+use Rattle.ivshm_cli.specs.Due.{IsDue, Follows, limit_for, HasRead, is_answer, Delivers, given_by, input_of, IsSettled}
 
 pub status_cases : (s : Status) → IsTrue (is_answer s) ⊎ ((s ≡ ReadFault) ⊎ ((s ≡ WriteFault) ⊎ (s ≡ NoMemory)))
 status_cases Done = inl refl
@@ -34,34 +36,26 @@ status_cases NoMemory = inr (inr (inr refl))
 -- no form answers Usage: a line for each form
 not_usage : (form : Form) (bytes text : List ℕ) → Answers form bytes Usage text → ⊥
 not_usage Sim bytes text h = h
+not_usage Dump bytes text h = h
+not_usage (Config peer) bytes text h = h
 
-usage_is_refused : (o : Option Fault) (P : Type 0) (Q : Fault → Type 0) → (P → ⊥) → MatchOption o P (λ fault. (Usage ≡ Refused) × Q fault) → ⊥
-usage_is_refused None P Q not_p h = not_p h
-usage_is_refused (Some fault) P Q not_p h = let e = h.0 in cc
+usage_follows : (form : Form) (bytes text : List ℕ) (found : Option Fault) → Follows form bytes Usage text found → ⊥
+usage_follows form bytes text None h = not_usage form bytes text h
+usage_follows form bytes text (Some fault) h = let e = h.0 in cc
 
 due_usage : (form : Option Form) (bytes text : List ℕ) → IsDue form bytes Usage text → form ≡ None
 due_usage None bytes text h = refl
-due_usage (Some form) bytes text h =
-    absurd (usage_is_refused (refusal form bytes) (Answers form bytes Usage text) (λ fault. text ≡ line_of fault) (not_usage form bytes text) h)
-
--- what is due where the refusal is known
-refused_as : (form : Form) (bytes : List ℕ) (status : Status) (text : List ℕ) (found : Option Fault) → refusal form bytes ≡ found →
-    IsDue (Some form) bytes status text → MatchOption found (Answers form bytes status text) (λ fault. (status ≡ Refused) × (text ≡ line_of fault))
-refused_as form bytes status text found is due = subst (λ o. MatchOption o (Answers form bytes status text) (λ fault. (status ≡ Refused) × (text ≡ line_of fault))) is due
-
-due_as : (form : Form) (bytes : List ℕ) (status : Status) (text : List ℕ) (found : Option Fault) → refusal form bytes ≡ found →
-    MatchOption found (Answers form bytes status text) (λ fault. (status ≡ Refused) × (text ≡ line_of fault)) → IsDue (Some form) bytes status text
-due_as form bytes status text found is due = subst (λ o. MatchOption o (Answers form bytes status text) (λ fault. (status ≡ Refused) × (text ≡ line_of fault))) (sym is) due
-
-refused_long : (form : Form) (bytes : List ℕ) → passes (limit_of form) bytes ≡ true → refusal form bytes ≡ Some TooLong
-refused_long form bytes long = ap (λ b. if b then Some TooLong else text_fault form bytes) long
+due_usage (Some form) bytes text h = absurd (usage_follows form bytes text h.0 h.2)
 
 -- what is due to bytes that are too long
 from_long : (form : Form) (bytes : List ℕ) (status : Status) (text : List ℕ) → passes (limit_of form) bytes ≡ true → IsDue (Some form) bytes status text → (status ≡ Refused) × (text ≡ line_of TooLong)
-from_long form bytes status text long due = refused_as form bytes status text (Some TooLong) (refused_long form bytes long) due
+from_long form bytes status text long due =
+    let found : due.0 ≡ Some TooLong = subst (λ b. MatchBool b (due.0 ≡ Some TooLong) (IsTextVerdict form bytes due.0)) long due.1 in
+    subst (λ o. Follows form bytes status text o) found due.2
 
 to_long : (form : Form) (bytes : List ℕ) (status : Status) (text : List ℕ) → passes (limit_of form) bytes ≡ true → (status ≡ Refused) × (text ≡ line_of TooLong) → IsDue (Some form) bytes status text
-to_long form bytes status text long due = due_as form bytes status text (Some TooLong) (refused_long form bytes long) due
+to_long form bytes status text long follows =
+    (Some TooLong, subst (λ b. MatchBool b (Some TooLong ≡ Some TooLong) (IsTextVerdict form bytes (Some TooLong))) (sym long) refl, follows)
 
 -- what is due to the bytes taken is due to all that the source told
 due_to_all : (form : Form) (limit : ℕ) (all bytes : List ℕ) (left : Option (List ℕ)) (status : Status) (text : List ℕ) →
@@ -136,21 +130,54 @@ read_spelled world bytes spelled again =
 built_all : (acts : List Act) → IsBuilt acts → list_all runs_by_now acts ≡ true
 built_all acts built = list_all-from_AllPass runs_by_now acts built
 
--- a scenario within the limit whose acts are built isn't refused
-not_refused : (all : List ℕ) (world : World) → length all ≤ 16777216 → answer all ≡ Ok world → IsBuilt world.acts → refusal Sim all ≡ None
-not_refused all world short is built =
-    ap (λ b. if b then Some TooLong else text_fault Sim all) (le-ltb 16777216 (length all) short)
-    ∙ ap scenario_fault is
-    ∙ ap (λ b. if b then None else Some Unbuilt) (built_all world.acts built)
+-- a world that has the peer
+has_peer : (peer : ℕ) (world : World) → peer < world.geometry.peers → missing_in peer world ≡ None
+has_peer peer world has = ap (λ b. if b then None else Some BadPeer) (lt-ltb peer world.geometry.peers has)
 
--- so it is simulated
-is_done : (all text : List ℕ) (status : Status) → Answers Sim all status text → status ≡ Done
-is_done all text Done h = refl
-is_done all text _ h = absurd h
+has_built : (world : World) → IsBuilt world.acts → unbuilt_in world ≡ None
+has_built world built = ap (λ b. if b then None else Some Unbuilt) (built_all world.acts built)
 
-pub done : (form : Option Form) (all : List ℕ) (before now : Output) (world : World) (status : Status) → form ≡ Some Sim → length all ≤ 16777216 → answer all ≡ Ok world → IsBuilt world.acts →
-    IsSettled form all before now status → (status ≡ Done) ⊎ (status ≡ NoMemory)
-done form all before now world status is short read built settled = elim settled [
+image_answered : (image : List ℕ) (found : Option Fault) → FaultsAreOfNoImage → IsImage image → IsImageVerdict image found → found ≡ None
+image_answered image None exact is verdict = refl
+image_answered image (Some (Image fault)) exact is verdict = absurd (exact image fault verdict.1 verdict.0 is)
+image_answered image (Some TooLong) exact is verdict = absurd verdict
+image_answered image (Some (Text fault)) exact is verdict = absurd verdict
+image_answered image (Some Unbuilt) exact is verdict = absurd verdict
+image_answered image (Some BadPeer) exact is verdict = absurd verdict
+
+-- bytes that are what the form reads aren't refused
+answered : (form : Form) (bytes : List ℕ) (found : Option Fault) → IsReadAgain → FaultsAreOfNoImage → Accepts form bytes → IsTextVerdict form bytes found → found ≡ None
+answered Sim bytes found again exact accepted verdict =
+    sym verdict ∙ ap (scenario_fault unbuilt_in) (read_spelled accepted.0 bytes accepted.1 again) ∙ has_built accepted.0 accepted.2
+answered Dump bytes found again exact accepted verdict = image_answered bytes found exact accepted verdict
+answered (Config peer) bytes found again exact accepted verdict =
+    sym verdict ∙ ap (scenario_fault (missing_in peer)) (read_spelled accepted.0 bytes accepted.1 again) ∙ has_peer peer accepted.0 accepted.2
+
+-- each form answers Done, and is given all bytes: a line for each
+is_done : (form : Form) (bytes text : List ℕ) (status : Status) → Answers form bytes status text → status ≡ Done
+is_done Sim bytes text Done h = refl
+is_done Sim bytes text _ h = absurd h
+is_done Dump bytes text Done h = refl
+is_done Dump bytes text _ h = absurd h
+is_done (Config peer) bytes text Done h = refl
+is_done (Config peer) bytes text _ h = absurd h
+
+given_all : (form : Form) (all : List ℕ) → given_by (limit_of form) all ≡ all
+given_all Sim all = refl
+given_all Dump all = refl
+given_all (Config peer) all = refl
+
+due_done : (form : Form) (bytes text : List ℕ) (status : Status) → IsReadAgain → FaultsAreOfNoImage → passes (limit_of form) bytes ≡ false → Accepts form bytes → IsDue (Some form) bytes status text → status ≡ Done
+due_done form bytes text status again exact short accepted due =
+    let verdict = subst (λ b. MatchBool b (due.0 ≡ Some TooLong) (IsTextVerdict form bytes due.0)) short due.1 in
+    is_done form bytes text status (subst (λ o. Follows form bytes status text o) (answered form bytes due.0 again exact accepted verdict) due.2)
+
+pub done : (words : Option Form) (form : Form) (all : List ℕ) (before now : Output) (status : Status) → words ≡ Some form → IsReadAgain → FaultsAreOfNoImage → passes (limit_of form) all ≡ false → Accepts form all →
+    IsSettled words all before now status → (status ≡ Done) ⊎ (status ≡ NoMemory)
+done words form all before now status is again exact short accepted settled = elim settled [
   | inl none ↦ inr none.1
-  | inr due ↦ inl (is_done all due.0 status (refused_as Sim all status due.0 None (not_refused all world short read built) (subst (λ f. IsDue f (input_of f all) status due.0) is due.1)))
+  | inr due ↦ (
+      let known = subst (λ f. IsDue f (input_of f all) status due.0) is due.1 in
+      inl (due_done form all due.0 status again exact short accepted (subst (λ bytes. IsDue (Some form) bytes status due.0) (given_all form all) known))
+      )
 ]

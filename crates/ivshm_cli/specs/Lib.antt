@@ -1,4 +1,5 @@
 pub mod Exit
 pub mod Headline
+pub mod Configuration
 pub mod Forms
 pub mod Due

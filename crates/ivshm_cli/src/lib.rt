@@ -1,21 +1,20 @@
 //! The top call of the program: it reads what the words ask for, does the work, and writes one whole text.
 //!
-//! It stands on the ends of bytes (`ivs_base`), the simulation (`sim_world`) and the types of scenarios and histories.
-//! Its contract says which text is due to which words and bytes, that each status has its cause, and the headline: where
-//! `sim` is done, what was written is the record of the scenario read and of its lawful history.
+//! It stands on the ends of bytes (`ivs_base`), the texts of scenarios and records, the simulation (`sim_world`), the
+//! configuration space (`pci_space`) and the listing of an image (`section_dump`). Its contract says which text is due to
+//! which words and bytes, that each status has its cause, and the headline: where `sim` is done, what was written is the
+//! record of the scenario read and of its lawful history.
 #![tactic(auto)]
 
-ghost use Rattle.std.specs.Prelude.{◌≡◌, ◌⊎◌, ◌≤◌, ℕ, List, Some, None, IsSome, IsTrue, length, map, take};
+ghost use Rattle.std.specs.Prelude.{◌≡◌, ◌⊎◌, ◌≤◌, ℕ, List, false, Some, None, IsSome, IsTrue, map, take};
 ghost use Rattle.std.specs.String.{string_bytes};
 ghost use Rattle.ivs_base.specs.Ends.{Took, SourceFailed, SinkFailed};
-ghost use Rattle.ivshm_cli.specs.Forms.{form_of};
+ghost use Rattle.ivshm_cli.specs.Forms.{form_of, limit_of, passes, Accepts};
 ghost use Rattle.ivshm_cli.specs.Due.{limit_for, is_answer, Delivers, BreaksOff, IsSettled};
 ghost use Rattle.ivshm_cli.specs.Headline.{Simulates};
-ghost use Rattle.scenario_text.specs.Spelling.{IsSpelling};
-ghost use Rattle.link_model.specs.Schedule.{IsBuilt};
-ghost use Rattle.scenario_text.specs.Scenario.{World};
 ghost use Rattle.ivshm_cli.specs.declared.words.Form.{Form};
 
+mod configuration;
 mod exit;
 mod refusals;
 mod replies;
@@ -27,6 +26,7 @@ pub use exit::Status;
 use ivs_base::{ReadEnd, Sink, Source, write_whole};
 use replies::{read_for, reply_to};
 use scenario_text::printed_is_read_again;
+use section_dump::faults_are_exact;
 use std::alloc::Global;
 use words::read_form;
 
@@ -86,9 +86,10 @@ fn answer_to<S: Source, K: Sink>(
 /// writes the one text that is due. Nothing is written before that text is whole.
 ///
 /// The statuses and the texts that go with them:
-/// - `Done`: the record of the scenario that was read and of its lawful history;
+/// - `Done`: for `sim` the record of the scenario that was read and of its lawful history, for `dump` the listing of the
+///   image, for `config P` the 16 lines of a device's configuration space at reset;
 /// - `Usage`: the words are none of the forms, and the usage line was written. Nothing is read, and no memory is taken;
-/// - `Refused`: what was read is longer than the form allows, or isn't a text of the form, and one `refused` line was
+/// - `Refused`: what was read is longer than the form allows, or isn't what the form reads, and one `refused` line was
 ///   written;
 /// - `ReadFault`: the source failed, and nothing was written;
 /// - `WriteFault`: the sink failed, and a first part of the text due was written;
@@ -124,14 +125,15 @@ pub fn ivshm<S: Source, K: Sink>(
         → ¬ SourceFailed (S.input source.old) (S.input source.new) → ¬ SinkFailed (K.output sink.old) (K.output sink.new)
         → IsSettled (form_of (map string_bytes words.now)) all (K.output sink.old) (K.output sink.new) result }
 
-    // A scenario within the limit whose acts are built is simulated.
-    ensures done { form_of (map string_bytes words.now) ≡ Some Form.Sim → (all : List ℕ) → (S.input source.old).left ≡ Some all
-        → length all ≤ 16777216 → (world : World) → IsSpelling world all → IsBuilt world.acts
+    // Bytes within the limit that are what the form reads are answered.
+    ensures done { (form : Form) → form_of (map string_bytes words.now) ≡ Some form
+        → (all : List ℕ) → (S.input source.old).left ≡ Some all → passes (limit_of form) all ≡ false → Accepts form all
         → ¬ SourceFailed (S.input source.old) (S.input source.new) → ¬ SinkFailed (K.output sink.old) (K.output sink.new)
         → (result ≡ Status.Done) ⊎ (result ≡ Status.NoMemory) }
     ensures source_later { (S.input source.old).faults ≤ (S.input source.new).faults }
     ensures sink_later { (K.output sink.old).faults ≤ (K.output sink.new).faults }
 {
     printed_is_read_again();
+    faults_are_exact();
     answer_to(alloc, words, source, sink)
 }

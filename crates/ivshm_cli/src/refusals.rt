@@ -1,9 +1,10 @@
 //! Why a text is refused, and the line that says so.
 
 ghost use Rattle.std.specs.Prelude.{◌≡◌, IfOk};
-ghost use Rattle.ivshm_cli.specs.Forms.{line_of, name_of, place_of, text_line_of};
+ghost use Rattle.ivshm_cli.specs.Forms.{image_line_of, length_line_of, line_of, name_of, place_of, text_line_of};
 
 use scenario_text::ScenarioFault;
+use section_dump::DumpFault;
 use std::alloc::{AllocError, Global};
 
 /// Why what was read is refused.
@@ -15,6 +16,10 @@ pub(crate) enum Fault {
     Text(ScenarioFault),
     /// The scenario has acts that can't be simulated by now.
     Unbuilt,
+    /// The scenario hasn't the peer that the words name.
+    BadPeer,
+    /// The bytes are no image of a region.
+    Image(DumpFault),
 }
 
 /// The name of what is wrong with a scenario's text.
@@ -60,6 +65,32 @@ fn text_line(alloc: Global, fault: ScenarioFault) -> Result<Vec<u8>, AllocError>
     Ok(line.into_bytes())
 }
 
+/// The line of an image that hasn't the bytes it needs, or has more.
+fn length_line(
+    alloc: Global,
+    name: &'static str,
+    need: u64,
+    found: u64,
+) -> Result<Vec<u8>, AllocError>
+    ensures { IfOk result (λ v. v.items ≡ length_line_of name.now need found) }
+{
+    let line = format!(in alloc; "refused 0 {name} {need} {found}\n")?;
+    Ok(line.into_bytes())
+}
+
+/// The line of bytes that are no image.
+fn image_line(alloc: Global, fault: DumpFault) -> Result<Vec<u8>, AllocError>
+    ensures { IfOk result (λ v. v.items ≡ image_line_of fault) }
+{
+    match fault {
+        DumpFault::BadHeader => b"refused 0 BadHeader\n".to_vec(alloc),
+        DumpFault::Geometry(_) => b"refused 0 BadGeometry\n".to_vec(alloc),
+        DumpFault::ShortImage { need, found } => length_line(alloc, "ShortImage", need, found),
+        DumpFault::LongImage { need, found } => length_line(alloc, "LongImage", need, found),
+        DumpFault::NoMemory => b"refused 0 NoMemory\n".to_vec(alloc),
+    }
+}
+
 /// The line of a refusal.
 pub(crate) fn refusal_line(alloc: Global, fault: Fault) -> Result<Vec<u8>, AllocError>
     ensures { IfOk result (λ v. v.items ≡ line_of fault) }
@@ -68,5 +99,7 @@ pub(crate) fn refusal_line(alloc: Global, fault: Fault) -> Result<Vec<u8>, Alloc
         Fault::TooLong => b"refused 0 TooLong\n".to_vec(alloc),
         Fault::Text(fault) => text_line(alloc, fault),
         Fault::Unbuilt => b"refused 0 Unbuilt\n".to_vec(alloc),
+        Fault::BadPeer => b"refused 0 BadPeer\n".to_vec(alloc),
+        Fault::Image(fault) => image_line(alloc, fault),
     }
 }

@@ -1,20 +1,27 @@
 //! What is due to a form and to the bytes that it read.
 
-ghost use Rattle.std.specs.Prelude.{◌≡◌, ◌^◌, ◌<◌, ◌≤◌, ℕ, List, true, false, Some, None, IsSome, IsTrue, IfOk, OnOk, IsErrOf, length};
+ghost use Rattle.std.specs.Prelude.{◌≡◌, ◌^◌, ◌<◌, ◌≤◌, ℕ, List, true, false, Option, Some, None, Ok, IsSome, IsTrue, IfOk, OnOk, IsErrOf, length};
 ghost use Rattle.std.specs.List.{list_all};
 ghost use Rattle.ivs_base.specs.Ends.{SourceFailed};
-ghost use Rattle.ivshm_cli.specs.Forms.{limit_of, passes, text_fault, Answers};
+ghost use Rattle.ivshm_cli.specs.Forms.{limit_of, passes, scenario_fault, IsTextVerdict, Answers};
 ghost use Rattle.ivshm_cli.specs.Due.{IsDue, HasRead, is_answer};
 ghost use Rattle.link_model.specs.Schedule.{IsBuilt, runs_by_now};
+ghost use Rattle.scenario_text.specs.Scenario.{World};
+ghost use Rattle.scenario_text.specs.Spelling.{IsSpelling, world_of};
+ghost use Rattle.scenario_text.specs.Judge.{answer as judged};
+ghost use Rattle.section_dump.specs.Listing.{IsListing};
 ghost use Rattle.ivshm_cli.specs.Headline.{IsRecordOf};
+ghost use Rattle.ivshm_cli.specs.Configuration.{IsConfigurationOf};
 ghost use Rattle.ivshm_cli.specs.declared.refusals.Fault.{Fault};
 
+use crate::configuration::configuration;
 use crate::exit::Status;
 use crate::refusals::{Fault, refusal_line};
 use crate::words::{Form, limit};
 use ivs_base::{NoMemory, ReadEnd, Source, read_all};
 use record_text::print;
-use scenario_text::{Act, ScenarioFault, parse};
+use scenario_text::{Act, Scenario, ScenarioFault, parse};
+use section_dump::{DumpFault, dump};
 use sim_world::simulate;
 use std::alloc::Global;
 
@@ -61,16 +68,29 @@ fn are_built(acts: &[Act]) -> bool
     acts.iter().all(|act| matches!(act, Act::Tick { .. } | Act::Stop { .. } | Act::Turn { .. }))
 }
 
+/// The scenario that the bytes spell.
+fn scenario_in(alloc: Global, bytes: &[u8]) -> Result<Scenario, Failure>
+    ensures spelled { IfOk result (λ scenario. IsSpelling (world_of scenario) bytes.now) }
+    ensures read { IfOk result (λ scenario. judged bytes.now ≡ Ok (world_of scenario)) }
+    ensures refused { (fault : Fault) → IsErrOf result (Failure.Refused fault)
+        → (fault_in : World → Option Fault) → scenario_fault fault_in (judged bytes.now) ≡ Some fault }
+{
+    match parse(alloc, bytes) {
+        Ok(scenario) => Ok(scenario),
+        Err(ScenarioFault::NoMemory) => Err(Failure::NoMemory),
+        Err(fault) => Err(Failure::Refused(Fault::Text(fault))),
+    }
+}
+
 /// The record of the scenario that the bytes spell and of its lawful history.
 fn simulated(alloc: Global, bytes: &[u8]) -> Result<Vec<u8>, Failure>
-    ensures accepted { OnOk result (text_fault Form.Sim bytes.now ≡ None) }
+    ensures accepted { OnOk result (IsTextVerdict Form.Sim bytes.now None) }
     ensures record { IfOk result (λ text. IsRecordOf bytes.now text.items) }
-    ensures refused { (fault : Fault) → IsErrOf result (Failure.Refused fault) → text_fault Form.Sim bytes.now ≡ Some fault }
+    ensures refused { (fault : Fault) → IsErrOf result (Failure.Refused fault) → IsTextVerdict Form.Sim bytes.now (Some fault) }
 {
-    let scenario = match parse(alloc, bytes) {
+    let scenario = match scenario_in(alloc, bytes) {
         Ok(scenario) => scenario,
-        Err(ScenarioFault::NoMemory) => return Err(Failure::NoMemory),
-        Err(fault) => return Err(Failure::Refused(Fault::Text(fault))),
+        Err(failure) => return Err(failure),
     };
     if !are_built(scenario.acts.items()) {
         return Err(Failure::Refused(Fault::Unbuilt));
@@ -85,21 +105,48 @@ fn simulated(alloc: Global, bytes: &[u8]) -> Result<Vec<u8>, Failure>
     }
 }
 
-/// What a form answers to the bytes that it read.
-fn answer(alloc: Global, form: Form, bytes: &[u8]) -> Result<Reply, Failure>
-    ensures accepted { OnOk result (text_fault form bytes.now ≡ None) }
-    ensures answers { IfOk result (λ r. Answers form bytes.now r.status r.text.items) }
-    ensures answer { IfOk result (λ r. IsTrue (is_answer r.status)) }
-    ensures refused { (fault : Fault) → IsErrOf result (Failure.Refused fault) → text_fault form bytes.now ≡ Some fault }
+/// The listing of the image that the bytes are.
+fn listed(alloc: Global, bytes: &[u8]) -> Result<Vec<u8>, Failure>
+    ensures accepted { OnOk result (IsTextVerdict Form.Dump bytes.now None) }
+    ensures listing { IfOk result (λ text. IsListing bytes.now text.items) }
+    ensures refused { (fault : Fault) → IsErrOf result (Failure.Refused fault) → IsTextVerdict Form.Dump bytes.now (Some fault) }
+{
+    match dump(alloc, bytes) {
+        Ok(text) => Ok(text),
+        Err(DumpFault::NoMemory) => Err(Failure::NoMemory),
+        Err(fault) => Err(Failure::Refused(Fault::Image(fault))),
+    }
+}
+
+/// The configuration space of this peer's device, in the world that the bytes spell.
+fn configured(alloc: Global, peer: u32, bytes: &[u8]) -> Result<Vec<u8>, Failure>
+    ensures accepted { OnOk result (IsTextVerdict (Form.Config peer) bytes.now None) }
+    ensures configuration { IfOk result (λ text. IsConfigurationOf bytes.now text.items) }
+    ensures refused { (fault : Fault) → IsErrOf result (Failure.Refused fault) → IsTextVerdict (Form.Config peer) bytes.now (Some fault) }
+{
+    let scenario = match scenario_in(alloc, bytes) {
+        Ok(scenario) => scenario,
+        Err(failure) => return Err(failure),
+    };
+    if peer >= scenario.geometry.peers() {
+        return Err(Failure::Refused(Fault::BadPeer));
+    }
+    match configuration(alloc, &scenario.geometry, scenario.wiring) {
+        Ok(text) => Ok(text),
+        Err(_) => Err(Failure::NoMemory),
+    }
+}
+
+/// The text that a form answers to the bytes that it read.
+fn text_for(alloc: Global, form: Form, bytes: &[u8]) -> Result<Vec<u8>, Failure>
+    ensures accepted { OnOk result (IsTextVerdict form bytes.now None) }
+    ensures answers { IfOk result (λ text. Answers form bytes.now Status.Done text.items) }
+    ensures refused { (fault : Fault) → IsErrOf result (Failure.Refused fault) → IsTextVerdict form bytes.now (Some fault) }
 {
     match form {
-        Form::Sim => match simulated(alloc, bytes) {
-            Ok(text) => Ok(Reply {
-                status: Status::Done,
-                text,
-            }),
-            Err(failure) => Err(failure),
-        },
+        Form::Sim => simulated(alloc, bytes),
+        Form::Dump => listed(alloc, bytes),
+        Form::Config(peer) => configured(alloc, peer, bytes),
     }
 }
 
@@ -109,8 +156,11 @@ pub(crate) fn reply_to(alloc: Global, form: Form, bytes: &[u8]) -> Result<Reply,
     ensures due { IfOk result (λ r. IsDue (Some form) bytes.now r.status r.text.items) }
     ensures answer { IfOk result (λ r. IsTrue (is_answer r.status)) }
 {
-    match answer(alloc, form, bytes) {
-        Ok(reply) => Ok(reply),
+    match text_for(alloc, form, bytes) {
+        Ok(text) => Ok(Reply {
+            status: Status::Done,
+            text,
+        }),
         Err(Failure::Refused(fault)) => match refusal_line(alloc, fault) {
             Ok(text) => Ok(Reply {
                 status: Status::Refused,

@@ -98,13 +98,18 @@ fn stop(rt: HostRuntime) -> Result<(), Fail> {
 #[test]
 fn words_that_are_no_form(rt: HostRuntime) -> Result<(), Fail> {
     let usage = b"usage: ivshm sim | run | replay | dump | config P | load N\n".as_slice();
-    let lists: [&[&str]; 6] = [
+    let lists: [&[&str]; 11] = [
         &[],
         &["sim", "x"],
         &["Sim"],
         &[""],
         &["--help"],
         &["replay"],
+        &["dump", "0"],
+        &["config"],
+        &["config", "8"],
+        &["config", "00"],
+        &["config", "0", "0"],
     ];
     for words in lists {
         let found = answer(rt.alloc(), words, b"")?;
@@ -150,11 +155,137 @@ fn bad_texts(rt: HostRuntime) -> Result<(), Fail> {
 }
 
 #[test]
-fn one_byte_too_long(rt: HostRuntime) -> Result<(), Fail> {
-    let input = vec![in rt.alloc(); b'\n'; (1 << 24) + 1]?;
-    let found = answer(rt.alloc(), &["sim"], input.as_slice())?;
-    assert_eq!(rt; found.status, Status::Refused);
-    assert_eq!(rt; found.text.as_slice(), b"refused 0 TooLong\n".as_slice());
+fn longest_inputs(rt: HostRuntime) -> Result<(), Fail> {
+    let cases: [(&[&str], usize, &[u8]); 4] = [
+        (&["sim"], (1 << 24) + 1, b"refused 0 TooLong\n"),
+        (&["config", "0"], (1 << 24) + 1, b"refused 0 TooLong\n"),
+        (&["dump"], (1 << 24) + 33, b"refused 0 TooLong\n"),
+        (&["dump"], (1 << 24) + 32, b"refused 0 BadHeader\n"),
+    ];
+    for (words, len, line) in cases {
+        let input = vec![in rt.alloc(); b'\n'; len]?;
+        let found = answer(rt.alloc(), words, input.as_slice())?;
+        assert_eq!(rt; found.status, Status::Refused, "{words:?}");
+        assert_eq!(rt; found.text.as_slice(), line, "{words:?}");
+    }
+    Ok(())
+}
+
+/// The words that aren't 0 in the image of a region whose peer 0 has published one frame, which peer 1 hasn't taken.
+const ONE_FRAME: [(usize, u32); 14] = [
+    (0, 0x4853_5649),
+    (1, 0x474d_494d),
+    (2, 2),
+    (3, 4_096),
+    (6, 16_384),
+    (8, 3),
+    (9, 3),
+    (1_032, 1_792),
+    (1_034, 14),
+    (1_288, 65_536),
+    (1_480, 4_294_967_295),
+    (1_481, 196_607),
+    (1_482, 16_777_216),
+    (1_483, 8),
+];
+
+/// That image, of this many bytes and with this many peers.
+fn one_frame(alloc: Global, peers: u8, len: usize) -> Result<Vec<u8>, AllocError> {
+    let mut image = vec![in alloc; 0u8; len]?;
+    for (word, value) in ONE_FRAME {
+        if 4 * word + 4 <= len {
+            image[4 * word..4 * word + 4].copy_from_slice(&value.to_le_bytes());
+        }
+    }
+    if len > 8 {
+        image[8] = peers;
+    }
+    Ok(image)
+}
+
+#[test]
+fn dump(rt: HostRuntime) -> Result<(), Fail> {
+    let listing =
+        "peers 2\ntable 4096\ncommon 0\nout 16384\nqueue 64 1792 14592\nstate 0 3\nstate 1 3\n\
+        section 0 1 0\nframe 0 0 1792 14 ffffffffffff0200000000010800\nsection 1 0 0\nend\n";
+    let cases = [
+        (2, 36_896, Status::Done, listing),
+        (2, 31, Status::Refused, "refused 0 BadHeader\n"),
+        (1, 36_896, Status::Refused, "refused 0 BadGeometry\n"),
+        (
+            2,
+            36_895,
+            Status::Refused,
+            "refused 0 ShortImage 36896 36895\n",
+        ),
+        (
+            2,
+            36_897,
+            Status::Refused,
+            "refused 0 LongImage 36896 36897\n",
+        ),
+    ];
+    for (peers, len, status, text) in cases {
+        let image = one_frame(rt.alloc(), peers, len)?;
+        let found = answer(rt.alloc(), &["dump"], image.as_slice())?;
+        assert_eq!(rt; found.status, status, "{text:?}");
+        assert_eq!(rt; found.text.as_slice(), text.as_bytes());
+    }
+    Ok(())
+}
+
+/// A scenario with this wiring and these acts.
+fn wired(alloc: Global, irq: &str, acts: &str) -> Result<String, AllocError> {
+    format!(in alloc;
+        "ivshm 1\npeers 2\ntable 4096\ncommon 0\nout 16384\nmtu 256\nirq {irq}\npeer 0 honest\npeer 1 hostile\nbegin\n{acts}end\n"
+    )
+}
+
+#[test]
+fn configuration(rt: HostRuntime) -> Result<(), Fail> {
+    let alloc = rt.alloc();
+    let zeros = "00000000000000000000000000000000";
+    let cases = [
+        (
+            "msix 2",
+            "00000000400000000000000000000000",
+            "09602000001000000000000000000000",
+            "11000100010000000108000000000000",
+        ),
+        (
+            "intx",
+            "00000000400000000000000000010000",
+            "09002000001000000000000000000000",
+            zeros,
+        ),
+    ];
+    for (irq, header, vendor, msix) in cases {
+        let scenario = wired(alloc, irq, "cfg 1 w 4 2 6\n")?;
+        let mut text = format!(in alloc;
+            "00 0a11064100001000000100ff00000000\n10 {zeros}\n20 {zeros}\n30 {header}\n40 {vendor}\n50 00400000000000000000000001000000\n60 {msix}\n"
+        )?;
+        for place in ["70", "80", "90", "a0", "b0", "c0", "d0", "e0", "f0"] {
+            write!(text, "{place} {zeros}\n")?;
+        }
+        let found = answer(alloc, &["config", "1"], scenario.as_bytes())?;
+        assert_eq!(rt; found.status, Status::Done);
+        assert_eq!(rt; found.text.as_slice(), text.as_bytes());
+    }
+    Ok(())
+}
+
+#[test]
+fn configuration_of_no_peer(rt: HostRuntime) -> Result<(), Fail> {
+    let cases = [
+        ("", "refused 0 BadPeer\n"),
+        ("turn 0 07\n", "refused 11 BadNumber\n"),
+    ];
+    for (acts, line) in cases {
+        let scenario = wired(rt.alloc(), "msix 2", acts)?;
+        let found = answer(rt.alloc(), &["config", "2"], scenario.as_bytes())?;
+        assert_eq!(rt; found.status, Status::Refused);
+        assert_eq!(rt; found.text.as_slice(), line.as_bytes());
+    }
     Ok(())
 }
 

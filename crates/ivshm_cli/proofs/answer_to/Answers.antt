@@ -14,6 +14,12 @@ pub returns-in-None-clause-write_fault : goal.returns-in-None-clause-write_fault
 returns-in-None-clause-write_fault g c fault =
     (c.deliver.ensures.fault fault, broken_off _ _ (sym c.read_form.ensures ∙ c.in-None.is) _ _ _ _ _ _ _ (refl, refl) (refl, refl) (c.deliver.ensures.part fault))
 
+pub returns-in-Err-TooLong-clause-answer : goal.returns-in-Err-TooLong-clause-answer
+returns-in-Err-TooLong-clause-answer g c answer =
+    let long = c.in-Err-TooLong.ensures.too_long (search rules) in
+    delivered _ _ (sym c.read_form.ensures ∙ c.in-Some.is) _ _ _ _ Refused _ long.0 _ long.1 (due_too_long c.in-Some.form long.0 long.2)
+    c.deliver-in-Err-TooLong.ensures.cases c.deliver-in-Err-TooLong.ensures.whole answer
+
 pub returns-in-Err-TooLong-clause-write_fault : goal.returns-in-Err-TooLong-clause-write_fault
 returns-in-Err-TooLong-clause-write_fault g c fault =
     let long = c.in-Err-TooLong.ensures.too_long (search rules) in (

@@ -1,4 +1,4 @@
-use Rattle.ivshm_cli.proofs.Complete.{usage, only_usage, complete, done, read_spelled}
+use Rattle.ivshm_cli.proofs.Complete.{usage, only_usage, complete, done}
 use Rattle.ivshm_cli.proofs.ivshm.Goals as goal
 
 pub returns-clause-usage : goal.returns-clause-usage
@@ -14,7 +14,7 @@ returns-clause-complete g c all told no_read no_write =
     (λ e. no_read (c.answer_to.ensures.read_fault e).0) (λ e. no_write (c.answer_to.ensures.write_fault e).0) (λ e. (c.answer_to.ensures.no_memory e).0)
 
 pub returns-clause-done : goal.returns-clause-done
-returns-clause-done g c is all told short world spelled built no_read no_write =
-    done _ all (g.K.Sink.output c.args.sink.now) (g.K.Sink.output c.answer_to.new.sink) world _ is short (read_spelled world all spelled c.printed_is_read_again.ensures) built
+returns-clause-done g c form is all told short accepted no_read no_write =
+    done _ form all (g.K.Sink.output c.args.sink.now) (g.K.Sink.output c.answer_to.new.sink) _ is c.printed_is_read_again.ensures c.faults_are_exact.ensures.no_image short accepted
     (complete _ _ _ _ _ _ c.answer_to.ensures.answer all told
     (λ e. no_read (c.answer_to.ensures.read_fault e).0) (λ e. no_write (c.answer_to.ensures.write_fault e).0) (λ e. (c.answer_to.ensures.no_memory e).0))

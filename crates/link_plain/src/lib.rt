@@ -1,0 +1,13 @@
+//! The plain program of the link: slow functions that compute the next step of a call, and whether a list of steps is a call, by
+//! going from place to place. It stands on the definitions of `link_laws`, of which it shares no code with an engine.
+//! Its contracts promise an answer of yes exactly where the definition holds.
+#![tactic(auto)]
+
+mod ends;
+mod marks;
+mod places;
+mod steps;
+mod words;
+
+pub use ends::{Call, End, Store, Who};
+pub use steps::{Access, Mark, Step};

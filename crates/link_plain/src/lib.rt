@@ -3,11 +3,13 @@
 //! Its contracts promise an answer of yes exactly where the definition holds.
 #![tactic(auto)]
 
+mod calls;
 mod ends;
 mod marks;
 mod places;
 mod steps;
 mod words;
 
+pub use calls::{is_call, next_step};
 pub use ends::{Call, End, Store, Who};
 pub use steps::{Access, Mark, Step};

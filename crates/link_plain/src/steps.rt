@@ -1,4 +1,6 @@
 //! A step of a call: its access, the value that a read gave, and its marks.
+ghost use Rattle.std.specs.Prelude.{◌≡◌, ◌↔◌, IsTrue};
+
 use ivs_base::Frame;
 use split_ring::Refused;
 
@@ -18,7 +20,7 @@ pub enum Access {
 }
 
 /// What is marked on a step.
-#[derive(Debug, Drop, PartialEq, Eq)]
+#[derive(Debug, Drop)]
 pub enum Mark {
     /// The other's state, as a Tick read it.
     Saw(u32),
@@ -50,4 +52,58 @@ pub struct Step {
     pub access: Access,
     pub value: u32,
     pub marks: Vec<Mark>,
+}
+
+impl Mark {
+    /// Is it the same mark?
+    pub fn is(&self, other: &Mark) -> bool
+        ensures { IsTrue result ↔ self.now ≡ other.now }
+    {
+        match self {
+            Mark::Saw(mine) => match other {
+                Mark::Saw(theirs) => mine == theirs,
+                _ => false,
+            },
+            Mark::Reclaim(mine) => match other {
+                Mark::Reclaim(theirs) => mine == theirs,
+                _ => false,
+            },
+            Mark::Look(mine) => match other {
+                Mark::Look(theirs) => mine == theirs,
+                _ => false,
+            },
+            Mark::Accept(mine) => match other {
+                Mark::Accept(theirs) => mine == theirs,
+                _ => false,
+            },
+            Mark::Deliver(mine) => match other {
+                Mark::Deliver(theirs) => mine == theirs,
+                _ => false,
+            },
+            Mark::Full => matches!(other, Mark::Full),
+            Mark::Return => matches!(other, Mark::Return),
+            Mark::Done => matches!(other, Mark::Done),
+            Mark::Down => matches!(other, Mark::Down),
+            Mark::Over => matches!(other, Mark::Over),
+            Mark::Refuse(mine) => match other {
+                Mark::Refuse(theirs) => mine.field == theirs.field && mine.value == theirs.value,
+                _ => false,
+            },
+        }
+    }
+}
+
+/// Are these the same marks in the same order?
+pub fn same_marks(marks: &[Mark], others: &[Mark]) -> bool
+    ensures { IsTrue result ↔ marks.now ≡ others.now }
+{
+    if marks.len() != others.len() {
+        return false;
+    }
+    for i in 0..marks.len() {
+        if !marks[i].is(&others[i]) {
+            return false;
+        }
+    }
+    true
 }

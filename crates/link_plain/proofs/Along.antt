@@ -3,7 +3,7 @@ use Rattle.std.proofs.Common.{rules, ◌≡◌, ℕ, Bool, true, false, List, []
 use Rattle.link_laws.specs.Steps.{Step, value_given}
 use Rattle.link_laws.specs.Trees.{CallTree, Goes, GoesAlong}
 use Rattle.link_laws.specs.Ticks.{Who}
-use Rattle.std.specs.Prelude.{IsTrue, not, Option, Some, None}
+use Rattle.std.specs.Prelude.{IsTrue, not, Some, None}
 use Rattle.split_ring.specs.declared.steps.Access as ring
 use Rattle.link_laws.specs.Ends.{End}
 use Rattle.link_laws.specs.Calls.{Call, tree_of}

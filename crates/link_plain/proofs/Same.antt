@@ -1,5 +1,5 @@
 -- Accesses and marks that are seen alike are the same.
-use Rattle.std.proofs.Common.{◌≡◌, ℕ, Bool, true, IsTrue, List, [], ◌∷◌, refl, sym, ap, ◌∙◌}
+use Rattle.std.proofs.Common.{◌≡◌, Bool, IsTrue, List, [], ◌∷◌, refl, sym, ap, ◌∙◌}
 use Rattle.split_ring.specs.declared.steps.Access as ring
 use Rattle.split_ring.specs.declared.steps.Access.TheVariants as access
 use Rattle.link_laws.specs.Steps as laws

@@ -5,8 +5,7 @@ use Rattle.link_laws.specs.Trees.{CallTree, GoesAlong}
 use Rattle.link_laws.specs.Ends.{End}
 use Rattle.link_laws.specs.Ticks.{Who}
 use Rattle.link_laws.specs.Calls.{Call, tree_of}
-use Rattle.link_laws.specs.Places.{Place, Closed, remaining, first_place, next_place, step_at, is_open}
-use Rattle.worked_calls.specs.Plays.{IsPlayed}
+use Rattle.link_laws.specs.Places.{Place, next_place, step_at, is_open}
 use Rattle.link_plain.specs.declared.places.Begun.{Begun}
 use Rattle.link_plain.specs.declared.places.Place as plain
 use Rattle.link_plain.specs.declared.steps.Step as plain_step

@@ -34,7 +34,13 @@ fn given(access: Access, value: u32) -> u32
 }
 
 /// Is this the step at the place, for the value that it met?
-fn is_step_at(alloc: Global, who: &Who, begun: &Begun, place: &Place, step: &Step) -> Result<bool, NoMemory>
+fn is_step_at(
+    alloc: Global,
+    who: &Who,
+    begun: &Begun,
+    place: &Place,
+    step: &Step,
+) -> Result<bool, NoMemory>
     requires { IsSmall place.now }
     ensures { IfOk result (λ yes. IsTrue yes ↔ ((is_open (place_seen begun.now place.now) ≡ true)
         × (step_seen step.now ≡ step_at (who_seen who.now) (place_seen begun.now place.now) step.now.value))) }
@@ -51,7 +57,13 @@ fn is_step_at(alloc: Global, who: &Who, begun: &Begun, place: &Place, step: &Ste
 }
 
 /// The place behind these steps, where each is the step at its place; else None.
-fn place_behind(alloc: Global, who: &Who, begun: &Begun, first: Place, steps: &[Step]) -> Result<Option<Place>, NoMemory>
+fn place_behind(
+    alloc: Global,
+    who: &Who,
+    begun: &Begun,
+    first: Place,
+    steps: &[Step],
+) -> Result<Option<Place>, NoMemory>
     requires { IsSmall first }
     ensures { IfOk result (IsBehind (who_seen who.now) begun.now (place_seen begun.now first) (steps_seen steps.now)) }
 {
@@ -66,7 +78,13 @@ fn place_behind(alloc: Global, who: &Who, begun: &Begun, first: Place, steps: &[
 }
 
 /// Are these steps a call that the end makes, from its first step to its last? NoMemory comes only where memory ran out.
-pub fn is_call(alloc: Global, who: &Who, end: &End, call: &Call, steps: &[Step]) -> Result<bool, NoMemory>
+pub fn is_call(
+    alloc: Global,
+    who: &Who,
+    end: &End,
+    call: &Call,
+    steps: &[Step],
+) -> Result<bool, NoMemory>
     ensures { IfOk result (λ yes. (seen : ends.End) → IsSeenAs end.now seen → (IsTrue yes ↔ IsCall (who_seen who.now) seen (call_seen call.now) (steps_seen steps.now))) }
 {
     played_are_calls();
@@ -81,7 +99,14 @@ pub fn is_call(alloc: Global, who: &Who, end: &End, call: &Call, steps: &[Step])
 
 /// The step with which the call goes on behind these steps, where a read gives this value; None where the call is over, or these
 /// steps don't begin it. NoMemory comes only where memory ran out.
-pub fn next_step(alloc: Global, who: &Who, end: &End, call: &Call, steps: &[Step], value: u32) -> Result<Option<Step>, NoMemory>
+pub fn next_step(
+    alloc: Global,
+    who: &Who,
+    end: &End,
+    call: &Call,
+    steps: &[Step],
+    value: u32,
+) -> Result<Option<Step>, NoMemory>
     ensures { IfOk result (λ next. (seen : ends.End) → IsSeenAs end.now seen → IsNext (who_seen who.now) seen (call_seen call.now) (steps_seen steps.now) value next) }
 {
     let begun = begin(alloc, who, end, call)?;

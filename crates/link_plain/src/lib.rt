@@ -1,5 +1,5 @@
 //! The plain program of the link: slow functions that compute the next step of a call, and whether a list of steps is a call, by
-//! going from place to place. It stands on the definitions of `link_laws`, of which it shares no code with an engine.
+//! going from place to place. It stands on the definitions of `link_laws`, and shares no code with an engine.
 //! Its contracts promise an answer of yes exactly where the definition holds.
 #![tactic(auto)]
 
@@ -13,3 +13,6 @@ mod words;
 pub use calls::{is_call, next_step};
 pub use ends::{Call, End, Store, Who};
 pub use steps::{Access, Mark, Step};
+
+#[cfg(test)]
+mod tests;

@@ -66,7 +66,12 @@ fn is_full(who: &Who, begun: &Begun, freed: u64) -> bool
 }
 
 /// The marks of an offer's read of the used index.
-fn used_index_marks(alloc: Global, who: &Who, begun: &Begun, value: u32) -> Result<Vec<Mark>, NoMemory>
+fn used_index_marks(
+    alloc: Global,
+    who: &Who,
+    begun: &Begun,
+    value: u32,
+) -> Result<Vec<Mark>, NoMemory>
     ensures { IfOk result (λ marks. marks_seen marks.items ≡ marks_at (who_seen who.now) (place_seen begun.now Place.AtUsedIndex) value) }
 {
     let freed = u64::from(begun.freed);
@@ -83,7 +88,12 @@ fn used_index_marks(alloc: Global, who: &Who, begun: &Begun, value: u32) -> Resu
 }
 
 /// The marks of a poll's read of the available index.
-fn available_index_marks(alloc: Global, who: &Who, begun: &Begun, value: u32) -> Result<Vec<Mark>, NoMemory>
+fn available_index_marks(
+    alloc: Global,
+    who: &Who,
+    begun: &Begun,
+    value: u32,
+) -> Result<Vec<Mark>, NoMemory>
     ensures { IfOk result (λ marks. marks_seen marks.items ≡ marks_at (who_seen who.now) (place_seen begun.now Place.AtAvailIndex) value) }
 {
     let found = published_by(u64::from(begun.taken), value);
@@ -97,7 +107,13 @@ fn available_index_marks(alloc: Global, who: &Who, begun: &Begun, value: u32) ->
 }
 
 /// The marks of the read of a frame's word, with so many words behind it.
-fn word_marks(alloc: Global, bytes: u32, read: &[u32], value: u32, words: u64) -> Result<Vec<Mark>, NoMemory>
+fn word_marks(
+    alloc: Global,
+    bytes: u32,
+    read: &[u32],
+    value: u32,
+    words: u64,
+) -> Result<Vec<Mark>, NoMemory>
     ensures { IfOk result (λ marks. marks_seen marks.items ≡ (if words == 0 then Deliver (frame_in bytes (read.now ++ value ∷ [])) ∷ [] else [])) }
 {
     if words > 0 {
@@ -114,7 +130,13 @@ fn word_marks(alloc: Global, bytes: u32, read: &[u32], value: u32, words: u64) -
 }
 
 /// The marks of the step at a place, where its read gave this value.
-pub fn marks_at(alloc: Global, who: &Who, begun: &Begun, place: &Place, value: u32) -> Result<Vec<Mark>, NoMemory>
+pub fn marks_at(
+    alloc: Global,
+    who: &Who,
+    begun: &Begun,
+    place: &Place,
+    value: u32,
+) -> Result<Vec<Mark>, NoMemory>
     requires { IsSmall place.now }
     ensures { IfOk result (λ marks. marks_seen marks.items ≡ marks_at (who_seen who.now) (place_seen begun.now place.now) value) }
 {
@@ -168,7 +190,12 @@ pub fn marks_at(alloc: Global, who: &Who, begun: &Begun, place: &Place, value: u
                 refuse(alloc, FieldName::DescFlags, u64::from(flags))
             }
         }
-        Place::AtWord { bytes, read, words, .. } => word_marks(alloc, *bytes, read.as_slice(), value, *words),
+        Place::AtWord {
+            bytes,
+            read,
+            words,
+            ..
+        } => word_marks(alloc, *bytes, read.as_slice(), value, *words),
         Place::GivingIndex { .. } => only(alloc, Mark::Return),
         Place::RingingPoll => only(alloc, Mark::Done),
         Place::Closed

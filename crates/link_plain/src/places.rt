@@ -34,13 +34,25 @@ pub struct Begun {
 pub enum Place {
     Closed,
     AtState,
-    Clearing { at: u64, more: u64, state: u32 },
-    Setting { state: u32 },
+    Clearing {
+        at: u64,
+        more: u64,
+        state: u32,
+    },
+    Setting {
+        state: u32,
+    },
     Refusing,
     Downed,
     AtUsedIndex,
-    AtUsedId { freed: u64, more: u64 },
-    Filling { at: u64, more: u64 },
+    AtUsedId {
+        freed: u64,
+        more: u64,
+    },
+    Filling {
+        at: u64,
+        more: u64,
+    },
     WritingLow,
     WritingHigh,
     WritingLength,
@@ -49,15 +61,56 @@ pub enum Place {
     WritingIndex,
     RingingOffer,
     AtAvailIndex,
-    AtEntry { number: u64, more: u64 },
-    AtLow { number: u64, more: u64, entry: u32 },
-    AtHigh { number: u64, more: u64, entry: u32, low: u32 },
-    AtLength { number: u64, more: u64, entry: u32, address: u64 },
-    AtFlags { number: u64, more: u64, entry: u32, address: u64, bytes: u32 },
-    AtWord { number: u64, more: u64, entry: u32, address: u64, bytes: u32, read: Vec<u32>, words: u64 },
-    GivingId { number: u64, more: u64, entry: u32 },
-    GivingLength { number: u64, more: u64 },
-    GivingIndex { number: u64, more: u64 },
+    AtEntry {
+        number: u64,
+        more: u64,
+    },
+    AtLow {
+        number: u64,
+        more: u64,
+        entry: u32,
+    },
+    AtHigh {
+        number: u64,
+        more: u64,
+        entry: u32,
+        low: u32,
+    },
+    AtLength {
+        number: u64,
+        more: u64,
+        entry: u32,
+        address: u64,
+    },
+    AtFlags {
+        number: u64,
+        more: u64,
+        entry: u32,
+        address: u64,
+        bytes: u32,
+    },
+    AtWord {
+        number: u64,
+        more: u64,
+        entry: u32,
+        address: u64,
+        bytes: u32,
+        read: Vec<u32>,
+        words: u64,
+    },
+    GivingId {
+        number: u64,
+        more: u64,
+        entry: u32,
+    },
+    GivingLength {
+        number: u64,
+        more: u64,
+    },
+    GivingIndex {
+        number: u64,
+        more: u64,
+    },
     RingingPoll,
 }
 
@@ -77,34 +130,61 @@ pub fn access_at(who: &Who, begun: &Begun, place: &Place) -> Access
         Place::Setting { state } => Access::State(*state),
         Place::Refusing => Access::State(0),
         Place::AtUsedIndex => Access::Read(theirs + used_word(queue)),
-        Place::AtUsedId { freed, .. } => Access::Read(theirs + id_word(queue, entry_of(who, *freed))),
+        Place::AtUsedId { freed, .. } => Access::Read(
+            theirs + id_word(queue, entry_of(who, *freed)),
+        ),
         Place::Filling { at, .. } => {
             let slot = slot_start(queue, descriptor_of(who, number)) / 4;
-            Access::Write(own + slot + *at, u64::from(frame_word(begun.frame.as_slice(), *at)))
+            Access::Write(
+                own + slot + *at,
+                u64::from(frame_word(begun.frame.as_slice(), *at)),
+            )
         }
         Place::WritingLow => {
             let i = descriptor_of(who, number);
             Access::Write(own + address_word(i), slot_start(queue, i))
         }
         Place::WritingHigh => Access::Write(own + address_word(descriptor_of(who, number)) + 1, 0),
-        Place::WritingLength => Access::Write(own + length_word(descriptor_of(who, number)), begun.frame.len() as u64),
+        Place::WritingLength => Access::Write(
+            own + length_word(descriptor_of(who, number)),
+            begun.frame.len() as u64,
+        ),
         Place::WritingFlags => Access::Write(own + flags_word(descriptor_of(who, number)), 0),
         Place::WritingEntry => {
             let k = entry_of(who, number);
-            Access::Write(own + entry_word(queue, k), with_entry(k, begun.beside, descriptor_of(who, number)))
+            Access::Write(
+                own + entry_word(queue, k),
+                with_entry(k, begun.beside, descriptor_of(who, number)),
+            )
         }
         Place::WritingIndex => Access::Write(own + available_word(queue), index_word(number + 1)),
-        Place::RingingOffer | Place::RingingPoll => Access::Ring { target: who.other, vector: who.vector },
+        Place::RingingOffer | Place::RingingPoll => Access::Ring {
+            target: who.other,
+            vector: who.vector,
+        },
         Place::AtAvailIndex => Access::Read(theirs + available_word(queue)),
-        Place::AtEntry { number, .. } => Access::Read(theirs + entry_word(queue, entry_of(who, *number))),
+        Place::AtEntry { number, .. } => Access::Read(
+            theirs + entry_word(queue, entry_of(who, *number)),
+        ),
         Place::AtLow { entry, .. } => Access::Read(theirs + address_word(*entry)),
         Place::AtHigh { entry, .. } => Access::Read(theirs + address_word(*entry) + 1),
         Place::AtLength { entry, .. } => Access::Read(theirs + length_word(*entry)),
         Place::AtFlags { entry, .. } => Access::Read(theirs + flags_word(*entry)),
-        Place::AtWord { address, read, .. } => Access::Read(theirs + (*address / 4 + read.len() as u64)),
-        Place::GivingId { number, entry, .. } => Access::Write(own + id_word(queue, entry_of(who, *number)), u64::from(*entry)),
-        Place::GivingLength { number, .. } => Access::Write(own + amount_word(queue, entry_of(who, *number)), 1),
-        Place::GivingIndex { number, .. } => Access::Write(own + used_word(queue), index_word(*number + 1)),
+        Place::AtWord { address, read, .. } => Access::Read(
+            theirs + (*address / 4 + read.len() as u64),
+        ),
+        Place::GivingId { number, entry, .. } => Access::Write(
+            own + id_word(queue, entry_of(who, *number)),
+            u64::from(*entry),
+        ),
+        Place::GivingLength { number, .. } => Access::Write(
+            own + amount_word(queue, entry_of(who, *number)),
+            1,
+        ),
+        Place::GivingIndex { number, .. } => Access::Write(
+            own + used_word(queue),
+            index_word(*number + 1),
+        ),
     }
 }
 
@@ -117,7 +197,11 @@ fn clear_place(at: u64, count: u64, state: u32) -> Place
     if count == 0 {
         Place::Setting { state }
     } else {
-        Place::Clearing { at, more: count - 1, state }
+        Place::Clearing {
+            at,
+            more: count - 1,
+            state,
+        }
     }
 }
 
@@ -142,7 +226,10 @@ fn fill_place(at: u64, count: u64) -> Place
     if count == 0 {
         Place::WritingLow
     } else {
-        Place::Filling { at, more: count - 1 }
+        Place::Filling {
+            at,
+            more: count - 1,
+        }
     }
 }
 
@@ -153,7 +240,10 @@ fn ids_place(who: &Who, begun: &Begun, freed: u64, count: u64) -> Place
     ensures small { IsSmall result }
 {
     if count > 0 {
-        Place::AtUsedId { freed, more: count - 1 }
+        Place::AtUsedId {
+            freed,
+            more: count - 1,
+        }
     } else if u64::from(begun.number) == freed + u64::from(who.queue.limit()) {
         Place::Closed
     } else {
@@ -170,31 +260,65 @@ fn items_place(number: u64, count: u64) -> Place
     if count == 0 {
         Place::RingingPoll
     } else {
-        Place::AtEntry { number, more: count - 1 }
+        Place::AtEntry {
+            number,
+            more: count - 1,
+        }
     }
 }
 
 /// The place of the words that are left to read.
-fn words_place(number: u64, more: u64, entry: u32, address: u64, bytes: u32, read: Vec<u32>, words: u64) -> Place
+fn words_place(
+    number: u64,
+    more: u64,
+    entry: u32,
+    address: u64,
+    bytes: u32,
+    read: Vec<u32>,
+    words: u64,
+) -> Place
     requires { number + more + 1 < 2 ^ 33 }
     ensures place { (begun : Begun) → place_seen begun result ≡ words_place number more entry address bytes read.items words }
     ensures small { IsSmall result }
 {
     if words == 0 {
-        Place::GivingId { number, more, entry }
+        Place::GivingId {
+            number,
+            more,
+            entry,
+        }
     } else {
-        Place::AtWord { number, more, entry, address, bytes, read, words: words - 1 }
+        Place::AtWord {
+            number,
+            more,
+            entry,
+            address,
+            bytes,
+            read,
+            words: words - 1,
+        }
     }
 }
 
 /// The place behind the step at this one, where its read gave this value.
-pub fn next_place(alloc: Global, who: &Who, begun: &Begun, place: Place, value: u32) -> Result<Place, NoMemory>
+pub fn next_place(
+    alloc: Global,
+    who: &Who,
+    begun: &Begun,
+    place: Place,
+    value: u32,
+) -> Result<Place, NoMemory>
     requires { IsSmall place }
     ensures place { IfOk result (λ next. place_seen begun.now next ≡ next_place (who_seen who.now) (place_seen begun.now place) value) }
     ensures small { IfOk result (λ next. IsSmall next) }
 {
     let next = match place {
-        Place::Closed | Place::Setting { .. } | Place::Refusing | Place::Downed | Place::RingingOffer | Place::RingingPoll => Place::Closed,
+        Place::Closed
+        | Place::Setting { .. }
+        | Place::Refusing
+        | Place::Downed
+        | Place::RingingOffer
+        | Place::RingingPoll => Place::Closed,
         Place::AtState => tick_place(who, begun.handshake.saw(value)),
         Place::Clearing { at, more, state } => clear_place(at + 1, more, state),
         Place::AtUsedIndex => behind_used_index(who, begun, value),
@@ -216,35 +340,91 @@ pub fn next_place(alloc: Global, who: &Who, begun: &Begun, place: Place, value: 
         Place::AtEntry { number, more } => {
             let entry = entry_half(entry_of(who, number), value);
             if is_entry(who, entry) {
-                Place::AtLow { number, more, entry }
+                Place::AtLow {
+                    number,
+                    more,
+                    entry,
+                }
             } else {
                 Place::Refusing
             }
         }
-        Place::AtLow { number, more, entry } => Place::AtHigh { number, more, entry, low: value },
-        Place::AtHigh { number, more, entry, low } => {
+        Place::AtLow {
+            number,
+            more,
+            entry,
+        } => Place::AtHigh {
+            number,
+            more,
+            entry,
+            low: value,
+        },
+        Place::AtHigh {
+            number,
+            more,
+            entry,
+            low,
+        } => {
             let address = address_of(low, value);
             if is_address(who, address) {
-                Place::AtLength { number, more, entry, address }
+                Place::AtLength {
+                    number,
+                    more,
+                    entry,
+                    address,
+                }
             } else {
                 Place::Refusing
             }
         }
-        Place::AtLength { number, more, entry, address } => {
+        Place::AtLength {
+            number,
+            more,
+            entry,
+            address,
+        } => {
             if is_length(who, address, value) {
-                Place::AtFlags { number, more, entry, address, bytes: value }
+                Place::AtFlags {
+                    number,
+                    more,
+                    entry,
+                    address,
+                    bytes: value,
+                }
             } else {
                 Place::Refusing
             }
         }
-        Place::AtFlags { number, more, entry, address, bytes } => {
+        Place::AtFlags {
+            number,
+            more,
+            entry,
+            address,
+            bytes,
+        } => {
             if value % 65_536 == 0 {
-                words_place(number, more, entry, address, bytes, Vec::new(alloc), words_for(u64::from(bytes)))
+                words_place(
+                    number,
+                    more,
+                    entry,
+                    address,
+                    bytes,
+                    Vec::new(alloc),
+                    words_for(u64::from(bytes)),
+                )
             } else {
                 Place::Refusing
             }
         }
-        Place::AtWord { number, more, entry, address, bytes, mut read, words } => {
+        Place::AtWord {
+            number,
+            more,
+            entry,
+            address,
+            bytes,
+            mut read,
+            words,
+        } => {
             if read.push(value).is_err() {
                 return Err(NoMemory);
             }
@@ -299,7 +479,8 @@ pub fn is_address(who: &Who, address: u64) -> bool
     ensures value { result ≡ is_address who.now.queue address }
     ensures small { result ≡ true → address < 2 ^ 32 }
 {
-    address % 4 == 0 && (u64::from(who.queue.payload()) <= address && address < u64::from(who.queue.out()))
+    address % 4 == 0
+        && (u64::from(who.queue.payload()) <= address && address < u64::from(who.queue.out()))
 }
 
 /// Can a frame at this address have this length?
@@ -341,7 +522,15 @@ pub fn first_place(begun: &Begun, call: &Call) -> Place
     match call {
         Call::Tick => Place::AtState,
         Call::Stop => Place::Setting { state: 0 },
-        Call::Offer(_) => if runs { Place::AtUsedIndex } else { Place::Downed },
-        Call::Poll => if runs { Place::AtAvailIndex } else { Place::Downed },
+        Call::Offer(_) => if runs {
+            Place::AtUsedIndex
+        } else {
+            Place::Downed
+        },
+        Call::Poll => if runs {
+            Place::AtAvailIndex
+        } else {
+            Place::Downed
+        },
     }
 }

@@ -1,6 +1,6 @@
-use Rattle.std.proofs.Common.{rules, ◌≡◌, true, false, ◌∙◌, sym}
+use Rattle.std.proofs.Common.{rules, ◌≡◌}
 use Rattle.std.specs.Cmp.Rules.{comparing}
-use Rattle.link_laws.specs.Places.{access_at, marks_at, is_open}
+use Rattle.link_laws.specs.Places.{access_at, marks_at}
 use Rattle.link_laws.specs.Steps.{value_given}
 use Rattle.link_plain.specs.Seen.{who_seen, access_seen}
 use Rattle.link_plain.specs.Standing.{place_seen}

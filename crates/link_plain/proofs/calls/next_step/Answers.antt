@@ -1,4 +1,4 @@
-use Rattle.std.proofs.Common.{rules, ◌≡◌, true, false, subst, sym}
+use Rattle.std.proofs.Common.{rules, ◌≡◌, true, false, subst}
 use Rattle.std.specs.Prelude.{Option}
 use Rattle.link_laws.specs.Places.{is_open}
 use Rattle.link_plain.specs.declared.places.Place as plain

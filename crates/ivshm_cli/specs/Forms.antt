@@ -125,7 +125,7 @@ text_line_of fault = codes "refused " ++ decimal (place_of fault) ++ codes " " +
 abbrev pub length_line_of : List ℕ → (need found : ℕ) → List ℕ
 length_line_of name need found = codes "refused 0 " ++ name ++ codes " " ++ decimal need ++ codes " " ++ decimal found ++ codes "\n"
 
--- the line that says why bytes are no image (profile)
+-- the line that says why bytes are no image; no bytes have the fault NoMemory (profile)
 abbrev pub image_line_of : DumpFault → List ℕ
 image_line_of dumps.BadHeader = codes "refused 0 BadHeader\n"
 image_line_of (dumps.Geometry fault) = codes "refused 0 BadGeometry\n"

@@ -88,10 +88,7 @@ fn simulated(alloc: Global, bytes: &[u8]) -> Result<Vec<u8>, Failure>
     ensures record { IfOk result (λ text. IsRecordOf bytes.now text.items) }
     ensures refused { (fault : Fault) → IsErrOf result (Failure.Refused fault) → IsTextVerdict Form.Sim bytes.now (Some fault) }
 {
-    let scenario = match scenario_in(alloc, bytes) {
-        Ok(scenario) => scenario,
-        Err(failure) => return Err(failure),
-    };
+    let scenario = scenario_in(alloc, bytes)?;
     if !are_built(scenario.acts.items()) {
         return Err(Failure::Refused(Fault::Unbuilt));
     }
@@ -124,10 +121,7 @@ fn configured(alloc: Global, peer: u32, bytes: &[u8]) -> Result<Vec<u8>, Failure
     ensures configuration { IfOk result (λ text. IsConfigurationOf bytes.now text.items) }
     ensures refused { (fault : Fault) → IsErrOf result (Failure.Refused fault) → IsTextVerdict (Form.Config peer) bytes.now (Some fault) }
 {
-    let scenario = match scenario_in(alloc, bytes) {
-        Ok(scenario) => scenario,
-        Err(failure) => return Err(failure),
-    };
+    let scenario = scenario_in(alloc, bytes)?;
     if peer >= scenario.geometry.peers() {
         return Err(Failure::Refused(Fault::BadPeer));
     }

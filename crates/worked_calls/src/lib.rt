@@ -6,6 +6,9 @@ ghost use Rattle.worked_calls.specs.Plays.{PlayedAreCalls};
 ghost use Rattle.worked_calls.specs.Rows.{RowsAreCalls};
 ghost use Rattle.worked_calls.specs.Rows.{ChangedRowsAreNone};
 
+#[cfg(test)]
+mod tests;
+
 /// A list of steps is a call exactly where it is played, step by step, from the call's first place to its end.
 pub fn played_are_calls()
     ensures { PlayedAreCalls }

@@ -1,0 +1,75 @@
+//! A worked history, and the same with each of its lines changed.
+ghost use Rattle.std.specs.Prelude.{IsTrue};
+ghost use Rattle.link_model.specs.Schedule.{IsBuilt};
+
+use super::is_lawful;
+use link_model::Line;
+use scenario_text::{Act, parse};
+use std::alloc::Global;
+use std::process::Abort;
+use std::test::Fail;
+
+/// Two honest peers, of which peer 0 ticks twice.
+const SCENARIO: &[u8] =
+    b"ivshm 1\npeers 2\ntable 4096\ncommon 0\nout 16384\nmtu 256\nirq msix 2\npeer 0 honest\npeer 1 honest\nbegin\ntick 0\nturn 0 2\ntick 0\nturn 0 3\nend\n";
+
+/// Its nine lines, the one with this number changed; 9 changes none.
+fn lines(alloc: Global, changed: u32) -> Result<Vec<Line>, Fail> {
+    let by = |line: u32| u32::from(line == changed);
+    let mut lines = Vec::new(alloc);
+    lines.push(Line::Read {
+        peer: 0,
+        word: 1,
+        value: by(0),
+    })?;
+    lines.push(Line::Saw {
+        peer: 0,
+        value: by(1),
+    })?;
+    lines.push(Line::State {
+        peer: 0,
+        value: 1 + by(2),
+    })?;
+    lines.push(Line::Over { peer: by(3) })?;
+    lines.push(Line::Read {
+        peer: 0,
+        word: 1 + by(4),
+        value: 0,
+    })?;
+    lines.push(Line::Saw {
+        peer: by(5),
+        value: 0,
+    })?;
+    lines.push(Line::Over { peer: by(6) })?;
+    lines.push(Line::Idle { peer: by(7) })?;
+    lines.push(Line::Idle { peer: by(8) })?;
+    Ok(lines)
+}
+
+fn are_built(acts: &[Act]) -> bool
+    ensures { IsTrue result → IsBuilt acts.now }
+{
+    acts.iter().all(|act| matches!(act, Act::Tick { .. } | Act::Stop { .. } | Act::Turn { .. }))
+}
+
+/// The answer for these lines of the scenario.
+fn answer(rt: &impl Abort, alloc: Global, lines: &[Line]) -> Result<bool, Fail> {
+    let scenario = parse(alloc, SCENARIO)?;
+    assert!(rt; are_built(scenario.acts.items()));
+    Ok(is_lawful(alloc, scenario, lines)?)
+}
+
+#[test]
+fn one_peer_alone(rt: HostRuntime) -> Result<(), Fail> {
+    let alloc = rt.alloc();
+    let whole = lines(alloc, 9)?;
+    assert!(rt; answer(&rt, alloc, whole.as_slice())?);
+    assert!(rt; !answer(&rt, alloc, whole.get(..8).unwrap_or(&[]))?);
+    for changed in 0..9 {
+        assert!(rt;
+            !answer(&rt, alloc, lines(alloc, changed)?.as_slice())?,
+            "line {changed}"
+        );
+    }
+    Ok(())
+}

@@ -172,7 +172,7 @@ fn longest_inputs(rt: HostRuntime) -> Result<(), Fail> {
 }
 
 /// The words that aren't 0 in the image of a region whose peer 0 has published one frame, which peer 1 hasn't taken.
-const ONE_FRAME: [(usize, u32); 14] = [
+const ONE_FRAME: [(u16, u32); 14] = [
     (0, 0x4853_5649),
     (1, 0x474d_494d),
     (2, 2),
@@ -193,11 +193,12 @@ const ONE_FRAME: [(usize, u32); 14] = [
 fn one_frame(alloc: Global, peers: u8, len: usize) -> Result<Vec<u8>, AllocError> {
     let mut image = vec![in alloc; 0u8; len]?;
     for (word, value) in ONE_FRAME {
-        if 4 * word + 4 <= len {
-            image[4 * word..4 * word + 4].copy_from_slice(&value.to_le_bytes());
+        let place = 4 * usize::from(word);
+        if place + 4 <= image.len() {
+            image[place..place + 4].copy_from_slice(&value.to_le_bytes());
         }
     }
-    if len > 8 {
+    if image.len() > 8 {
         image[8] = peers;
     }
     Ok(image)

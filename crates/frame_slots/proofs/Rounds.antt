@@ -1,0 +1,86 @@
+-- Descriptors go round modulo the limit, and so do those of the frames in flight.
+use Rattle.std.proofs.Common.{◌≡◌, ◌≢◌, ℕ, ◌+◌, ◌-◌, ◌%◌, ◌<◌, ◌≤◌, ◌⊎◌, arith, inl, inr, ap, sym, ◌∙◌}
+use Rattle.std.proofs.Math.Nat.{mod-eq_of_lt, add-mod_right, mod_self, sub-zero}
+use Rattle.std.proofs.lemmas.Bool.{cases_lt}
+use Rattle.split_ring.specs.Layout.{limit_of}
+use Rattle.frame_slots.specs.Turns.{Turn, IsTurn, IsInFlight, oldest_of, with_placed, with_freed, FlightGoesRound}
+
+-- so many turns before the next of c descriptors
+abbrev back : (next c turns : ℕ) → ℕ
+back next c turns = (next + c - turns) % c
+
+back_near : (next c turns : ℕ) → next < c → turns ≤ next → back next c turns ≡ next - turns
+back_near next c turns in_range near =
+    let shifted : next + c - turns ≡ next - turns + c = omega arith in
+    let small : next - turns < c = omega arith in
+    ap (λ n. n % c) shifted ∙ (add-mod_right (next - turns) c ∙ mod-eq_of_lt small)
+
+back_far : (next c turns : ℕ) → next < turns → turns ≤ c → next < c → back next c turns ≡ next + c - turns
+back_far next c turns far within in_range = mod-eq_of_lt (omega arith)
+
+-- one turn on, each descriptor is one more turn before
+back_on : (next c turns : ℕ) → next < c → turns < c → back ((next + 1) % c) c (turns + 1) ≡ back next c turns
+back_on next c turns in_range within =
+    elim (cases_lt (next + 1) c) [
+      | inl more ↦
+          let same : next + 1 + c - (turns + 1) ≡ next + c - turns = omega arith in
+          ap (λ n. back n c (turns + 1)) (mod-eq_of_lt more) ∙ ap (λ n. n % c) same
+      | inr last ↦
+          let is_last : next + 1 ≡ c = omega arith in
+          let same : c - (turns + 1) ≡ next - turns = omega arith in
+          let begins : (next + 1) % c ≡ 0 = ap (λ n. n % c) is_last ∙ mod_self c in
+          let far : back 0 c (turns + 1) ≡ 0 + c - (turns + 1) = back_far 0 c (turns + 1) (omega arith) (omega arith) (omega arith) in
+          let near = back_near next c turns in_range (omega arith) in
+          ap (λ n. back n c (turns + 1)) begins ∙ (far ∙ (omega (arith, near)))
+    ]
+
+-- descriptors before the next one differ
+back_apart : (next c fewer more : ℕ) → next < c → fewer < more → more ≤ c → 0 < fewer → back next c fewer ≢ back next c more
+back_apart next c fewer more in_range less within some same =
+    elim (cases_lt next fewer) [
+      | inl fewer_far ↦ omega (arith, back_far next c fewer fewer_far (omega arith) in_range, back_far next c more (omega arith) within in_range)
+      | inr fewer_near ↦
+          elim (cases_lt next more) [
+            | inl more_far ↦ omega (arith, back_near next c fewer in_range fewer_near, back_far next c more more_far within in_range)
+            | inr more_near ↦ omega (arith, back_near next c fewer in_range fewer_near, back_near next c more in_range more_near)
+          ]
+    ]
+
+-- the placed descriptor, or one that was in flight
+joins : (t : Turn) (descriptor : ℕ) → IsTurn t → t.in_flight < limit_of t.sizes → IsInFlight (with_placed t) descriptor → IsInFlight t descriptor ⊎ (descriptor ≡ t.next)
+joins t descriptor is room (turns, some, within, same) =
+    let c = limit_of t.sizes in
+    elim (cases_lt 1 turns) [
+      | inl more ↦
+          let one_more : turns ≡ turns - 1 + 1 = omega arith in
+          inl (turns - 1, omega arith, omega arith, same ∙ (ap (back ((t.next + 1) % c) c) one_more ∙ back_on t.next c (turns - 1) is.next (omega arith)))
+      | inr one ↦
+          let just_one : turns ≡ 0 + 1 = omega arith in
+          inr (same ∙ (ap (back ((t.next + 1) % c) c) just_one ∙ (back_on t.next c 0 is.next (omega arith) ∙ (back_near t.next c 0 is.next (omega arith) ∙ sub-zero t.next))))
+    ]
+
+joined : (t : Turn) (descriptor : ℕ) → IsTurn t → t.in_flight < limit_of t.sizes → IsInFlight t descriptor ⊎ (descriptor ≡ t.next) → IsInFlight (with_placed t) descriptor
+joined t descriptor is room (inl (turns, some, within, same)) =
+    (turns + 1, omega arith, omega arith, same ∙ sym (back_on t.next (limit_of t.sizes) turns is.next (omega arith)))
+joined t descriptor is room (inr same) =
+    let c = limit_of t.sizes in
+    (0 + 1, omega arith, omega arith, same ∙ sym (back_on t.next c 0 is.next (omega arith) ∙ (back_near t.next c 0 is.next (omega arith) ∙ sub-zero t.next)))
+
+leaves : (t : Turn) (descriptor : ℕ) → IsTurn t → 0 < t.in_flight → IsInFlight (with_freed t) descriptor → IsInFlight t descriptor × (descriptor ≢ oldest_of t)
+leaves t descriptor is some_there (turns, some, within, same) =
+    ((turns, some, omega arith, same), λ oldest. back_apart t.next (limit_of t.sizes) turns t.in_flight is.next (omega arith) is.in_flight some (sym same ∙ oldest))
+
+stays : (t : Turn) (descriptor : ℕ) → IsTurn t → 0 < t.in_flight → IsInFlight t descriptor × (descriptor ≢ oldest_of t) → IsInFlight (with_freed t) descriptor
+stays t descriptor is some_there ((turns, some, within, same), other) =
+    elim (cases_lt turns t.in_flight) [
+      | inl fewer ↦ (turns, some, omega arith, same)
+      | inr all ↦
+          let at_oldest : turns ≡ t.in_flight = omega arith in
+          absurd (other (same ∙ ap (back t.next (limit_of t.sizes)) at_oldest))
+    ]
+
+pub goes_round : FlightGoesRound
+goes_round = record {
+  placed = λ t descriptor is room. (joins t descriptor is room, joined t descriptor is room);
+  freed = λ t descriptor is some_there. (leaves t descriptor is some_there, stays t descriptor is some_there);
+}

@@ -1,0 +1,44 @@
+-- The steps of a poll that read a frame's words.
+use Rattle.std.proofs.Common.{◌≡◌, ℕ, ◌+◌, ◌-◌, ◌*◌, ◌<◌, ◌≤◌, suc, List, [], ◌∷◌, ◌++◌, length, take, sym, ap, ◌∙◌, arith}
+use Rattle.std.proofs.lemmas.Grind.{common_steps}
+use Rattle.std.proofs.lemmas.List.{take_all}
+use Rattle.std.specs.List.{flat_map}
+use Rattle.split_ring.specs.declared.steps.Note.{Note}
+use Rattle.split_ring.specs.declared.steps.Note.TheVariants as note
+use Rattle.link_laws.specs.Ends.{End}
+use Rattle.link_laws.specs.Ticks.{Who}
+use Rattle.link_laws.specs.Words.{word_bytes, words_for, frame_in}
+use Rattle.link_laws.specs.Places as laws
+use Rattle.rx_engine.specs.Receiver.{Receiver, words_read}
+use Rattle.rx_engine.specs.Stands.{StandsAt, TakesAt, place_seen}
+use Rattle.rx_engine.specs.declared.place.Place.TheVariants.{AtWord, GivingId}
+use Rattle.rx_engine.proofs.Gathering.{words_more, frame_more}
+
+-- the last word of a frame is read
+pub word_delivers : (old new : Receiver) (notes : List Note) (who : Who) (end : End) (place : laws.Place) (more entry address bytes at value : ℕ) →
+    old.place ≡ AtWord more entry address bytes at →
+    new ≡ record old { place = GivingId more entry; frame = new.frame; gathered = [] } →
+    new.frame ≡ old.gathered ++ take (bytes - 4 * at) (word_bytes value) →
+    notes ≡ note.Deliver ∷ [] → 4 * at < bytes → bytes - 4 * at ≤ 4 →
+    StandsAt old who end place → TakesAt old value notes new who end place
+word_delivers old new notes who end place more entry address bytes at value at_word new_is frame_is notes_is some last stands =
+    let count : length stands.read ≡ at = stands.read_count ∙ ap words_read at_word in
+    let at_place : place ≡ laws.AtWord end.returned more entry address bytes stands.read (words_for bytes - (at + 1)) = stands.place_is ∙ ap (place_seen end.returned stands.read) at_word in
+    let none : words_for bytes - (at + 1) ≡ 0 = omega arith in
+    let whole : new.frame ≡ frame_in bytes (stands.read ++ value ∷ []) = frame_is ∙ ap (λ g. g ++ take (bytes - 4 * at) (word_bytes value)) stands.gathered ∙ frame_more bytes at value stands.read count (omega arith) in
+    grind (arith, common_steps)
+
+-- a word before the last is read
+pub word_goes : (old new : Receiver) (notes : List Note) (who : Who) (end : End) (place : laws.Place) (more entry address bytes at value : ℕ) →
+    old.place ≡ AtWord more entry address bytes at →
+    new ≡ record old { place = AtWord more entry address bytes (at + 1); frame = []; gathered = new.gathered } →
+    new.gathered ≡ old.gathered ++ take (bytes - 4 * at) (word_bytes value) →
+    notes ≡ [] → 4 < bytes - 4 * at →
+    StandsAt old who end place → TakesAt old value notes new who end place
+word_goes old new notes who end place more entry address bytes at value at_word new_is gathered_is notes_is some stands =
+    let count : length stands.read ≡ at = stands.read_count ∙ ap words_read at_word in
+    let at_place : place ≡ laws.AtWord end.returned more entry address bytes stands.read (words_for bytes - (at + 1)) = stands.place_is ∙ ap (place_seen end.returned stands.read) at_word in
+    let one_more : words_for bytes - (at + 1) ≡ suc (words_for bytes - (at + 1 + 1)) = omega arith in
+    let whole : take (bytes - 4 * at) (word_bytes value) ≡ word_bytes value = take_all _ _ (omega arith) in
+    let gathered : new.gathered ≡ flat_map word_bytes (stands.read ++ value ∷ []) = gathered_is ∙ ap (λ b. old.gathered ++ b) whole ∙ ap (λ g. g ++ word_bytes value) stands.gathered ∙ sym (words_more stands.read value) in
+    grind (arith, common_steps)

@@ -1,0 +1,71 @@
+-- A receiver, as contracts see it.
+use Rattle.std.specs.Prelude.{ℕ, ◌≡◌, ◌*◌, ◌<◌, Bool, true, false, List, []}
+use Rattle.split_ring.specs.Layout.{Sizes}
+use Rattle.split_ring.specs.Ranges.{IsAvailEntry, IsDescAddress, IsDescLength}
+use Rattle.rx_engine.specs.declared.place.Place.{Place}
+use Rattle.rx_engine.specs.declared.place.Place.TheVariants.{Closed, AtLow, AtHigh, AtLength, AtFlags, AtWord, GivingId, GivingLength, GivingIndex}
+
+-- the sizes of the queue, the first words of the own section and of the other's, the peer and the vector of the doorbell; how many frames of the session were
+-- returned, modulo 65,536; the place in the open poll; the frame delivered last, or nothing from its first word on until the next one is delivered; and the
+-- bytes that were read so far of a frame that isn't delivered yet
+pub record Receiver : Type 0 where
+  pub sizes : Sizes
+  pub own : ℕ
+  pub theirs : ℕ
+  pub target : ℕ
+  pub vector : ℕ
+  pub returned : ℕ
+  pub place : Place
+  pub frame : List ℕ
+  pub gathered : List ℕ
+
+-- a receiver of these numbers where no frame was delivered
+abbrev pub fresh_receiver : Sizes → (own theirs target vector : ℕ) → Receiver
+fresh_receiver sizes own theirs target vector = record {
+  sizes = sizes;
+  own = own;
+  theirs = theirs;
+  target = target;
+  vector = vector;
+  returned = 0;
+  place = Closed;
+  frame = [];
+  gathered = [];
+}
+
+-- a poll is open at each place but one
+abbrev pub is_open_at : Place → Bool
+is_open_at Closed = false
+is_open_at _ = true
+
+abbrev pub is_busy : Receiver → Bool
+is_busy rx = is_open_at rx.place
+
+-- how many words of a frame that isn't delivered yet were read
+abbrev pub words_read : Place → ℕ
+words_read (AtWord more entry address bytes at) = at
+words_read _ = 0
+
+-- 1 where the frame delivered last isn't returned yet, else 0
+abbrev pub unreturned : Place → ℕ
+unreturned (GivingId more entry) = 1
+unreturned (GivingLength more) = 1
+unreturned (GivingIndex more) = 1
+unreturned _ = 0
+
+-- the values read so far passed their checks
+abbrev pub IsReached : Sizes → Place → Type 0
+IsReached q (AtLow more entry) = IsAvailEntry q entry
+IsReached q (AtHigh more entry low) = IsAvailEntry q entry
+IsReached q (AtLength more entry address) = IsAvailEntry q entry × IsDescAddress q address
+IsReached q (AtFlags more entry address bytes) = IsAvailEntry q entry × IsDescAddress q address × IsDescLength q address bytes
+IsReached q (AtWord more entry address bytes at) = IsDescAddress q address × IsDescLength q address bytes × (4 * at < bytes)
+IsReached q _ = Unit {0}
+
+-- the numbers that were handed in stay
+pub record KeepsNumbers (old new : Receiver) : Type 0 where
+  pub sizes : new.sizes ≡ old.sizes
+  pub own : new.own ≡ old.own
+  pub theirs : new.theirs ≡ old.theirs
+  pub target : new.target ≡ old.target
+  pub vector : new.vector ≡ old.vector

@@ -1,0 +1,90 @@
+-- Which end of the link a receiver stands for, at which place of the call grammar, and its steps there.
+use Rattle.std.specs.Prelude.{ℕ, ◌≡◌, ◌+◌, ◌-◌, ◌%◌, ◌==◌, Bool, true, false, if◌then◌else◌, List, [], ◌∷◌, ◌++◌, length, flat_map}
+use Rattle.link_handshake.specs.declared.Phase.{Phase}
+use Rattle.link_handshake.specs.declared.Phase.TheVariants.{Reset, Init, Ready, Run}
+use Rattle.split_ring.specs.declared.steps.Note.{Note}
+use Rattle.link_laws.specs.Steps.{marks_of}
+use Rattle.link_laws.specs.Ends.{End, end_behind}
+use Rattle.link_laws.specs.Ticks.{Who}
+use Rattle.link_laws.specs.Words.{word_bytes, words_for, frame_in}
+use Rattle.link_laws.specs.Places as laws
+use Rattle.rx_engine.specs.Receiver.{Receiver, is_busy, words_read, unreturned}
+use Rattle.rx_engine.specs.declared.place.Place.{Place}
+use Rattle.rx_engine.specs.declared.place.Place.TheVariants.{Closed, AtAvailIndex, AtEntry, AtLow, AtHigh, AtLength, AtFlags, AtWord, GivingId, GivingLength, GivingIndex, Ringing, Refusing}
+
+-- the place of the grammar, for the number of the item in hand and the words read of its frame
+abbrev pub place_seen : ℕ → List ℕ → Place → laws.Place
+place_seen number read Closed = laws.Closed
+place_seen number read AtAvailIndex = laws.AtAvailIndex number
+place_seen number read (AtEntry more) = laws.AtEntry number more
+place_seen number read (AtLow more entry) = laws.AtLow number more entry
+place_seen number read (AtHigh more entry low) = laws.AtHigh number more entry low
+place_seen number read (AtLength more entry address) = laws.AtLength number more entry address
+place_seen number read (AtFlags more entry address bytes) = laws.AtFlags number more entry address bytes
+place_seen number read (AtWord more entry address bytes at) = laws.AtWord number more entry address bytes read (words_for bytes - (at + 1))
+place_seen number read (GivingId more entry) = laws.GivingId number more entry
+place_seen number read (GivingLength more) = laws.GivingLength number more
+place_seen number read (GivingIndex more) = laws.GivingIndex number more
+place_seen number read Ringing = laws.RingingPoll
+place_seen number read Refusing = laws.Refusing
+
+-- the receiver was made for this peer: the numbers that were handed in are the peer's
+pub record IsMadeFor (rx : Receiver) (who : Who) : Type 0 where
+  pub sizes : who.sizes ≡ rx.sizes
+  pub own : who.own ≡ rx.own
+  pub theirs : who.theirs ≡ rx.theirs
+  pub target : who.other ≡ rx.target
+  pub vector : who.vector ≡ rx.vector
+
+-- a session is open in these phases
+abbrev pub has_session : Phase → Bool
+has_session Reset = false
+has_session Init = false
+has_session Ready = true
+has_session Run = true
+
+-- the receiver's count is the end's modulo 65,536, and all frames delivered are returned but one that is being returned
+pub record Counts (rx : Receiver) (end : End) : Type 0 where
+  pub returned : end.returned % 65536 ≡ rx.returned
+  pub delivered : length end.delivered ≡ end.returned + unreturned rx.place
+
+-- the receiver stands for this end of this peer, at this place of its open call: it counts the end's frames wherever a poll or a session is open, and the bytes
+-- gathered are those of the words read
+pub record StandsAt (rx : Receiver) (who : Who) (end : End) (place : laws.Place) : Type 0 where
+  pub made : IsMadeFor rx who
+  pub busy : is_busy rx ≡ true → Counts rx end
+  pub session : has_session end.handshake.phase ≡ true → Counts rx end
+  pub read : List ℕ
+  pub read_count : length read ≡ words_read rx.place
+  pub gathered : rx.gathered ≡ flat_map word_bytes read
+  pub place_is : place ≡ place_seen end.returned read rx.place
+
+-- what the frame delivered last is behind the step at a place: nothing behind a word of the next frame, and that frame behind its last word
+abbrev pub frame_behind : laws.Place → ℕ → List ℕ → List ℕ
+frame_behind (laws.AtWord number more entry address bytes read words) value frame = if words == 0 then frame_in bytes (read ++ value ∷ []) else []
+frame_behind place value frame = frame
+
+-- a step that met this value was that of the grammar, with these notes, for this end at this place
+pub record TakesAt (old : Receiver) (value : ℕ) (notes : List Note) (new : Receiver) (who : Who) (end : End) (place : laws.Place) : Type 0 where
+  pub marks : marks_of new.frame notes ≡ laws.marks_at who place value
+  pub stands : StandsAt new who (end_behind end (laws.step_at who place value)) (laws.next_place who place value)
+  pub frame : new.frame ≡ frame_behind place value old.frame
+
+-- it was so for each end, and at each place, for which the receiver stood
+abbrev pub Takes : Receiver → ℕ → List Note → Receiver → Type 0
+Takes old value notes new = (who : Who) (end : End) (place : laws.Place) → StandsAt old who end place → TakesAt old value notes new who end place
+
+-- a fresh session: no frame is delivered or returned
+pub record IsFreshSession (end : End) : Type 0 where
+  pub delivered : end.delivered ≡ []
+  pub returned : end.returned ≡ 0
+
+-- what a closed receiver reads of an end is the same in these two, and the second has a session only where the first had one
+pub record SameSession (end other : End) : Type 0 where
+  pub delivered : other.delivered ≡ end.delivered
+  pub returned : other.returned ≡ end.returned
+  pub session : has_session other.handshake.phase ≡ true → has_session end.handshake.phase ≡ true
+
+-- a closed receiver stands for an end as long as its session goes on
+abbrev pub ClosedStays : Type 0
+ClosedStays = (rx : Receiver) (who : Who) (end other : End) → StandsAt rx who end laws.Closed → SameSession end other → StandsAt rx who other laws.Closed

@@ -1,0 +1,64 @@
+//! Where an open poll is.
+
+/// The place of a poll between two steps, before the access that it is named after. `more` is how many items come behind the one in
+/// hand; `address` and `bytes` are in bytes, and `at` counts the words of the frame that were read.
+#[derive(Clone, Copy, Debug)]
+pub(crate) enum Place {
+    /// No poll is open.
+    Closed,
+    /// The read of the available index.
+    AtAvailIndex,
+    /// The read of the item's entry in the available ring.
+    AtEntry {
+        more: u32,
+    },
+    /// The read of the low word of the descriptor's address.
+    AtLow {
+        more: u32,
+        entry: u32,
+    },
+    /// The read of the high word of the address.
+    AtHigh {
+        more: u32,
+        entry: u32,
+        low: u32,
+    },
+    /// The read of the length.
+    AtLength {
+        more: u32,
+        entry: u32,
+        address: u32,
+    },
+    /// The read of the flags.
+    AtFlags {
+        more: u32,
+        entry: u32,
+        address: u32,
+        bytes: u32,
+    },
+    /// The read of a word of the frame.
+    AtWord {
+        more: u32,
+        entry: u32,
+        address: u32,
+        bytes: u32,
+        at: u32,
+    },
+    /// The write of the used element's id.
+    GivingId {
+        more: u32,
+        entry: u32,
+    },
+    /// The write of the used element's length.
+    GivingLength {
+        more: u32,
+    },
+    /// The write of the used index.
+    GivingIndex {
+        more: u32,
+    },
+    /// The doorbell, behind the last item.
+    Ringing,
+    /// The State step of a poll that refused a value.
+    Refusing,
+}

@@ -1,0 +1,393 @@
+//! The receiver.
+ghost use Rattle.std.specs.Prelude.{ℕ, ◌≡◌, ◌+◌, ◌-◌, ◌*◌, ◌≤◌, ◌<◌, ◌^◌, [], ◌∷◌, ◌++◌, true, false, IfOk, option_to_list, min, length, take};
+ghost use Rattle.link_handshake.specs.declared.Phase.TheVariants.{Run};
+ghost use Rattle.split_ring.specs.Spelling.{entry_half};
+ghost use Rattle.link_laws.specs.Ends.{End};
+ghost use Rattle.link_laws.specs.Ticks.{Who};
+ghost use Rattle.link_laws.specs.Calls.{Poll};
+ghost use Rattle.link_laws.specs.Words.{word_bytes};
+ghost use Rattle.link_laws.specs.Places as laws;
+ghost use Rattle.link_laws.specs.Reach.{HasSections, InReach};
+ghost use Rattle.rx_engine.specs.Receiver.{fresh_receiver, is_busy, words_read, IsReached, KeepsNumbers};
+ghost use Rattle.rx_engine.specs.Stands.{IsMadeFor, IsFreshSession, StandsAt, Takes, ClosedStays};
+
+use crate::place::Place;
+use ivs_base::NoMemory;
+use split_ring::steps::{Access, Note, Notes};
+use split_ring::{Queue, Refused};
+use std::alloc::Global;
+use std::marker::Model;
+
+/// The bytes of the longest frame that a descriptor may name.
+const LONGEST: u32 = 65_553;
+
+/// The receiver of one end. It keeps the queue, the first words of the two sections, the peer and vector of the doorbell, how many
+/// frames of the session were returned, modulo 65,536, its place in the open poll, and the frame delivered last.
+///
+/// Its one buffer is as long as the longest frame that passes the checks. The frame delivered last stays there until the first
+/// word of the next frame is read. A step reads or writes one word, and takes no memory.
+#[derive(Debug, Drop)]
+pub struct Rx {
+    queue: Queue,
+    own: u32,
+    theirs: u32,
+    target: u32,
+    vector: u32,
+    returned: u16,
+    place: Place,
+    buffer: Vec<u8>,
+    delivered: usize,
+}
+
+impl Model for Rx {
+    ghost use Rattle.rx_engine.specs.Receiver.{Receiver};
+
+    ghost Value = { Receiver };
+
+    ghost use Rattle.rx_engine.specs.Kept.{seen, IsKept};
+
+    ghost view = { seen };
+
+    ghost invariant = { IsKept };
+}
+
+/// Entry `k` of the available ring, in its word.
+fn entry_half(k: u16, word: u32) -> u16
+    ensures { result ≡ entry_half k word }
+{
+    if k.is_multiple_of(2) {
+        (word & 0xffff) as u16
+    } else {
+        (word >> 16) as u16
+    }
+}
+
+/// Puts word `at` of a frame of so many bytes to its place in the buffer: its four bytes, or the last ones of the frame.
+fn put_word(buffer: &mut [u8], bytes: usize, at: usize, word: u32)
+    requires within { 4 * at < bytes }
+    requires room { bytes ≤ length buffer.old }
+    ensures { take (min bytes (4 * at + 4)) buffer.new ≡ take (4 * at) buffer.old ++ take (bytes - 4 * at) (word_bytes word) }
+{
+    let start = 4 * at;
+    let count = (bytes - start).min(4);
+    buffer[start..start + count].copy_from_slice(&word.to_le_bytes()[..count]);
+}
+
+impl Rx {
+    /// A receiver for a peer whose own section begins at word `own` of the region and whose partner's begins at word `other`; it
+    /// rings `target` by `vector`. NoMemory comes only where memory ran out.
+    pub fn new(
+        alloc: Global,
+        queue: &Queue,
+        own: u32,
+        other: u32,
+        target: u32,
+        vector: u32,
+    ) -> Result<Rx, NoMemory>
+        requires own { 4 * own + queue.now.out ≤ 2 ^ 24 }
+        requires other { 4 * other + queue.now.out ≤ 2 ^ 24 }
+        ensures value { IfOk result (λ rx. rx ≡ fresh_receiver queue.now own other target vector) }
+        ensures stands { IfOk result (λ rx. (who : Who) (end : End) → IsMadeFor rx who → IsFreshSession end → StandsAt rx who end laws.Closed) }
+    {
+        let longest = LONGEST.min(queue.out() - queue.payload());
+        let Ok(buffer) = vec![in alloc; 0u8; longest as usize] else {
+            return Err(NoMemory);
+        };
+        Ok(Rx {
+            queue: *queue,
+            own,
+            theirs: other,
+            target,
+            vector,
+            returned: 0,
+            place: Place::Closed,
+            buffer,
+            delivered: 0,
+        })
+    }
+
+    /// Is a poll open?
+    pub fn busy(&self) -> bool
+        ensures value { result ≡ is_busy self.now }
+        ensures open { (who : Who) (end : End) (place : laws.Place) → StandsAt self.now who end place → result ≡ laws.is_open place }
+    {
+        !matches!(self.place, Place::Closed)
+    }
+
+    /// Opens a poll, of an end in RUN.
+    pub fn begin(&mut self)
+        requires { is_busy self.old ≡ false }
+        ensures stands { (who : Who) (end : End) → StandsAt self.old who end laws.Closed → end.handshake.phase ≡ Run → StandsAt self.new who end (laws.first_place who end Poll) }
+        ensures value { self.new ≡ record self.old { place = Place.AtAvailIndex } }
+    {
+        self.place = Place::AtAvailIndex;
+    }
+
+    /// The next access of the open poll.
+    #[tactic(auto, using(crate::proofs::Numbers::ring_place))]
+    pub fn next(&self) -> Access
+        requires { is_busy self.now ≡ true }
+        ensures access { (who : Who) (end : End) (place : laws.Place) → StandsAt self.now who end place → result ≡ laws.access_at who place }
+        ensures reach { (who : Who) (end : End) (place : laws.Place) → HasSections who → StandsAt self.now who end place → InReach who result }
+    {
+        let (queue, own, theirs) = (&self.queue, self.own, self.theirs);
+        let number = u32::from(self.returned);
+        match self.place {
+            Place::AtAvailIndex => Access::Read(theirs + queue.avail_word()),
+            Place::AtEntry { .. } => Access::Read(theirs + queue.entry_word(number)),
+            Place::AtLow { entry, .. } => Access::Read(theirs + queue.descriptor(entry)),
+            Place::AtHigh { entry, .. } => Access::Read(theirs + queue.descriptor(entry) + 1),
+            Place::AtLength { entry, .. } => Access::Read(theirs + queue.descriptor(entry) + 2),
+            Place::AtFlags { entry, .. } => Access::Read(theirs + queue.descriptor(entry) + 3),
+            Place::AtWord { address, at, .. } => Access::Read(theirs + (address / 4 + at)),
+            Place::GivingId { entry, .. } => Access::Write(own + queue.used_id(number), entry),
+            Place::GivingLength { .. } => Access::Write(own + queue.used_id(number) + 1, 1),
+            Place::GivingIndex { .. } => {
+                let index = self.returned.wrapping_add(1);
+                Access::Write(own + queue.used_word(), u32::from(index) << 16)
+            }
+            Place::Ringing => Access::Ring {
+                target: self.target,
+                vector: self.vector,
+            },
+            Place::Refusing => Access::State(0),
+            Place::Closed => unreachable!(),
+        }
+    }
+
+    /// Takes the step of the access that `next` told. `value` is what a read gave; a step of another access makes no use of it.
+    ///
+    /// A value outside its field's range is refused: the step notes Refuse alone, and the State step comes next.
+    pub fn took(&mut self, value: u32) -> Notes
+        requires { is_busy self.old ≡ true }
+        ensures steps { Takes self.old value result.items self.new }
+        ensures kept { KeepsNumbers self.old self.new }
+    {
+        match self.place {
+            Place::AtAvailIndex => self.took_index(value),
+            Place::AtEntry { more } => self.took_entry(more, value),
+            Place::AtLow { more, entry } => {
+                let next = Place::AtHigh {
+                    more,
+                    entry,
+                    low: value,
+                };
+                self.go_on(next, None)
+            }
+            Place::AtHigh { more, entry, low } => self.took_high(more, entry, low, value),
+            Place::AtLength {
+                more,
+                entry,
+                address,
+            } => self.took_length(more, entry, address, value),
+            Place::AtFlags {
+                more,
+                entry,
+                address,
+                bytes,
+            } => self.took_flags(more, entry, address, bytes, value),
+            Place::AtWord {
+                more,
+                entry,
+                address,
+                bytes,
+                at,
+            } => self.took_word(more, entry, address, bytes, at, value),
+            Place::GivingId { more, .. } => self.go_on(Place::GivingLength { more }, None),
+            Place::GivingLength { more } => self.go_on(Place::GivingIndex { more }, None),
+            Place::GivingIndex { more } => self.gave_index(more),
+            Place::Ringing => self.go_on(Place::Closed, Some(Note::Done)),
+            Place::Refusing => self.go_on(Place::Closed, Some(Note::Over)),
+            Place::Closed => unreachable!(),
+        }
+    }
+
+    /// The frame delivered last, until the first word of the next frame is read. It is empty before the first frame, and from the
+    /// first word of a frame on until its last one is read.
+    pub fn frame(&self) -> &[u8]
+        ensures { result.now ≡ self.now.frame }
+    {
+        &self.buffer[..self.delivered]
+    }
+
+    /// Begins a new session: no poll is open, no frame was returned, and `frame` is empty.
+    pub fn reset(&mut self)
+        ensures value { self.new ≡ fresh_receiver self.old.sizes self.old.own self.old.theirs self.old.target self.old.vector }
+        ensures stands { (who : Who) (end : End) → IsMadeFor self.old who → IsFreshSession end → StandsAt self.new who end laws.Closed }
+    {
+        self.returned = 0;
+        self.place = Place::Closed;
+        self.delivered = 0;
+    }
+}
+
+/// The steps of `took`, one for each place.
+impl Rx {
+    /// Goes on at this place, with this note.
+    fn go_on(&mut self, place: Place, note: Option<Note>) -> Notes
+        requires reached { IsReached self.old.sizes place }
+        requires unread { words_read place ≡ 0 }
+        ensures place { self.new ≡ record self.old { place = place; gathered = [] } }
+        ensures notes { result.items ≡ option_to_list note }
+    {
+        self.place = place;
+        let mut notes = Notes::new();
+        if let Some(note) = note {
+            notes.push(note);
+        }
+        notes
+    }
+
+    /// Refuses a value: the State step comes next.
+    fn refuse(&mut self, refused: Refused) -> Notes
+        ensures place { self.new ≡ record self.old { place = Place.Refusing; gathered = [] } }
+        ensures notes { result.items ≡ Note.Refuse refused ∷ [] }
+    {
+        self.go_on(Place::Refusing, Some(Note::Refuse(refused)))
+    }
+
+    /// The read of the available index.
+    fn took_index(&mut self, value: u32) -> Notes
+        requires { self.old.place ≡ Place.AtAvailIndex }
+        ensures steps { Takes self.old value result.items self.new }
+        ensures kept { KeepsNumbers self.old self.new }
+    {
+        let index = (value >> 16) as u16;
+        match self.queue.check_avail(self.returned, index) {
+            Err(refused) => self.refuse(refused),
+            Ok(0) => {
+                let mut notes = self.go_on(Place::Closed, Some(Note::Look(0)));
+                notes.push(Note::Done);
+                notes
+            }
+            Ok(found) => {
+                let first = Place::AtEntry { more: found - 1 };
+                self.go_on(first, Some(Note::Look(found)))
+            }
+        }
+    }
+
+    /// The read of an item's entry.
+    fn took_entry(&mut self, more: u32, value: u32) -> Notes
+        requires { self.old.place ≡ Place.AtEntry more }
+        ensures steps { Takes self.old value result.items self.new }
+        ensures kept { KeepsNumbers self.old self.new }
+    {
+        match self.queue.check_entry(entry_half(self.returned, value)) {
+            Err(refused) => self.refuse(refused),
+            Ok(entry) => self.go_on(Place::AtLow { more, entry }, None),
+        }
+    }
+
+    /// The read of an address's high word: the whole address is checked.
+    fn took_high(&mut self, more: u32, entry: u32, low: u32, value: u32) -> Notes
+        requires { self.old.place ≡ Place.AtHigh more entry low }
+        ensures steps { Takes self.old value result.items self.new }
+        ensures kept { KeepsNumbers self.old self.new }
+    {
+        let address = u64::from(low) + (u64::from(value) << 32);
+        match self.queue.check_address(address) {
+            Err(refused) => self.refuse(refused),
+            Ok(address) => {
+                let next = Place::AtLength {
+                    more,
+                    entry,
+                    address,
+                };
+                self.go_on(next, None)
+            }
+        }
+    }
+
+    /// The read of a descriptor's length, which is read once.
+    fn took_length(&mut self, more: u32, entry: u32, address: u32, value: u32) -> Notes
+        requires { self.old.place ≡ Place.AtLength more entry address }
+        ensures steps { Takes self.old value result.items self.new }
+        ensures kept { KeepsNumbers self.old self.new }
+    {
+        match self.queue.check_length(address, value) {
+            Err(refused) => self.refuse(refused),
+            Ok(bytes) => {
+                let next = Place::AtFlags {
+                    more,
+                    entry,
+                    address,
+                    bytes,
+                };
+                self.go_on(next, None)
+            }
+        }
+    }
+
+    /// The read of a descriptor's flags, which are its last field.
+    fn took_flags(&mut self, more: u32, entry: u32, address: u32, bytes: u32, value: u32) -> Notes
+        requires { self.old.place ≡ Place.AtFlags more entry address bytes }
+        ensures steps { Takes self.old value result.items self.new }
+        ensures kept { KeepsNumbers self.old self.new }
+    {
+        match self.queue.check_flags((value & 0xffff) as u16) {
+            Err(refused) => self.refuse(refused),
+            Ok(()) => {
+                let first = Place::AtWord {
+                    more,
+                    entry,
+                    address,
+                    bytes,
+                    at: 0,
+                };
+                self.go_on(first, None)
+            }
+        }
+    }
+
+    /// The read of a frame's word, into the buffer of the frame delivered last.
+    fn took_word(
+        &mut self,
+        more: u32,
+        entry: u32,
+        address: u32,
+        bytes: u32,
+        at: u32,
+        value: u32,
+    ) -> Notes
+        requires { self.old.place ≡ Place.AtWord more entry address bytes at }
+        ensures steps { Takes self.old value result.items self.new }
+        ensures kept { KeepsNumbers self.old self.new }
+    {
+        put_word(&mut self.buffer, bytes as usize, at as usize, value);
+        let last = bytes - 4 * at <= 4;
+        if last {
+            self.delivered = bytes as usize;
+            return self.go_on(Place::GivingId { more, entry }, Some(Note::Deliver));
+        }
+        self.delivered = 0;
+        self.place = Place::AtWord {
+            more,
+            entry,
+            address,
+            bytes,
+            at: at + 1,
+        };
+        Notes::new()
+    }
+
+    /// The write of the used index, with which the item is returned.
+    fn gave_index(&mut self, more: u32) -> Notes
+        requires { self.old.place ≡ Place.GivingIndex more }
+        ensures steps { (value : ℕ) → Takes self.old value result.items self.new }
+        ensures kept { KeepsNumbers self.old self.new }
+    {
+        self.returned = self.returned.wrapping_add(1);
+        let next = if more == 0 {
+            Place::Ringing
+        } else {
+            Place::AtEntry { more: more - 1 }
+        };
+        self.go_on(next, Some(Note::Return))
+    }
+}
+
+/// Law: a closed receiver stands for an end as long as its session goes on: a Tick, a Stop and an Offer change nothing of it.
+pub fn closed_stays()
+    ensures { ClosedStays }
+{}

@@ -1,0 +1,6 @@
+pub mod Counting
+pub mod Frames
+pub mod Accesses
+pub mod Reading
+pub mod Fields
+pub mod Entering

@@ -1,0 +1,4 @@
+pub mod Sender
+pub mod Reads
+pub mod Stands
+pub mod Kept

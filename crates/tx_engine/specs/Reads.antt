@@ -1,0 +1,14 @@
+-- Where an offer goes on behind a read.
+use Rattle.std.specs.Prelude.{◌≡◌, ℕ, ◌-◌, ◌<◌}
+use Rattle.split_ring.specs.Layout.{limit_of}
+use Rattle.frame_slots.specs.Turns.{Turn, slot_at, with_placed}
+use Rattle.link_laws.specs.Words.{words_for}
+use Rattle.tx_engine.specs.declared.place.Place.{Place}
+use Rattle.tx_engine.specs.declared.place.Place.TheVariants.{Closed, AtUsedId, Filling}
+
+-- with so many ids to come, an offer of a frame of this length goes on at this place, where its slots are the new ones: at the next id; where there is
+-- none, at the first word of the frame in the next slot; and where no slot is left, at the end
+pub record GoesOn (old : Turn) (length ids : ℕ) (place : Place) (new : Turn) : Type 0 where
+  pub reads : 0 < ids → (place ≡ AtUsedId (ids - 1)) × (new ≡ old)
+  pub fills : ids ≡ 0 → old.in_flight < limit_of old.sizes → (place ≡ Filling (slot_at old.sizes old.next) 0 (words_for length - 1)) × (new ≡ with_placed old)
+  pub ends : ids ≡ 0 → old.in_flight ≡ limit_of old.sizes → (place ≡ Closed) × (new ≡ old)

@@ -1,0 +1,92 @@
+-- The sender as contracts see it, and what it keeps whatever values it is handed.
+use Rattle.std.specs.Prelude.{◌≡◌, ℕ, ◌+◌, ◌*◌, ◌/◌, ◌%◌, ◌^◌, ◌<◌, ◌≤◌, Bool, true, false, List, [], length, replicate, slice_index}
+use Rattle.split_ring.specs.declared.steps.Access.{Access}
+use Rattle.split_ring.specs.declared.steps.Access.TheVariants as access
+use Rattle.split_ring.specs.Layout.{Sizes, IsQueue, HasBounds, size_of, limit_of}
+use Rattle.frame_slots.specs.declared.slots.Place as slots
+use Rattle.frame_slots.specs.Turns.{slot_at}
+use Rattle.link_laws.specs.Words.{words_for, with_entry}
+use Rattle.tx_engine.specs.declared.place.Place.{Place}
+use Rattle.tx_engine.specs.declared.place.Place.TheVariants.{Closed, Refusing, AtUsedIndex, AtUsedId, Filling, WritingLow, WritingHigh, WritingLength, WritingFlags, WritingEntry, WritingIndex, Ringing}
+
+-- the sizes of the queue, the first words of the two sections, and whom it rings by which vector; the frames accepted modulo 65,536, the next
+-- descriptor and the frames in flight; the own copy of the entry words; the frame in hand, and its place in the open offer
+pub record Sender : Type 0 where
+  pub sizes : Sizes
+  pub own : ℕ
+  pub theirs : ℕ
+  pub target : ℕ
+  pub vector : ℕ
+  pub accepted : ℕ
+  pub next : ℕ
+  pub in_flight : ℕ
+  pub entries : List ℕ
+  pub frame : List ℕ
+  pub place : Place
+
+-- an offer is open
+abbrev pub is_open : Place → Bool
+is_open Closed = false
+is_open _ = true
+
+-- a frame that may be offered
+abbrev pub IsFrame : Sizes → List ℕ → Type 0
+IsFrame sizes frame = (14 ≤ length frame) × (length frame ≤ sizes.mtu + 18)
+
+-- the frame in hand has this slot
+abbrev pub HasSlot : Sender → slots.Place → Type 0
+HasSlot tx slot = (0 < tx.in_flight) × (slot.descriptor < limit_of tx.sizes) × (slot ≡ slot_at tx.sizes slot.descriptor) × IsFrame tx.sizes tx.frame
+
+-- what holds at a place of the offer
+abbrev pub IsPlace : Sender → Place → Type 0
+IsPlace tx Closed = Unit {0}
+IsPlace tx Refusing = Unit {0}
+IsPlace tx AtUsedIndex = IsFrame tx.sizes tx.frame
+IsPlace tx (AtUsedId more) = (more < tx.in_flight) × IsFrame tx.sizes tx.frame
+IsPlace tx (Filling slot at more) = HasSlot tx slot × (at + more + 1 ≡ words_for (length tx.frame))
+IsPlace tx (WritingLow slot) = HasSlot tx slot
+IsPlace tx (WritingHigh slot) = HasSlot tx slot
+IsPlace tx (WritingLength slot) = HasSlot tx slot
+IsPlace tx (WritingFlags slot) = HasSlot tx slot
+IsPlace tx (WritingEntry slot) = HasSlot tx slot
+IsPlace tx WritingIndex = 0 < tx.in_flight
+IsPlace tx Ringing = Unit {0}
+
+-- both sections end at or before word number 4,194,304, and the entry words are half as many as the entries
+pub record IsSender (tx : Sender) : Type 0 where
+  pub queue : IsQueue tx.sizes
+  pub bounds : HasBounds tx.sizes
+  pub own_room : 4 * tx.own + tx.sizes.out ≤ 2 ^ 24
+  pub their_room : 4 * tx.theirs + tx.sizes.out ≤ 2 ^ 24
+  pub entries : 2 * length tx.entries ≡ size_of tx.sizes
+  pub next : tx.next < limit_of tx.sizes
+  pub in_flight : tx.in_flight ≤ limit_of tx.sizes
+  pub place : IsPlace tx tx.place
+
+-- the word of the next entry where that names this descriptor, with the own copy of the other half
+abbrev pub entry_word_of : Sender → ℕ → ℕ
+entry_word_of tx descriptor = with_entry (tx.accepted % size_of tx.sizes) (slice_index tx.entries (tx.accepted % size_of tx.sizes / 2)) descriptor
+
+-- the access reads a word of the other's section, writes one of the own section or State 0, or rings the target
+abbrev pub IsInReach : Sender → Access → Type 0
+IsInReach tx (access.Read word) = (tx.theirs ≤ word) × (4 * word + 4 ≤ 4 * tx.theirs + tx.sizes.out)
+IsInReach tx (access.Write word value) = (tx.own ≤ word) × (4 * word + 4 ≤ 4 * tx.own + tx.sizes.out)
+IsInReach tx (access.State state) = state ≡ 0
+IsInReach tx (access.Ring target vector) = (target ≡ tx.target) × (vector ≡ tx.vector)
+IsInReach tx access.Nothing = ⊥
+
+-- a sender of these numbers where nothing is accepted, written or in hand
+abbrev pub fresh_sender : Sizes → (own theirs target vector : ℕ) → Sender
+fresh_sender sizes own theirs target vector = record {
+  sizes = sizes;
+  own = own;
+  theirs = theirs;
+  target = target;
+  vector = vector;
+  accepted = 0;
+  next = 0;
+  in_flight = 0;
+  entries = replicate (size_of sizes / 2) 0;
+  frame = [];
+  place = Closed;
+}

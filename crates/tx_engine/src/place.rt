@@ -1,0 +1,68 @@
+//! Where an offer is.
+ghost use Rattle.std.specs.Prelude.{◌≡◌, ◌+◌, ◌-◌, ◌<◌, ◌≤◌};
+ghost use Rattle.tx_engine.specs.Reads.{GoesOn};
+
+use frame_slots::{Place as Slot, Slots};
+
+/// The place in the open offer: what its next step is. A slot is that of the frame in hand.
+///
+/// The index comes behind the words, the descriptor and the entry, since the other end reads these once it has seen the index; the
+/// doorbell comes last, since it calls for a look at the index.
+#[derive(Clone, Copy, Debug)]
+pub enum Place {
+    /// No offer is open.
+    Closed,
+    /// Before the State step of a refusal.
+    Refusing,
+    /// Before the read of the used index.
+    AtUsedIndex,
+    /// Before the read of the oldest frame's id, with so many more ids to come.
+    AtUsedId { more: u32 },
+    /// Before the write of word `at` of the frame, with so many more to come.
+    Filling { slot: Slot, at: u32, more: u32 },
+    /// Before the write of the low word of the descriptor's address.
+    WritingLow(Slot),
+    /// Before the write of its high word.
+    WritingHigh(Slot),
+    /// Before the write of the descriptor's length.
+    WritingLength(Slot),
+    /// Before the write of the descriptor's flags.
+    WritingFlags(Slot),
+    /// Before the write of the entry.
+    WritingEntry(Slot),
+    /// Before the write of the index.
+    WritingIndex,
+    /// Before the doorbell.
+    Ringing,
+}
+
+/// The place before word `at` of the frame in its slot, where so many words are to come, or behind its last word.
+pub fn filling(slot: Slot, at: u32, count: u32) -> Place
+    ensures word { 0 < count → result ≡ Place.Filling slot at (count - 1) }
+    ensures behind { count ≡ 0 → result ≡ Place.WritingLow slot }
+{
+    if count == 0 {
+        return Place::WritingLow(slot);
+    }
+    Place::Filling {
+        slot,
+        at,
+        more: count - 1,
+    }
+}
+
+/// The place behind a read with so many ids to come: the next id, else the first word of the frame of so many bytes, which gets a slot,
+/// else the end.
+pub fn behind_ids(slots: &mut Slots, length: u32, ids: u32) -> Place
+    requires least { 14 ≤ length }
+    requires most { length ≤ slots.old.sizes.mtu + 18 }
+    ensures { GoesOn slots.old length ids result slots.new }
+{
+    if ids > 0 {
+        return Place::AtUsedId { more: ids - 1 };
+    }
+    match slots.place(length) {
+        Some(slot) => filling(slot, 0, length.div_ceil(4)),
+        None => Place::Closed,
+    }
+}

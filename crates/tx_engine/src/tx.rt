@@ -1,0 +1,315 @@
+//! The sender of an end.
+ghost use Rattle.std.specs.Prelude.{◌≡◌, ℕ, ◌+◌, ◌-◌, ◌*◌, ◌%◌, ◌<◌, ◌≤◌, ◌^◌, IfOk, true, false, [], ◌∷◌, length, take};
+ghost use Rattle.split_ring.specs.Layout.{size_of, limit_of};
+ghost use Rattle.link_laws.specs.Ends.{End};
+ghost use Rattle.link_laws.specs.Ticks.{Who};
+ghost use Rattle.link_laws.specs.Calls.{Offer};
+ghost use Rattle.link_laws.specs.Places as laws;
+ghost use Rattle.link_laws.specs.Reach.{HasSections, InReach};
+ghost use Rattle.link_laws.specs.Words.{words_for, frame_word};
+ghost use Rattle.link_handshake.specs.declared.Phase.TheVariants.{Run};
+ghost use Rattle.tx_engine.specs.Sender.{IsSender, fresh_sender, is_open, IsFrame, IsInReach, entry_word_of};
+ghost use Rattle.tx_engine.specs.Stands.{StandsAt, Takes, IsMadeFor, IsFreshSession, ClosedStays};
+
+use crate::place::{Place, behind_ids, filling};
+use frame_slots::Slots;
+use ivs_base::{NoMemory, plus, word_of};
+use split_ring::steps::{Access, Note, Notes};
+use split_ring::{Queue, Refused};
+use std::alloc::Global;
+use std::marker::Model;
+
+/// The sender of an end: it publishes frames in the end's own section, one access a step.
+///
+/// It makes no access itself: `next` says which one comes, and `took` is handed what it gave. It keeps the number of accepted frames
+/// modulo 65,536, the descriptors in flight, and a copy of the entry words that it wrote, since two entries share a word. Behind `new`
+/// no call takes memory.
+#[derive(Debug, Drop)]
+pub struct Tx {
+    queue: Queue,
+    own: u32,
+    theirs: u32,
+    target: u32,
+    vector: u32,
+    accepted: u16,
+    slots: Slots,
+    entries: Vec<u32>,
+    buffer: Vec<u8>,
+    length: u32,
+    place: Place,
+}
+
+impl Model for Tx {
+    ghost use Rattle.tx_engine.specs.Kept.{sender_of, IsKept};
+    ghost use Rattle.tx_engine.specs.Sender.{Sender};
+
+    ghost Value = { Sender };
+
+    ghost view = { sender_of };
+
+    ghost invariant = { IsKept };
+}
+
+impl Tx {
+    /// The sender of a link's end whose section begins at the word `own`, and its partner's at `other`. It rings `target` by `vector`.
+    ///
+    /// Words are numbered from the base of the region. NoMemory comes only where memory ran out.
+    pub fn new(
+        alloc: Global,
+        queue: &Queue,
+        own: u32,
+        other: u32,
+        target: u32,
+        vector: u32,
+    ) -> Result<Tx, NoMemory>
+        requires own { 4 * own + queue.now.out ≤ 2 ^ 24 }
+        requires other { 4 * other + queue.now.out ≤ 2 ^ 24 }
+        ensures value { IfOk result (λ tx. tx ≡ fresh_sender queue.now own other target vector) }
+        ensures stands { IfOk result (λ tx. (who : Who) (end : End) → IsMadeFor tx who → IsFreshSession who end → StandsAt tx who end laws.Closed) }
+    {
+        let Ok(entries) = Vec::from_elem(alloc, 0, (queue.size() / 2) as usize) else {
+            return Err(NoMemory);
+        };
+        let Ok(buffer) = Vec::from_elem(alloc, 0, (queue.mtu() + 18) as usize) else {
+            return Err(NoMemory);
+        };
+        Ok(Tx {
+            queue: *queue,
+            own,
+            theirs: other,
+            target,
+            vector,
+            accepted: 0,
+            slots: Slots::new(queue),
+            entries,
+            buffer,
+            length: 0,
+            place: Place::Closed,
+        })
+    }
+
+    /// Is an offer open?
+    pub fn busy(&self) -> bool
+        ensures open { result ≡ is_open self.now.place }
+        ensures bounds { IsSender self.now }
+        ensures place { (who : Who) (end : End) (place : laws.Place) → StandsAt self.now who end place → result ≡ laws.is_open place }
+    {
+        !matches!(self.place, Place::Closed)
+    }
+
+    /// Opens an offer of this frame, which is copied. The end is in RUN.
+    pub fn begin(&mut self, frame: &[u8])
+        requires closed { is_open self.old.place ≡ false }
+        requires frame { IsFrame self.old.sizes frame.now }
+        ensures stands { (who : Who) (end : End) → StandsAt self.old who end laws.Closed → end.handshake.phase ≡ Run →
+            StandsAt self.new who end (laws.first_place who end (Offer frame.now)) }
+        ensures value { self.new ≡ record self.old { frame = frame.now; place = Place.AtUsedIndex } }
+    {
+        put_first(&mut self.buffer, frame);
+        self.length = frame.len() as u32;
+        self.place = Place::AtUsedIndex;
+    }
+
+    /// The next access of the open offer.
+    pub fn next(&self) -> Access
+        requires { is_open self.now.place ≡ true }
+        ensures access { (who : Who) (end : End) (place : laws.Place) → StandsAt self.now who end place → result ≡ laws.access_at who place }
+        ensures reach { IsInReach self.now result }
+        ensures lawful { (who : Who) → IsMadeFor self.now who → HasSections who → InReach who result }
+    {
+        let queue = &self.queue;
+        match self.place {
+            Place::AtUsedIndex => self.read(queue.used_word()),
+            Place::AtUsedId { .. } => self.read(queue.used_id(u32::from(self.freed()))),
+            Place::Filling { slot, at, .. } => self.write(
+                slot.address / 4 + at,
+                self.frame_word(at),
+            ),
+            Place::WritingLow(slot) => self.write(queue.descriptor(slot.descriptor), slot.address),
+            Place::WritingHigh(slot) => self.write(queue.descriptor(slot.descriptor) + 1, 0),
+            Place::WritingLength(slot) => self.write(
+                queue.descriptor(slot.descriptor) + 2,
+                self.length,
+            ),
+            Place::WritingFlags(slot) => self.write(queue.descriptor(slot.descriptor) + 3, 0),
+            Place::WritingEntry(slot) => {
+                let entry = queue.entry_word(u32::from(self.accepted));
+                self.write(entry, self.entry_word(slot.descriptor))
+            }
+            Place::WritingIndex => {
+                let index = u32::from(plus(self.accepted, 1));
+                self.write(queue.avail_word(), 65_536 * index)
+            }
+            Place::Ringing => Access::Ring {
+                target: self.target,
+                vector: self.vector,
+            },
+            Place::Refusing => Access::State(0),
+            Place::Closed => unreachable!(),
+        }
+    }
+
+    /// Takes the step of the access that `next` gave, with the value that a read gave.
+    pub fn took(&mut self, value: u32) -> Notes
+        requires { is_open self.old.place ≡ true }
+        ensures { Takes self.old value result.items self.new }
+    {
+        let mut notes = Notes::new();
+        match self.place {
+            Place::AtUsedIndex => return self.took_index(value),
+            Place::AtUsedId { more } => return self.took_id(more, value),
+            Place::Filling { slot, at, more } => self.place = filling(slot, at + 1, more),
+            Place::WritingLow(slot) => self.place = Place::WritingHigh(slot),
+            Place::WritingHigh(slot) => self.place = Place::WritingLength(slot),
+            Place::WritingLength(slot) => self.place = Place::WritingFlags(slot),
+            Place::WritingFlags(slot) => self.place = Place::WritingEntry(slot),
+            Place::WritingEntry(slot) => {
+                let at = (self.entry() / 2) as usize;
+                self.entries[at] = self.entry_word(slot.descriptor);
+                self.place = Place::WritingIndex;
+            }
+            Place::WritingIndex => {
+                self.accepted = plus(self.accepted, 1);
+                self.place = Place::Ringing;
+                notes.push(Note::Accept);
+            }
+            Place::Ringing | Place::Refusing => {
+                self.place = Place::Closed;
+                notes.push(Note::Over);
+            }
+            Place::Closed => unreachable!(),
+        }
+        notes
+    }
+
+    /// Forgets the offer, the frames and the entries: a session begins.
+    pub fn reset(&mut self)
+        ensures value { self.new ≡ fresh_sender self.old.sizes self.old.own self.old.theirs self.old.target self.old.vector }
+        ensures stands { (who : Who) (end : End) → IsMadeFor self.old who → IsFreshSession who end → StandsAt self.new who end laws.Closed }
+    {
+        self.accepted = 0;
+        self.slots.reset();
+        self.entries.fill(0);
+        self.length = 0;
+        self.place = Place::Closed;
+    }
+
+    /// The read of a word of the other's section.
+    fn read(&self, word: u32) -> Access
+        requires { 4 * word + 4 ≤ self.now.sizes.out }
+        ensures { result ≡ Access.Read (self.now.theirs + word) }
+    {
+        Access::Read(self.theirs + word)
+    }
+
+    /// The write of a word of the own section.
+    fn write(&self, word: u32, value: u32) -> Access
+        requires { 4 * word + 4 ≤ self.now.sizes.out }
+        ensures { result ≡ Access.Write (self.now.own + word) value }
+    {
+        Access::Write(self.own + word, value)
+    }
+
+    /// How many frames were freed, modulo 65,536.
+    fn freed(&self) -> u16
+        ensures { result ≡ (self.now.accepted + 65536 - self.now.in_flight) % 65536 }
+    {
+        self.accepted.wrapping_sub(self.slots.in_flight() as u16)
+    }
+
+    /// Word `at` of the frame in hand: bytes behind its last are 0.
+    fn frame_word(&self, at: u32) -> u32
+        requires { at < words_for (length self.now.frame) }
+        ensures { result ≡ frame_word self.now.frame at }
+    {
+        let length = self.length as usize;
+        let start = 4 * at as usize;
+        word_of(&self.buffer[start..length.min(start + 4)])
+    }
+
+    /// The place in the ring of the next entry.
+    fn entry(&self) -> u32
+        ensures { result ≡ self.now.accepted % size_of self.now.sizes }
+    {
+        u32::from(self.accepted) % self.queue.size()
+    }
+
+    /// The word of the next entry, where that entry names this descriptor: its other half is the neighbour's.
+    fn entry_word(&self, descriptor: u32) -> u32
+        requires { descriptor < limit_of self.now.sizes }
+        ensures { result ≡ entry_word_of self.now descriptor }
+    {
+        let entry = self.entry();
+        let word = self.entries[(entry / 2) as usize];
+        if entry.is_multiple_of(2) {
+            word / 65_536 * 65_536 + descriptor
+        } else {
+            word % 65_536 + 65_536 * descriptor
+        }
+    }
+
+    /// Takes the used index.
+    fn took_index(&mut self, value: u32) -> Notes
+        requires { self.old.place ≡ Place.AtUsedIndex }
+        ensures { Takes self.old value result.items self.new }
+    {
+        let index = (value / 65_536) as u16;
+        let freed = self.freed();
+        let in_flight = self.slots.in_flight();
+        match self.queue.check_used(freed, index, in_flight) {
+            Ok(count) => {
+                let mut notes = Notes::new();
+                notes.push(Note::Reclaim(count));
+                self.place = behind_ids(&mut self.slots, self.length, count);
+                if let Place::Closed = self.place {
+                    notes.push(Note::Full);
+                }
+                notes
+            }
+            Err(refused) => self.refuses(refused),
+        }
+    }
+
+    /// Takes the id of the oldest frame in flight.
+    fn took_id(&mut self, more: u32, id: u32) -> Notes
+        requires { self.old.place ≡ Place.AtUsedId more }
+        ensures { Takes self.old id result.items self.new }
+    {
+        let oldest = self.slots.oldest();
+        if let Err(refused) = self.queue.check_id(oldest, id) {
+            return self.refuses(refused);
+        }
+        let mut notes = Notes::new();
+        // The slots are all of one size, so the frame's length doesn't count.
+        self.slots.free(0);
+        self.place = behind_ids(&mut self.slots, self.length, more);
+        if let Place::Closed = self.place {
+            notes.push(Note::Full);
+        }
+        notes
+    }
+
+    /// Goes on to the State step of a refusal.
+    fn refuses(&mut self, refused: Refused) -> Notes
+        ensures note { result.items ≡ Note.Refuse refused ∷ [] }
+        ensures value { self.new ≡ record self.old { place = Place.Refusing } }
+    {
+        let mut notes = Notes::new();
+        notes.push(Note::Refuse(refused));
+        self.place = Place::Refusing;
+        notes
+    }
+}
+
+/// Copies a frame to the front of the buffer.
+fn put_first(buffer: &mut [u8], frame: &[u8])
+    requires { length frame.now ≤ length buffer.old }
+    ensures { take (length frame.now) buffer.new ≡ frame.now }
+{
+    buffer[..frame.len()].copy_from_slice(frame);
+}
+
+/// Law: a closed sender stands for an end as long as its session goes on: Ticks, Stops and Polls change nothing of it.
+pub fn closed_stays()
+    ensures { ClosedStays }
+{}

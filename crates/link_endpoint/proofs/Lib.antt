@@ -1,0 +1,9 @@
+pub mod Opening
+pub mod Setting
+pub mod Notes
+pub mod Going
+pub mod Stepping
+pub mod Sending
+pub mod Receiving
+pub mod Seen
+pub mod Starting

@@ -1,0 +1,129 @@
+-- A step of the receiver.
+use Rattle.std.proofs.Common.{◌≡◌, ℕ, ◌+◌, ◌%◌, ◌<◌, Bool, true, false, Some, None, List, length, refl, subst, ap, sym, ◌∙◌, All, arith}
+use Rattle.std.proofs.lemmas.Grind.{common_steps}
+use Rattle.split_ring.specs.Layout.{size_of, limit_of, word_place, Entry}
+use Rattle.split_ring.specs.declared.ranges.Refused.{Refused}
+use Rattle.split_ring.specs.declared.steps.Note.{Note}
+use Rattle.link_laws.specs.Steps.{marks_of}
+use Rattle.link_laws.specs.Ends.{End, end_behind}
+use Rattle.link_laws.specs.Calls.{Who}
+use Rattle.link_laws.specs.Places as places
+use Rattle.tx_engine.specs.Sender.{Sender}
+use Rattle.tx_engine.specs.Stands as tx
+use Rattle.tx_engine.specs.declared.place.Place as tx_places
+use Rattle.tx_engine.specs.declared.place.Place.TheVariants as tx_place
+use Rattle.rx_engine.specs.Receiver.{Receiver}
+use Rattle.rx_engine.specs.Stands as rx
+use Rattle.link_endpoint.specs.declared.place.Place.TheVariants.{Closed, Refusing, Polling}
+use Rattle.link_endpoint.specs.Engine.{Engine, is_down, is_down_at, refused_behind, IsNoteAt, offered, delivered}
+use Rattle.link_endpoint.specs.Stands.{StandsAt, IsAt, Takes, in_hand}
+use Rattle.link_endpoint.proofs.Opening.{at_place}
+use Rattle.link_endpoint.proofs.Notes.{IsOfPoll, poll_notes, poll_marks, refused_again, refused_kept}
+use Rattle.link_endpoint.proofs.Going.{poll_step, poll_at, goes_on_open, closed_is}
+use Rattle.link_endpoint.proofs.Stepping.{IsNoted, refused_place, refused_mark, refused_standing, kept_place, kept_standing}
+
+-- a sender without an open offer goes on standing for an end whose session goes on
+sender_stays_at : (p : tx_places.Place) (sender : Sender) (who : Who) (end other : End) → tx.IsAt p sender who end places.Closed →
+    other.accepted ≡ end.accepted → other.freed ≡ end.freed →
+    ((k : ℕ) → k < size_of who.sizes → other.written (who.own + word_place who.sizes (Entry k)) ≡ end.written (who.own + word_place who.sizes (Entry k))) →
+    other.handshake.phase ≡ end.handshake.phase → tx.IsAt p sender who other places.Closed
+sender_stays_at tx_place.Closed sender who end other at accepted freed entries phase = (
+  refl,
+  λ session.
+      let old = at.1 (ap tx.has_session (sym phase) ∙ session) in
+      let count = ap (λ frames. length frames) (sym accepted) in
+      record {
+        accepted = old.accepted ∙ ap (λ n. n % 65536) count;
+        next = old.next ∙ ap (λ n. n % limit_of who.sizes) count;
+        in_flight = ap (λ n. n + sender.in_flight) freed ∙ old.in_flight ∙ count;
+        copy = λ k below. entries k below ∙ old.copy k below;
+      },
+)
+sender_stays_at _ sender who end other at accepted freed entries phase = absurd (grind (arith, common_steps))
+
+-- what the receiver's step says of an end for which the endpoint stands
+record Received (old : Engine) (value : ℕ) (notes : List Note) (next : Receiver) (who : Who) (end : End) (place : places.Place) : Type 0 where
+  noted : IsNoted next.frame notes who end place value
+  frames : All (IsNoteAt Polling) notes
+  sender : tx.StandsAt old.sender who (end_behind end (places.step_at who place value)) places.Closed
+  receiver : rx.StandsAt next who (end_behind end (places.step_at who place value)) (places.next_place who place value)
+
+received : (old : Engine) (value : ℕ) (notes : List Note) (next : Receiver) (who : Who) (end : End) (place : places.Place) →
+    old.place ≡ Polling → rx.Takes old.receiver value notes next → StandsAt old who end place → Received old value notes next who end place
+received old value notes next who end place polls took stands =
+    let a : IsAt Polling old who end place = at_place Polling old who end place polls stands in
+    let step = poll_step who end place value (poll_at old.receiver who end place a.2 a.0) in
+    let taken = took who end place a.2 in
+    let marks : marks_of next.frame notes ≡ places.marks_at who place value = taken.marks in
+    record {
+      noted = record { step = step.step; marks = marks };
+      frames = poll_notes next.frame notes (subst (All IsOfPoll) (sym marks) step.marks);
+      sender = record { made = a.1.made; at = sender_stays_at old.sender.place old.sender who end _ a.1.at step.accepted step.freed step.entries step.step.phase };
+      receiver = taken.stands;
+    }
+
+-- the step of an endpoint, which stands for some end
+takes : (old new : Engine) (value : ℕ) (notes : List Note) (next : Receiver) (who : Who) (end : End) (place : places.Place) →
+    old.place ≡ Polling → rx.Takes old.receiver value notes next → StandsAt old who end place →
+    ((w : Who) (e : End) (p : places.Place) → StandsAt old w e p → Received old value notes next w e p → StandsAt new w (end_behind e (places.step_at w p value)) (places.next_place w p value)) →
+    new.who ≡ old.who → new.refused ≡ refused_behind notes old.refused → new.receiver ≡ next → new.sender ≡ old.sender →
+    is_down new ≡ false → Takes old value notes new
+takes old new value notes next who end place polls took stands goes same refused receiver sender down =
+    let frames = (received old value notes next who end place polls took stands).frames in
+    let frame : delivered new ≡ next.frame = ap (λ r. r.frame) receiver in
+    let hand = ap (λ p. in_hand p (offered old) (delivered new)) polls ∙ frame in
+    record {
+      marks = λ w e p at. ap (λ f. marks_of f notes) hand ∙ (received old value notes next w e p polls took at).noted.marks;
+      marked = λ w e p at. poll_marks (offered old) (delivered new) notes frames ∙ ap (λ f. marks_of f notes) frame ∙ (received old value notes next w e p polls took at).noted.marks;
+      frames = subst (λ p. All (IsNoteAt p) notes) (sym polls) frames;
+      stands = λ w e p at. goes w e p at (received old value notes next w e p polls took at);
+      who = same;
+      refused = refused;
+      offered = λ opened. ap (λ s. s.frame) sender;
+      down = down;
+    }
+
+-- the step refused a value
+pub takes_refused : (old : Engine) (value : ℕ) (notes : List Note) (next : Receiver) (refused : Refused) (who : Who) (end : End) (place : places.Place) →
+    old.place ≡ Polling → rx.Takes old.receiver value notes next → StandsAt old who end place → refused_behind notes None ≡ Some refused →
+    Takes old value notes (record old { refused = Some refused; place = Refusing; receiver = next })
+takes_refused old value notes next refused who end place polls took stands found =
+    takes old _ value notes next who end place polls took stands
+    (λ w e p at s. record {
+      made = at.made;
+      standing = refused_standing old next.frame notes refused w e p value at s.noted found;
+      at = (refused_place next.frame notes refused w e p value s.noted found, refused_mark next.frame notes refused w e p value s.noted found);
+    })
+    refl (sym (refused_again notes old.refused refused found)) refl refl refl
+
+-- the poll is over where the new receiver isn't busy
+pub takes_end : (old : Engine) (value : ℕ) (notes : List Note) (next : Receiver) (busy : Bool) (who : Who) (end : End) (place : places.Place) →
+    old.place ≡ Polling → rx.Takes old.receiver value notes next → StandsAt old who end place → refused_behind notes None ≡ None →
+    ((w : Who) (e : End) (p : places.Place) → rx.StandsAt next w e p → busy ≡ places.is_open p) → busy ≡ false →
+    Takes old value notes (record old { place = Closed; receiver = next })
+takes_end old value notes next busy who end place polls took stands none busy_is over =
+    takes old _ value notes next who end place polls took stands
+    (λ w e p at s.
+    let closed = closed_is (places.next_place w p value) (sym (busy_is w _ _ s.receiver) ∙ over) in
+    record {
+      made = at.made;
+      standing = kept_standing old next.frame notes w e p value at s.noted none;
+      at = (closed, record { sender = s.sender; receiver = subst (rx.StandsAt next w (end_behind e (places.step_at w p value))) closed s.receiver });
+    })
+    refl (sym (refused_kept notes old.refused none)) refl refl refl
+
+-- else it goes on
+pub takes_on : (old : Engine) (value : ℕ) (notes : List Note) (next : Receiver) (busy : Bool) (who : Who) (end : End) (place : places.Place) →
+    old.place ≡ Polling → rx.Takes old.receiver value notes next → StandsAt old who end place → refused_behind notes None ≡ None →
+    ((w : Who) (e : End) (p : places.Place) → rx.StandsAt next w e p → busy ≡ places.is_open p) → busy ≡ true →
+    Takes old value notes (record old { receiver = next })
+takes_on old value notes next busy who end place polls took stands none busy_is on =
+    takes old _ value notes next who end place polls took stands
+    (λ w e p at s.
+    let goes = goes_on_open (places.next_place w p value) (sym (busy_is w _ _ s.receiver) ∙ on) (kept_place next.frame notes w e p value s.noted none) in
+    record {
+      made = at.made;
+      standing = kept_standing old next.frame notes w e p value at s.noted none;
+      at = subst (λ q. IsAt q (record old { receiver = next }) w (end_behind e (places.step_at w p value)) (places.next_place w p value)) (sym polls) (goes, s.sender, s.receiver);
+    })
+    refl (sym (refused_kept notes old.refused none)) refl refl (ap is_down_at polls)

@@ -1,0 +1,76 @@
+-- An endpoint whose sender or receiver took a step.
+use Rattle.std.proofs.Common.{◌≡◌, ◌≢◌, ℕ, Option, List, refl, subst, ap, sym, ◌∙◌, arith}
+use Rattle.std.proofs.lemmas.Grind.{common_steps}
+use Rattle.std.specs.Prelude.{is_some}
+use Rattle.split_ring.specs.declared.ranges.Refused.{Refused}
+use Rattle.tx_engine.specs.Sender.{Sender}
+use Rattle.rx_engine.specs.Receiver.{Receiver}
+use Rattle.rx_engine.specs.Receiver as receiver
+use Rattle.rx_engine.specs.Stands as rx
+use Rattle.split_ring.specs.declared.steps.Note.{Note}
+use Rattle.link_laws.specs.Ends.{End, end_behind}
+use Rattle.link_laws.specs.Reach.{HasSections}
+use Rattle.link_laws.specs.Calls.{Who}
+use Rattle.link_laws.specs.Places as places
+use Rattle.link_endpoint.specs.declared.place.Place.{Place}
+use Rattle.link_endpoint.specs.declared.place.Place.TheVariants.{Refusing}
+use Rattle.link_endpoint.specs.declared.endpoint.Endpoint.TheInside.{Inside}
+use Rattle.link_endpoint.specs.Engine.{Engine}
+use Rattle.link_endpoint.specs.Kept.{seen, IsKept}
+use Rattle.link_endpoint.specs.Stands.{StandsAt, Takes}
+
+-- the sender keeps its numbers
+pub record KeepsNumbers (old new : Sender) : Type 0 where
+  pub sizes : new.sizes ≡ old.sizes
+  pub own : new.own ≡ old.own
+  pub theirs : new.theirs ≡ old.theirs
+  pub target : new.target ≡ old.target
+  pub vector : new.vector ≡ old.vector
+
+pub who_stays : (i : Inside) (next : Sender) → KeepsNumbers i.tx next → (seen i).who ≡ (seen (record i { tx = next })).who
+who_stays i next keeps = grind (arith, common_steps)
+
+pub seen_sent : (i : Inside) (next : Sender) (refused : Option Refused) (place : Place) → KeepsNumbers i.tx next →
+    record (seen i) { refused = refused; place = place; sender = next } ≡ seen (record i { refused = refused; place = place; tx = next })
+seen_sent i next refused place keeps = ap (λ (w : Who). let e : Engine = record { who = w; phase = i.handshake.phase; refused = refused; place = place; sender = next; receiver = i.rx } in e) (who_stays i next keeps)
+
+-- it is kept, where the step is one of the grammar
+pub kept_sent : (i : Inside) (next : Sender) (refused : Option Refused) (place : Place) (value : ℕ) (notes : List Note) → IsKept i → KeepsNumbers i.tx next →
+    (place ≢ Refusing → i.handshake.mark ≡ is_some refused) → Takes (seen i) value notes (seen (record i { refused = refused; place = place; tx = next })) →
+    IsKept (record i { refused = refused; place = place; tx = next })
+kept_sent i next refused place value notes kept keeps mark takes =
+    let new : Inside = record i { refused = refused; place = place; tx = next } in
+    let end : End = end_behind kept.end (places.step_at (seen i).who kept.at value) in
+    let at : places.Place = places.next_place (seen i).who kept.at value in
+    record {
+      sections = subst HasSections (who_stays i next keeps) kept.sections;
+      own_room = rw keeps.sizes kept.own_room;
+      their_room = rw (keeps.sizes, keeps.theirs) kept.their_room;
+      sender = record { sizes = refl; own = kept.sender.own ∙ sym keeps.own; theirs = refl; target = kept.sender.target ∙ sym keeps.target; vector = refl };
+      receiver = subst (rx.IsMadeFor i.rx) (who_stays i next keeps) kept.receiver;
+      mark = mark;
+      end = end;
+      at = at;
+      stands = subst (λ w. StandsAt (seen new) w end at) (who_stays i next keeps) (takes.stands (seen i).who kept.end kept.at kept.stands);
+    }
+
+pub kept_received : (i : Inside) (next : Receiver) (refused : Option Refused) (place : Place) (value : ℕ) (notes : List Note) → IsKept i → receiver.KeepsNumbers i.rx next →
+    (place ≢ Refusing → i.handshake.mark ≡ is_some refused) → Takes (seen i) value notes (seen (record i { refused = refused; place = place; rx = next })) →
+    IsKept (record i { refused = refused; place = place; rx = next })
+kept_received i next refused place value notes kept keeps mark takes = record {
+  sections = kept.sections;
+  own_room = kept.own_room;
+  their_room = kept.their_room;
+  sender = kept.sender;
+  receiver = record {
+    sizes = kept.receiver.sizes ∙ sym keeps.sizes;
+    own = kept.receiver.own ∙ sym keeps.own;
+    theirs = kept.receiver.theirs ∙ sym keeps.theirs;
+    target = kept.receiver.target ∙ sym keeps.target;
+    vector = kept.receiver.vector ∙ sym keeps.vector;
+  };
+  mark = mark;
+  end = end_behind kept.end (places.step_at (seen i).who kept.at value);
+  at = places.next_place (seen i).who kept.at value;
+  stands = takes.stands (seen i).who kept.end kept.at kept.stands;
+}

@@ -1,0 +1,110 @@
+-- A step of the sender.
+use Rattle.std.proofs.Common.{◌≡◌, ℕ, Bool, true, false, Some, None, List, refl, subst, ap, sym, ◌∙◌, All, arith}
+use Rattle.std.proofs.lemmas.Grind.{common_steps}
+use Rattle.split_ring.specs.declared.ranges.Refused.{Refused}
+use Rattle.split_ring.specs.declared.steps.Note.{Note}
+use Rattle.link_laws.specs.Steps.{marks_of}
+use Rattle.link_laws.specs.Ends.{End, end_behind}
+use Rattle.link_laws.specs.Calls.{Who}
+use Rattle.link_laws.specs.Places as places
+use Rattle.tx_engine.specs.Sender.{Sender}
+use Rattle.tx_engine.specs.Stands as tx
+use Rattle.rx_engine.specs.Receiver.{Receiver}
+use Rattle.rx_engine.specs.Stands as rx
+use Rattle.link_endpoint.specs.declared.place.Place.TheVariants.{Closed, Refusing, Offering}
+use Rattle.link_endpoint.specs.Engine.{Engine, is_down, is_down_at, refused_behind, IsNoteAt, offered, delivered}
+use Rattle.link_endpoint.specs.Stands.{StandsAt, IsAt, Takes, in_hand}
+use Rattle.link_endpoint.proofs.Opening.{at_place}
+use Rattle.link_endpoint.proofs.Notes.{IsOfOffer, offer_notes, offer_marks, refused_again, refused_kept}
+use Rattle.link_endpoint.proofs.Going.{offer_step, offer_at, goes_on_open, closed_is}
+use Rattle.link_endpoint.proofs.Stepping.{IsNoted, refused_place, refused_mark, refused_standing, kept_place, kept_standing}
+
+-- a receiver without an open poll goes on standing for an end whose session goes on
+receiver_stays : (receiver : Receiver) (who : Who) (end other : End) → rx.StandsAt receiver who end places.Closed →
+    other.delivered ≡ end.delivered → other.returned ≡ end.returned → other.handshake.phase ≡ end.handshake.phase → rx.StandsAt receiver who other places.Closed
+receiver_stays receiver who end other stands delivered returned phase = grind (arith, common_steps)
+
+-- what the sender's step says of an end for which the endpoint stands
+record Sent (old : Engine) (value : ℕ) (notes : List Note) (next : Sender) (who : Who) (end : End) (place : places.Place) : Type 0 where
+  noted : IsNoted (offered old) notes who end place value
+  frames : All (IsNoteAt Offering) notes
+  sender : tx.StandsAt next who (end_behind end (places.step_at who place value)) (places.next_place who place value)
+  receiver : rx.StandsAt old.receiver who (end_behind end (places.step_at who place value)) places.Closed
+
+sent : (old : Engine) (value : ℕ) (notes : List Note) (next : Sender) (who : Who) (end : End) (place : places.Place) →
+    old.place ≡ Offering → tx.Takes old.sender value notes next → StandsAt old who end place → Sent old value notes next who end place
+sent old value notes next who end place offers took stands =
+    let a : IsAt Offering old who end place = at_place Offering old who end place offers stands in
+    let step = offer_step who end place value (offer_at old.sender who end place a.1 a.0) in
+    let marks : marks_of (offered old) notes ≡ places.marks_at who place value = took.marks who end place a.1 in
+    record {
+      noted = record { step = step.step; marks = marks };
+      frames = offer_notes (offered old) notes (subst (All IsOfOffer) (sym marks) step.marks);
+      sender = took.stands who end place a.1;
+      receiver = receiver_stays old.receiver who end _ a.2 step.delivered step.returned step.step.phase;
+    }
+
+-- the step of an endpoint, which stands for some end
+takes : (old new : Engine) (value : ℕ) (notes : List Note) (next : Sender) (who : Who) (end : End) (place : places.Place) →
+    old.place ≡ Offering → tx.Takes old.sender value notes next → StandsAt old who end place →
+    ((w : Who) (e : End) (p : places.Place) → StandsAt old w e p → Sent old value notes next w e p → StandsAt new w (end_behind e (places.step_at w p value)) (places.next_place w p value)) →
+    new.who ≡ old.who → new.refused ≡ refused_behind notes old.refused → new.sender ≡ next →
+    is_down new ≡ false → Takes old value notes new
+takes old new value notes next who end place offers took stands goes same refused sender down =
+    let frames = (sent old value notes next who end place offers took stands).frames in
+    let hand = ap (λ p. in_hand p (offered old) (delivered new)) offers in
+    record {
+      marks = λ w e p at. ap (λ f. marks_of f notes) hand ∙ (sent old value notes next w e p offers took at).noted.marks;
+      marked = λ w e p at. offer_marks (offered old) (delivered new) notes frames ∙ (sent old value notes next w e p offers took at).noted.marks;
+      frames = subst (λ p. All (IsNoteAt p) notes) (sym offers) frames;
+      stands = λ w e p at. goes w e p at (sent old value notes next w e p offers took at);
+      who = same;
+      refused = refused;
+      offered = λ opened. ap (λ s. s.frame) sender ∙ ap (λ s. s.frame) took.kept;
+      down = down;
+    }
+
+-- the step refused a value
+pub takes_refused : (old : Engine) (value : ℕ) (notes : List Note) (next : Sender) (refused : Refused) (who : Who) (end : End) (place : places.Place) →
+    old.place ≡ Offering → tx.Takes old.sender value notes next → StandsAt old who end place → refused_behind notes None ≡ Some refused →
+    Takes old value notes (record old { refused = Some refused; place = Refusing; sender = next })
+takes_refused old value notes next refused who end place offers took stands found =
+    takes old _ value notes next who end place offers took stands
+    (λ w e p at s. record {
+      made = at.made;
+      standing = refused_standing old (offered old) notes refused w e p value at s.noted found;
+      at = (refused_place (offered old) notes refused w e p value s.noted found, refused_mark (offered old) notes refused w e p value s.noted found);
+    })
+    refl (sym (refused_again notes old.refused refused found)) refl refl
+
+-- the offer is over where the new sender isn't busy
+pub takes_end : (old : Engine) (value : ℕ) (notes : List Note) (next : Sender) (busy : Bool) (who : Who) (end : End) (place : places.Place) →
+    old.place ≡ Offering → tx.Takes old.sender value notes next → StandsAt old who end place → refused_behind notes None ≡ None →
+    ((w : Who) (e : End) (p : places.Place) → tx.StandsAt next w e p → busy ≡ places.is_open p) → busy ≡ false →
+    Takes old value notes (record old { place = Closed; sender = next })
+takes_end old value notes next busy who end place offers took stands none busy_is over =
+    takes old _ value notes next who end place offers took stands
+    (λ w e p at s.
+    let closed = closed_is (places.next_place w p value) (sym (busy_is w _ _ s.sender) ∙ over) in
+    record {
+      made = at.made;
+      standing = kept_standing old (offered old) notes w e p value at s.noted none;
+      at = (closed, record { sender = subst (tx.StandsAt next w (end_behind e (places.step_at w p value))) closed s.sender; receiver = s.receiver });
+    })
+    refl (sym (refused_kept notes old.refused none)) refl refl
+
+-- else it goes on
+pub takes_on : (old : Engine) (value : ℕ) (notes : List Note) (next : Sender) (busy : Bool) (who : Who) (end : End) (place : places.Place) →
+    old.place ≡ Offering → tx.Takes old.sender value notes next → StandsAt old who end place → refused_behind notes None ≡ None →
+    ((w : Who) (e : End) (p : places.Place) → tx.StandsAt next w e p → busy ≡ places.is_open p) → busy ≡ true →
+    Takes old value notes (record old { sender = next })
+takes_on old value notes next busy who end place offers took stands none busy_is on =
+    takes old _ value notes next who end place offers took stands
+    (λ w e p at s.
+    let goes = goes_on_open (places.next_place w p value) (sym (busy_is w _ _ s.sender) ∙ on) (kept_place (offered old) notes w e p value s.noted none) in
+    record {
+      made = at.made;
+      standing = kept_standing old (offered old) notes w e p value at s.noted none;
+      at = subst (λ q. IsAt q (record old { sender = next }) w (end_behind e (places.step_at w p value)) (places.next_place w p value)) (sym offers) (goes, s.sender, s.receiver);
+    })
+    refl (sym (refused_kept notes old.refused none)) refl (ap is_down_at offers)

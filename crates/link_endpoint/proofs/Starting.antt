@@ -1,0 +1,29 @@
+-- An endpoint at its start.
+use Rattle.std.proofs.Common.{[], refl}
+use Rattle.link_laws.specs.Ends.{fresh}
+use Rattle.link_laws.specs.Calls.{Who}
+use Rattle.link_laws.specs.Places as places
+use Rattle.link_endpoint.specs.Engine.{fresh_engine}
+use Rattle.link_endpoint.specs.Stands.{StandsAt}
+
+-- it stands for a fresh end
+pub fresh_stands : (who : Who) → StandsAt (fresh_engine who) who fresh places.Closed
+fresh_stands who = record {
+  made = refl;
+  standing = refl;
+  at = (
+    refl,
+    record {
+      sender = record { made = record { sizes = refl; own = refl; theirs = refl; target = refl; vector = refl }; at = (refl, λ session. absurd (cc)) };
+      receiver = record {
+        made = record { sizes = refl; own = refl; theirs = refl; target = refl; vector = refl };
+        busy = λ busy. absurd (cc);
+        session = λ session. absurd (cc);
+        read = [];
+        read_count = refl;
+        gathered = refl;
+        place_is = refl;
+      };
+    },
+  );
+}

@@ -1,0 +1,24 @@
+use Rattle.std.proofs.Common.{◌≡◌, arith}
+use Rattle.std.proofs.lemmas.Grind.{common_steps}
+use Rattle.link_laws.specs.Places as places
+use Rattle.link_laws.specs.Calls.{Poll}
+use Rattle.link_endpoint.proofs.Opening.{closed_at}
+use Rattle.link_endpoint.specs.Kept.{seen}
+use Rattle.link_endpoint.proofs.endpoint.Endpoint.begin.Goals as goal
+
+pub invariant_of-self-then-eq : goal.invariant_of-self-then-eq
+invariant_of-self-then-eq c =
+    let kept = c.self.invariant in
+    let who = (seen c.self.inside).who in
+    let closed : kept.at ≡ places.Closed = closed_at (seen c.self.inside) who kept.end kept.at (grind (arith, common_steps)) kept.stands in
+    record {
+      sections = kept.sections;
+      own_room = kept.own_room;
+      their_room = kept.their_room;
+      sender = kept.sender;
+      receiver = grind (arith, common_steps);
+      mark = grind (arith, common_steps);
+      end = kept.end;
+      at = places.first_place who kept.end Poll;
+      stands = grind (arith, common_steps);
+    }

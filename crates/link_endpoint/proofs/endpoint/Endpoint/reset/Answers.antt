@@ -1,0 +1,20 @@
+use Rattle.std.proofs.Common.{arith}
+use Rattle.std.proofs.lemmas.Grind.{common_steps}
+use Rattle.link_laws.specs.Ends.{after_reset}
+use Rattle.link_laws.specs.Places as places
+use Rattle.link_endpoint.proofs.endpoint.Endpoint.reset.Goals as goal
+
+pub invariant_of-self : goal.invariant_of-self
+invariant_of-self c =
+    let kept = c.self.invariant in
+    record {
+      sections = grind (arith, common_steps);
+      own_room = grind (arith, common_steps);
+      their_room = grind (arith, common_steps);
+      sender = grind (arith, common_steps);
+      receiver = grind (arith, common_steps);
+      mark = grind (arith, common_steps);
+      end = after_reset kept.end;
+      at = places.Closed;
+      stands = grind (arith, common_steps);
+    }

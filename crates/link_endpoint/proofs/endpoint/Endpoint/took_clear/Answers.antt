@@ -1,0 +1,22 @@
+use Rattle.std.proofs.Common.{arith}
+use Rattle.std.proofs.lemmas.Grind.{common_steps}
+use Rattle.link_laws.specs.Ends.{end_behind}
+use Rattle.link_laws.specs.Places as places
+use Rattle.link_endpoint.specs.Kept.{seen}
+use Rattle.link_endpoint.proofs.endpoint.Endpoint.took_clear.Goals as goal
+
+pub invariant_of-self : goal.invariant_of-self
+invariant_of-self c =
+    let kept = c.self.invariant in
+    let who = (seen c.self.inside).who in
+    record {
+      sections = kept.sections;
+      own_room = kept.own_room;
+      their_room = kept.their_room;
+      sender = kept.sender;
+      receiver = kept.receiver;
+      mark = grind (arith, common_steps);
+      end = end_behind kept.end (places.step_at who kept.at 0);
+      at = places.next_place who kept.at 0;
+      stands = grind (arith, common_steps);
+    }

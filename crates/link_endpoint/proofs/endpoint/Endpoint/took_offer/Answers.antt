@@ -1,0 +1,57 @@
+use Rattle.std.proofs.Common.{◌≡◌, subst, ap, sym, ◌∙◌, refl, None, Some, arith}
+use Rattle.std.proofs.lemmas.Grind.{common_steps}
+use Rattle.link_endpoint.specs.declared.place.Place.TheVariants.{Closed, Refusing, Offering}
+use Rattle.link_endpoint.specs.Engine.{refused_behind}
+use Rattle.link_endpoint.specs.Kept.{seen}
+use Rattle.link_endpoint.specs.Stands.{Takes}
+use Rattle.link_endpoint.proofs.Seen.{KeepsNumbers, seen_sent, kept_sent}
+use Rattle.link_endpoint.proofs.Sending.{takes_refused, takes_end, takes_on}
+use Rattle.link_endpoint.proofs.endpoint.Endpoint.took_offer.Goals as goal
+
+-- a value was refused
+refused : (c : goal.After-self-in-Some-1) → KeepsNumbers c.self.inside.tx c.took-notes.new.self × Takes (seen c.self.inside) c.args.value c.took-notes.result.items (seen (record (c.self.inside) { refused = Some c.in-Some.refused; place = Refusing; tx = c.took-notes.new.self }))
+refused c =
+    let i = c.self.inside in
+    let kept = c.self.invariant in
+    let keeps : KeepsNumbers i.tx c.took-notes.new.self = grind (arith, common_steps, c.took-notes.ensures.kept) in
+    let found : refused_behind c.took-notes.result.items None ≡ Some c.in-Some.refused = ap (λ n. refused_behind n None) (sym c.as_slice.ensures.value) ∙ sym c.refused_in.ensures ∙ c.in-Some.is in
+    let offers : i.place ≡ Offering = grind (arith, common_steps) in
+    let taken = takes_refused (seen i) c.args.value c.took-notes.result.items c.took-notes.new.self c.in-Some.refused (seen i).who kept.end kept.at offers c.took-notes.ensures kept.stands found in
+    (keeps, subst (λ e. Takes (seen i) c.args.value c.took-notes.result.items e) (seen_sent i c.took-notes.new.self (Some c.in-Some.refused) Refusing keeps) taken)
+
+pub returns-in-Some : goal.returns-in-Some
+returns-in-Some c = rw (← c.self.view_is) (refused c).1
+
+pub invariant_of-self : goal.invariant_of-self
+invariant_of-self c = kept_sent c.self.inside _ _ Refusing c.args.value c.took-notes.result.items c.self.invariant (refused c).0 (λ other. absurd (other refl)) (refused c).1
+
+-- the offer is over
+over : (c : goal.After-self-then-not-busy-1) → KeepsNumbers c.self.inside.tx c.took-notes.new.self × Takes (seen c.self.inside) c.args.value c.took-notes.result.items (seen (record (c.self.inside) { place = Closed; tx = c.took-notes.new.self }))
+over c =
+    let i = c.self.inside in
+    let kept = c.self.invariant in
+    let keeps : KeepsNumbers i.tx c.took-notes.new.self = grind (arith, common_steps, c.took-notes.ensures.kept) in
+    let none : refused_behind c.took-notes.result.items None ≡ None = ap (λ n. refused_behind n None) (sym c.as_slice.ensures.value) ∙ sym c.refused_in.ensures ∙ c.in_default.is in
+    let offers : i.place ≡ Offering = grind (arith, common_steps) in
+    let taken = takes_end (seen i) c.args.value c.took-notes.result.items c.took-notes.new.self c.busy.result (seen i).who kept.end kept.at offers c.took-notes.ensures kept.stands none c.busy.ensures.place c.if-not-busy.true in
+    (keeps, subst (λ e. Takes (seen i) c.args.value c.took-notes.result.items e) (seen_sent i c.took-notes.new.self i.refused Closed keeps) taken)
+
+pub returns-then-not-busy : goal.returns-then-not-busy
+returns-then-not-busy c = rw (← c.self.view_is) (over c).1
+
+-- the offer goes on
+going : (c : goal.Else-not-busy) → KeepsNumbers c.self.inside.tx c.took-notes.new.self × Takes (seen c.self.inside) c.args.value c.took-notes.result.items (seen (record (c.self.inside) { tx = c.took-notes.new.self }))
+going c =
+    let i = c.self.inside in
+    let kept = c.self.invariant in
+    let keeps : KeepsNumbers i.tx c.took-notes.new.self = grind (arith, common_steps, c.took-notes.ensures.kept) in
+    let none : refused_behind c.took-notes.result.items None ≡ None = ap (λ n. refused_behind n None) (sym c.as_slice.ensures.value) ∙ sym c.refused_in.ensures ∙ c.in_default.is in
+    let offers : i.place ≡ Offering = grind (arith, common_steps) in
+    let taken = takes_on (seen i) c.args.value c.took-notes.result.items c.took-notes.new.self c.busy.result (seen i).who kept.end kept.at offers c.took-notes.ensures kept.stands none c.busy.ensures.place c.if-not-busy.false in
+    (keeps, subst (λ e. Takes (seen i) c.args.value c.took-notes.result.items e) (seen_sent i c.took-notes.new.self i.refused i.place keeps) taken)
+
+pub returns-else-not-busy : goal.returns-else-not-busy
+returns-else-not-busy c = rw (← c.self.view_is) (going c).1
+
+pub invariant_of-self-else-not-busy : goal.invariant_of-self-else-not-busy
+invariant_of-self-else-not-busy c = kept_sent c.self.inside _ _ c.self.inside.place c.args.value c.took-notes.result.items c.self.invariant (going c).0 c.self.invariant.mark (going c).1

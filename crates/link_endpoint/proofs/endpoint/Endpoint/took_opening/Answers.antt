@@ -1,0 +1,35 @@
+use Rattle.std.proofs.Common.{◌≡◌, ℕ, [], ◌∷◌, subst, arith}
+use Rattle.std.proofs.lemmas.Grind.{common_steps}
+use Rattle.split_ring.specs.declared.steps.Note.TheVariants as note
+use Rattle.link_laws.specs.Ends.{end_behind}
+use Rattle.link_laws.specs.Places as places
+use Rattle.link_endpoint.specs.declared.place.Place.TheVariants.{Closed}
+use Rattle.link_endpoint.specs.Engine.{Engine}
+use Rattle.link_endpoint.specs.Kept.{seen}
+use Rattle.link_endpoint.specs.Stands.{StandsAt, Takes}
+use Rattle.link_endpoint.proofs.Setting.{opens_session}
+use Rattle.link_endpoint.proofs.endpoint.Endpoint.took_opening.Goals as goal
+
+taken : (c : goal.After-noted) (value : ℕ) → Takes (seen c.self.inside) value (note.Over ∷ []) (seen (record (c.self.inside) { handshake = c.enter.new.self; place = Closed; tx = c.reset.new.self; rx = c.reset-2.new.self }))
+taken c value = opens_session (seen c.self.inside) _ value c.self.invariant.sections (grind (arith, common_steps)) (grind (arith, common_steps)) c.reset.ensures.stands c.reset-2.ensures.stands
+
+pub returns : goal.returns
+returns c = λ value. rw (← c.self.view_is, c.noted.ensures) (taken c value)
+
+pub invariant_of-self : goal.invariant_of-self
+invariant_of-self c =
+    let kept = c.self.invariant in
+    let who = (seen c.self.inside).who in
+    let new : Engine = seen (record (c.self.inside) { handshake = c.enter.new.self; place = Closed; tx = c.reset.new.self; rx = c.reset-2.new.self }) in
+    let same : who ≡ new.who = grind (arith, common_steps) in
+    record {
+      sections = grind (arith, common_steps);
+      own_room = grind (arith, common_steps);
+      their_room = grind (arith, common_steps);
+      sender = grind (arith, common_steps);
+      receiver = grind (arith, common_steps);
+      mark = grind (arith, common_steps);
+      end = end_behind kept.end (places.step_at who kept.at 0);
+      at = places.next_place who kept.at 0;
+      stands = subst (λ w. StandsAt new w (end_behind kept.end (places.step_at who kept.at 0)) (places.next_place who kept.at 0)) same ((taken c 0).stands who kept.end kept.at kept.stands);
+    }

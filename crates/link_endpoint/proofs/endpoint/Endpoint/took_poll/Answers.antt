@@ -1,0 +1,54 @@
+use Rattle.std.proofs.Common.{◌≡◌, ap, sym, ◌∙◌, refl, None, Some, arith}
+use Rattle.std.proofs.lemmas.Grind.{common_steps}
+use Rattle.link_endpoint.specs.declared.place.Place.TheVariants.{Closed, Refusing, Polling}
+use Rattle.link_endpoint.specs.Engine.{refused_behind}
+use Rattle.link_endpoint.specs.Kept.{seen}
+use Rattle.link_endpoint.specs.Stands.{Takes}
+use Rattle.link_endpoint.proofs.Seen.{kept_received}
+use Rattle.link_endpoint.proofs.Receiving.{takes_refused, takes_end, takes_on}
+use Rattle.link_endpoint.proofs.endpoint.Endpoint.took_poll.Goals as goal
+
+-- a value was refused
+refused : (c : goal.After-self-in-Some-1) → Takes (seen c.self.inside) c.args.value c.took-notes.result.items (seen (record (c.self.inside) { refused = Some c.in-Some.refused; place = Refusing; rx = c.took-notes.new.self }))
+refused c =
+    let i = c.self.inside in
+    let kept = c.self.invariant in
+    let found : refused_behind c.took-notes.result.items None ≡ Some c.in-Some.refused = ap (λ n. refused_behind n None) (sym c.as_slice.ensures.value) ∙ sym c.refused_in.ensures ∙ c.in-Some.is in
+    let polls : i.place ≡ Polling = grind (arith, common_steps) in
+    takes_refused (seen i) c.args.value c.took-notes.result.items c.took-notes.new.self c.in-Some.refused (seen i).who kept.end kept.at polls c.took-notes.ensures.steps kept.stands found
+
+pub returns-in-Some : goal.returns-in-Some
+returns-in-Some c = rw (← c.self.view_is) (refused c)
+
+pub invariant_of-self : goal.invariant_of-self
+invariant_of-self c = kept_received c.self.inside _ _ Refusing c.args.value c.took-notes.result.items c.self.invariant c.took-notes.ensures.kept (λ other. absurd (other refl)) (refused c)
+
+-- the poll is over
+over : (c : goal.After-self-then-not-busy-1) → Takes (seen c.self.inside) c.args.value c.took-notes.result.items (seen (record (c.self.inside) { place = Closed; rx = c.took-notes.new.self }))
+over c =
+    let i = c.self.inside in
+    let kept = c.self.invariant in
+    let none : refused_behind c.took-notes.result.items None ≡ None = ap (λ n. refused_behind n None) (sym c.as_slice.ensures.value) ∙ sym c.refused_in.ensures ∙ c.in_default.is in
+    let polls : i.place ≡ Polling = grind (arith, common_steps) in
+    takes_end (seen i) c.args.value c.took-notes.result.items c.took-notes.new.self c.busy.result (seen i).who kept.end kept.at polls c.took-notes.ensures.steps kept.stands none c.busy.ensures.open c.if-not-busy.true
+
+pub returns-then-not-busy : goal.returns-then-not-busy
+returns-then-not-busy c = rw (← c.self.view_is) (over c)
+
+-- the poll goes on
+going : (c : goal.Else-not-busy) → Takes (seen c.self.inside) c.args.value c.took-notes.result.items (seen (record (c.self.inside) { rx = c.took-notes.new.self }))
+going c =
+    let i = c.self.inside in
+    let kept = c.self.invariant in
+    let none : refused_behind c.took-notes.result.items None ≡ None = ap (λ n. refused_behind n None) (sym c.as_slice.ensures.value) ∙ sym c.refused_in.ensures ∙ c.in_default.is in
+    let polls : i.place ≡ Polling = grind (arith, common_steps) in
+    takes_on (seen i) c.args.value c.took-notes.result.items c.took-notes.new.self c.busy.result (seen i).who kept.end kept.at polls c.took-notes.ensures.steps kept.stands none c.busy.ensures.open c.if-not-busy.false
+
+pub returns-else-not-busy : goal.returns-else-not-busy
+returns-else-not-busy c = rw (← c.self.view_is) (going c)
+
+pub invariant_of-self-else-not-busy : goal.invariant_of-self-else-not-busy
+invariant_of-self-else-not-busy c = kept_received c.self.inside _ _ c.self.inside.place c.args.value c.took-notes.result.items c.self.invariant c.took-notes.ensures.kept c.self.invariant.mark (going c)
+
+pub invariant_of-self-then-not-busy : goal.invariant_of-self-then-not-busy
+invariant_of-self-then-not-busy c = kept_received c.self.inside _ _ Closed c.args.value c.took-notes.result.items c.self.invariant c.took-notes.ensures.kept (λ other. c.self.invariant.mark (grind (arith, common_steps))) (over c)

@@ -1,0 +1,21 @@
+use Rattle.std.proofs.Common.{arith}
+use Rattle.std.proofs.lemmas.Grind.{common_steps}
+use Rattle.link_laws.specs.Ends.{end_behind}
+use Rattle.link_laws.specs.Places as places
+use Rattle.link_endpoint.specs.Kept.{seen}
+use Rattle.link_endpoint.proofs.endpoint.Endpoint.took_refusal.Goals as goal
+
+pub invariant_of-self : goal.invariant_of-self
+invariant_of-self c =
+    let kept = c.self.invariant in
+    record {
+      sections = grind (arith, common_steps);
+      own_room = grind (arith, common_steps);
+      their_room = grind (arith, common_steps);
+      sender = grind (arith, common_steps);
+      receiver = grind (arith, common_steps);
+      mark = grind (arith, common_steps);
+      end = end_behind kept.end (places.step_at (seen c.self.inside).who kept.at 0);
+      at = places.Closed;
+      stands = grind (arith, common_steps);
+    }

@@ -1,0 +1,32 @@
+use Rattle.std.proofs.Common.{ℕ, [], ◌∷◌, arith}
+use Rattle.std.proofs.lemmas.Grind.{common_steps}
+use Rattle.split_ring.specs.declared.steps.Note.TheVariants as note
+use Rattle.link_laws.specs.Ends.{end_behind}
+use Rattle.link_laws.specs.Places as places
+use Rattle.link_endpoint.specs.declared.place.Place.TheVariants.{Closed}
+use Rattle.link_endpoint.specs.Kept.{seen}
+use Rattle.link_endpoint.specs.Stands.{Takes}
+use Rattle.link_endpoint.proofs.Setting.{sets_other}
+use Rattle.link_endpoint.proofs.endpoint.Endpoint.took_set.Goals as goal
+
+taken : (c : goal.After-noted) (value : ℕ) → Takes (seen c.self.inside) value (note.Over ∷ []) (record (seen c.self.inside) { phase = c.enter.new.self.phase; place = Closed })
+taken c value = sets_other (seen c.self.inside) _ c.args.state value (grind (arith, common_steps)) c.if-state-eq2.false (grind (arith, common_steps))
+
+pub returns : goal.returns
+returns c = λ value. rw (← c.self.view_is, c.noted.ensures) (taken c value)
+
+pub invariant_of-self : goal.invariant_of-self
+invariant_of-self c =
+    let kept = c.self.invariant in
+    let who = (seen c.self.inside).who in
+    record {
+      sections = kept.sections;
+      own_room = kept.own_room;
+      their_room = kept.their_room;
+      sender = kept.sender;
+      receiver = kept.receiver;
+      mark = grind (arith, common_steps);
+      end = end_behind kept.end (places.step_at who kept.at 0);
+      at = places.next_place who kept.at 0;
+      stands = (taken c 0).stands who kept.end kept.at kept.stands;
+    }

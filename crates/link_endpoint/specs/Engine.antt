@@ -1,0 +1,111 @@
+-- An endpoint as contracts see it.
+use Rattle.std.specs.Prelude.{ℕ, ◌==◌, Bool, true, false, if◌then◌else◌, Option, Some, None, is_some, List, [], ◌∷◌}
+use Rattle.section_map.specs.Geometry.{Shape, section_start}
+use Rattle.split_ring.specs.Layout.{Sizes}
+use Rattle.split_ring.specs.declared.ranges.Refused.{Refused}
+use Rattle.split_ring.specs.declared.steps.Note.{Note}
+use Rattle.split_ring.specs.declared.steps.Note.TheVariants as note
+use Rattle.link_handshake.specs.declared.Phase.{Phase}
+use Rattle.link_handshake.specs.declared.Phase.TheVariants.{Reset, Init, Ready, Run}
+use Rattle.link_handshake.specs.Standing.{Standing}
+use Rattle.link_laws.specs.Calls.{Who}
+use Rattle.link_laws.specs.Calls as calls
+use Rattle.tx_engine.specs.Sender.{Sender, fresh_sender}
+use Rattle.rx_engine.specs.Receiver.{Receiver, fresh_receiver}
+use Rattle.link_endpoint.specs.declared.place.Call.{Call}
+use Rattle.link_endpoint.specs.declared.place.Call.TheVariants.{Tick, Poll, Stop}
+use Rattle.link_endpoint.specs.declared.place.Place.{Place}
+use Rattle.link_endpoint.specs.declared.place.Place.TheVariants.{Closed, Downed, Offering, Polling}
+
+-- the two ends of the link are peers 0 and 1 (profile)
+abbrev pub partner : ℕ → ℕ
+partner peer = if peer == 0 then 1 else 0
+
+-- a peer of a region, as the call grammar sees it: the first words of the two sections, the words and the sizes of each, and the vector of its doorbells
+abbrev pub who_of : Shape → Sizes → (me traffic : ℕ) → Who
+who_of shape sizes me traffic = record {
+  me = me;
+  other = partner me;
+  own = section_start shape me;
+  theirs = section_start shape (partner me);
+  words = shape.out;
+  sizes = sizes;
+  vector = traffic;
+}
+
+-- whose end it is; its phase, and what it refused since its device was reset last; its place in the open call; its sender and its receiver
+pub record Engine : Type 0 where
+  pub who : Who
+  pub phase : Phase
+  pub refused : Option Refused
+  pub place : Place
+  pub sender : Sender
+  pub receiver : Receiver
+
+-- an endpoint at its start
+abbrev pub fresh_engine : Who → Engine
+fresh_engine who = record {
+  who = who;
+  phase = Reset;
+  refused = None;
+  place = Closed;
+  sender = fresh_sender who.sizes who.own who.theirs who.other who.vector;
+  receiver = fresh_receiver who.sizes who.own who.theirs who.other who.vector;
+}
+
+-- a call is open at each place but one
+abbrev pub is_open_at : Place → Bool
+is_open_at Closed = false
+is_open_at _ = true
+
+abbrev pub is_busy : Engine → Bool
+is_busy e = is_open_at e.place
+
+-- the open call is an offer or a poll that began outside RUN
+abbrev pub is_down_at : Place → Bool
+is_down_at Downed = true
+is_down_at _ = false
+
+abbrev pub is_down : Engine → Bool
+is_down e = is_down_at e.place
+
+-- where its handshake stands: it bears the mark where it refused something
+abbrev pub standing_of : Engine → Standing
+standing_of e = record { phase = e.phase; mark = is_some e.refused }
+
+-- the frame of the open offer
+abbrev pub offered : Engine → List ℕ
+offered e = e.sender.frame
+
+-- the frame delivered last
+abbrev pub delivered : Engine → List ℕ
+delivered e = e.receiver.frame
+
+-- the call of the grammar
+abbrev pub call_of : Call → calls.Call
+call_of Tick = calls.Tick
+call_of Poll = calls.Poll
+call_of Stop = calls.Stop
+
+-- a call is down where it is a poll outside RUN
+abbrev pub comes_down : Call → Phase → Bool
+comes_down Tick phase = false
+comes_down Poll Reset = true
+comes_down Poll Init = true
+comes_down Poll Ready = true
+comes_down Poll Run = false
+comes_down Stop phase = false
+
+-- what was refused last behind these notes
+abbrev pub refused_behind : List Note → Option Refused → Option Refused
+refused_behind [] refused = refused
+refused_behind (note.Refuse found ∷ notes) refused = refused_behind notes (Some found)
+refused_behind (_ ∷ notes) refused = refused_behind notes refused
+
+-- a note of the open call: an offer notes no frame delivered, a poll none accepted, and any other call no frame at all
+abbrev pub IsNoteAt : Place → Note → Type 0
+IsNoteAt Offering note.Accept = Unit {0}
+IsNoteAt Polling note.Deliver = Unit {0}
+IsNoteAt place note.Accept = ⊥
+IsNoteAt place note.Deliver = ⊥
+IsNoteAt place other = Unit {0}

@@ -1,0 +1,34 @@
+-- What the fields of an endpoint are, and those of an automatic peer.
+use Rattle.std.specs.Prelude.{◌≡◌, ◌≢◌, ◌+◌, ◌*◌, ◌^◌, ◌≤◌, is_some}
+use Rattle.link_laws.specs.Ends.{End}
+use Rattle.link_laws.specs.Places as places
+use Rattle.link_laws.specs.Reach.{HasSections}
+use Rattle.tx_engine.specs.Stands as tx
+use Rattle.rx_engine.specs.Stands as rx
+use Rattle.link_endpoint.specs.declared.place.Place.TheVariants.{Refusing}
+use Rattle.link_endpoint.specs.declared.endpoint.Endpoint.TheInside as endpoint
+use Rattle.link_endpoint.specs.Engine.{Engine, partner}
+use Rattle.link_endpoint.specs.Stands.{StandsAt}
+
+abbrev pub seen : endpoint.Inside → Engine
+seen i = record {
+  who = record { me = partner i.other; other = i.other; own = i.own; theirs = i.tx.theirs; words = i.words; sizes = i.tx.sizes; vector = i.tx.vector };
+  phase = i.handshake.phase;
+  refused = i.refused;
+  place = i.place;
+  sender = i.tx;
+  receiver = i.rx;
+}
+
+-- the sender and the receiver are this peer's, whose sections end at or before byte 2^24 of the region; the handshake bears the mark where something was
+-- refused, but between a refusal and its State step; and the endpoint stands for some end
+pub record IsKept (i : endpoint.Inside) : Type 0 where
+  pub sections : HasSections (seen i).who
+  pub own_room : 4 * i.own + i.tx.sizes.out ≤ 2 ^ 24
+  pub their_room : 4 * i.tx.theirs + i.tx.sizes.out ≤ 2 ^ 24
+  pub sender : tx.IsMadeFor i.tx (seen i).who
+  pub receiver : rx.IsMadeFor i.rx (seen i).who
+  pub mark : i.place ≢ Refusing → i.handshake.mark ≡ is_some i.refused
+  pub end : End
+  pub at : places.Place
+  pub stands : StandsAt (seen i) (seen i).who end at

@@ -1,0 +1,20 @@
+-- What the fields of an automatic peer are.
+use Rattle.std.specs.Prelude.{◌≤◌}
+use Rattle.link_laws.specs.Automatic.{Round}
+use Rattle.link_laws.specs.Automatic as laws
+use Rattle.link_endpoint.specs.declared.auto.Auto.TheInside.{Inside}
+use Rattle.link_endpoint.specs.declared.auto.Round as auto
+use Rattle.link_endpoint.specs.declared.auto.Round.TheVariants.{Anew, BehindOffer, BehindPoll}
+use Rattle.link_endpoint.specs.Plan.{Plan}
+
+abbrev pub round_of : auto.Round → Round
+round_of Anew = laws.Anew
+round_of BehindOffer = laws.BehindOffer
+round_of BehindPoll = laws.BehindPoll
+
+abbrev pub plan_of : Inside → Plan
+plan_of i = record { frames = i.frames.items; expected = i.expected; delivered = i.delivered; round = round_of i.round }
+
+-- no more deliveries are counted than are expected
+abbrev pub IsPlan : Inside → Type 0
+IsPlan i = i.delivered ≤ i.expected

@@ -1,0 +1,5 @@
+pub mod Engine
+pub mod Stands
+pub mod Kept
+pub mod Plan
+pub mod KeptPlan

@@ -1,0 +1,40 @@
+-- What an automatic peer has to do, as contracts see it.
+use Rattle.std.specs.Prelude.{ℕ, ◌≡◌, min, Option, Some, None, List, [], ◌∷◌}
+use Rattle.link_laws.specs.Automatic.{Round, Anew, BehindOffer, BehindPoll}
+use Rattle.link_laws.specs.Automatic as automatic
+use Rattle.link_endpoint.specs.declared.auto.Choice.{Choice}
+use Rattle.link_endpoint.specs.declared.auto.Choice.TheVariants.{Tick, Offer, Poll, Finished}
+
+-- the frames that are not accepted yet, by their bytes; how many deliveries are expected, and how many came, counted up to that number; and the round
+pub record Plan : Type 0 where
+  pub frames : List (List ℕ)
+  pub expected : ℕ
+  pub delivered : ℕ
+  pub round : Round
+
+-- a plan at its start
+abbrev pub fresh_plan : ℕ → Plan
+fresh_plan expected = record { frames = []; expected = expected; delivered = 0; round = Anew }
+
+-- so many frames were delivered in the whole run: the plan counts them up to the number expected, behind which no more make a difference
+abbrev pub HasCounted : Plan → ℕ → Type 0
+HasCounted plan count = plan.delivered ≡ min count plan.expected
+
+abbrev pub head_of : List (List ℕ) → Option (List ℕ)
+head_of [] = None
+head_of (frame ∷ frames) = Some frame
+
+-- the answer is this choice; an offer is of the first frame
+abbrev pub IsChoice : Choice → List (List ℕ) → automatic.Choice → Type 0
+IsChoice Tick frames chosen = chosen ≡ automatic.ChoosesTick
+IsChoice Offer [] chosen = ⊥
+IsChoice Offer (frame ∷ frames) chosen = chosen ≡ automatic.ChoosesOffer frame
+IsChoice Poll frames chosen = chosen ≡ automatic.ChoosesPoll
+IsChoice Finished frames chosen = chosen ≡ automatic.IsFinished
+
+-- the round behind an answer
+abbrev pub round_behind : Choice → Round → Round
+round_behind Tick round = Anew
+round_behind Offer round = BehindOffer
+round_behind Poll round = BehindPoll
+round_behind Finished round = round

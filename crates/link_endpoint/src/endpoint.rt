@@ -1,0 +1,349 @@
+//! One end of the link, which takes its calls step by step. It makes no access itself.
+ghost use Rattle.std.specs.Prelude.{◌≡◌, ℕ, ◌+◌, ◌*◌, ◌≤◌, ◌↔◌, not, is_some, None, [], ◌∷◌, true, false, IsTrue, IfOk, length};
+ghost use Rattle.link_handshake.specs.PhaseTable.{phase_at};
+ghost use Rattle.link_handshake.specs.declared.Phase.TheVariants.{Run};
+ghost use Rattle.link_laws.specs.Ends.{End, fresh, after_reset};
+ghost use Rattle.link_laws.specs.Calls.{Who, Offer, in_run};
+ghost use Rattle.link_laws.specs.Places as places;
+ghost use Rattle.link_laws.specs.Reach.{InReach};
+ghost use Rattle.link_endpoint.specs.Engine.{who_of, fresh_engine, is_busy, is_down, offered, delivered, call_of, comes_down, refused_behind};
+ghost use Rattle.link_endpoint.specs.Stands.{StandsAt, Takes, Opens};
+
+use crate::place::{Call, Place};
+use ivs_base::NoMemory;
+use link_handshake::{Handshake, Move, Phase};
+use rx_engine::Rx;
+use section_map::Geometry;
+use split_ring::steps::{Access, Note, Notes};
+use split_ring::{Queue, Refused};
+use std::alloc::Global;
+use std::marker::Model;
+use tx_engine::Tx;
+
+/// An end of the link: its handshake, its sender and its receiver, and the place in the open call.
+///
+/// A call goes on by one access a step. The endpoint makes no access itself: `next` says which one comes, and `took` is handed what it
+/// gave. Words are numbered from the base of the region.
+#[derive(Debug, Drop)]
+pub struct Endpoint {
+    other: u32,
+    own: u32,
+    words: u32,
+    handshake: Handshake,
+    refused: Option<Refused>,
+    place: Place,
+    tx: Tx,
+    rx: Rx,
+}
+
+impl Model for Endpoint {
+    ghost use Rattle.link_endpoint.specs.Engine.{Engine};
+    ghost use Rattle.link_endpoint.specs.Kept.{seen, IsKept};
+
+    ghost Value = { Engine };
+
+    ghost view = { seen };
+
+    ghost invariant = { IsKept };
+}
+
+/// The phase that a state stands for.
+fn phase_of(state: u32) -> Phase
+    ensures { result ≡ phase_at state }
+{
+    match state {
+        0 => Phase::Reset,
+        1 => Phase::Init,
+        2 => Phase::Ready,
+        _ => Phase::Run,
+    }
+}
+
+impl Endpoint {
+    /// The end of peer `me` in a region of this geometry, whose output sections hold this queue. Its doorbells have the vector
+    /// `traffic`.
+    ///
+    /// NoMemory comes only where memory ran out. No later call takes memory.
+    pub fn new(
+        alloc: Global,
+        me: u32,
+        geometry: &Geometry,
+        queue: &Queue,
+        traffic: u32,
+    ) -> Result<Endpoint, NoMemory>
+        requires peer { me ≤ 1 }
+        requires queue { queue.now.out ≡ 4 * geometry.now.out }
+        ensures value { IfOk result (λ e. e ≡ fresh_engine (who_of geometry.now queue.now me traffic)) }
+        ensures stands { IfOk result (λ e. StandsAt e (who_of geometry.now queue.now me traffic) fresh places.Closed) }
+    {
+        let words = geometry.out_words();
+        prove!(queue.out() == 4 * words);
+        let other = if me == 0 { 1 } else { 0 };
+        let own = geometry.section_start(me);
+        let theirs = geometry.section_start(other);
+        Ok(Endpoint {
+            other,
+            own,
+            words,
+            handshake: Handshake::new(),
+            refused: None,
+            place: Place::Closed,
+            tx: Tx::new(alloc, queue, own, theirs, other, traffic)?,
+            rx: Rx::new(alloc, queue, own, theirs, other, traffic)?,
+        })
+    }
+
+    /// Is a call open?
+    pub fn busy(&self) -> bool
+        ensures value { result ≡ is_busy self.now }
+        ensures open { (who : Who) (end : End) (place : places.Place) → StandsAt self.now who end place → result ≡ places.is_open place }
+    {
+        !matches!(self.place, Place::Closed)
+    }
+
+    /// The phase of the end. It changes at a State step and at a reset.
+    pub fn phase(&self) -> Phase
+        ensures value { result ≡ self.now.phase }
+        ensures end { (who : Who) (end : End) (place : places.Place) → StandsAt self.now who end place → result ≡ end.handshake.phase }
+    {
+        self.handshake.phase()
+    }
+
+    /// The value that the end refused, from the step that read it until the next reset: a Stop leaves it, and each Tick finds that
+    /// the end stays.
+    pub fn refused(&self) -> Option<Refused>
+        ensures value { result ≡ self.now.refused }
+        ensures end { (who : Who) (end : End) (place : places.Place) → StandsAt self.now who end place → is_some result ≡ end.handshake.mark }
+    {
+        self.refused
+    }
+
+    /// The frame delivered last. It is empty before the first one, while the words of the next one are read, and behind a reset, a
+    /// refusal, or the State step that opens a session.
+    pub fn delivered(&self) -> &[u8]
+        ensures { result.now ≡ delivered self.now }
+    {
+        self.rx.frame()
+    }
+
+    /// Opens a call.
+    pub fn begin(&mut self, call: Call)
+        requires { is_busy self.old ≡ false }
+        ensures stands { (who : Who) (end : End) → StandsAt self.old who end places.Closed → StandsAt self.new who end (places.first_place who end (call_of call)) }
+        ensures open { is_busy self.new ≡ true }
+        ensures down { is_down self.new ≡ comes_down call self.old.phase }
+        ensures kept { Opens self.old self.new }
+    {
+        match call {
+            Call::Tick => self.place = Place::Looking,
+            Call::Stop => self.place = Place::Setting(0),
+            Call::Poll if self.handshake.phase() == Phase::Run => {
+                self.rx.begin();
+                self.place = Place::Polling;
+            }
+            Call::Poll => self.place = Place::Downed,
+        }
+    }
+
+    /// Opens an offer of this frame, which is copied.
+    pub fn offer(&mut self, frame: &[u8])
+        requires closed { is_busy self.old ≡ false }
+        requires frame { (14 ≤ length frame.now) × (length frame.now ≤ self.old.who.sizes.mtu + 18) }
+        ensures stands { (who : Who) (end : End) → StandsAt self.old who end places.Closed → StandsAt self.new who end (places.first_place who end (Offer frame.now)) }
+        ensures open { is_busy self.new ≡ true }
+        ensures down { is_down self.new ≡ not (in_run self.old.phase) }
+        ensures frame { self.old.phase ≡ Run → offered self.new ≡ frame.now }
+        ensures kept { Opens self.old self.new }
+    {
+        if self.handshake.phase() == Phase::Run {
+            self.tx.begin(frame);
+            self.place = Place::Offering;
+        } else {
+            self.place = Place::Downed;
+        }
+    }
+
+    /// The next access of the open call: a read of the other's state or section, a write in the own section or of the own State, or a
+    /// doorbell to the other. Nothing is the one step of an offer or a poll outside RUN.
+    pub fn next(&self) -> Access
+        requires { is_busy self.now ≡ true }
+        ensures access { (who : Who) (end : End) (place : places.Place) → StandsAt self.now who end place → result ≡ places.access_at who place }
+        ensures reach { InReach self.now.who result }
+        ensures nothing { (result ≡ Access.Nothing) ↔ IsTrue (is_down self.now) }
+    {
+        match self.place {
+            Place::Looking => Access::Read(self.other),
+            Place::Clearing { at, .. } => Access::Write(at, 0),
+            Place::Setting(state) => Access::State(state),
+            Place::Refusing => Access::State(0),
+            Place::Downed => Access::Nothing,
+            Place::Offering => self.tx.next(),
+            Place::Polling => self.rx.next(),
+            Place::Closed => unreachable!(),
+        }
+    }
+
+    /// Takes the step of the access that `next` told. `value` is what a read gave; a step of another access makes no use of it.
+    ///
+    /// The frame of an Accept note is the one offered, and that of a Deliver note is `delivered`.
+    pub fn took(&mut self, value: u32) -> Notes
+        requires { is_busy self.old ≡ true }
+        ensures { Takes self.old value result.items self.new }
+    {
+        match self.place {
+            Place::Looking => self.took_state(value),
+            Place::Clearing { at, then } => self.took_clear(at, then),
+            Place::Setting(state) => self.took_set(state),
+            Place::Refusing => self.took_refusal(),
+            Place::Downed => self.took_down(),
+            Place::Offering => self.took_offer(value),
+            Place::Polling => self.took_poll(value),
+            Place::Closed => unreachable!(),
+        }
+    }
+
+    /// The end's own device was reset: the open call is cut, and what was refused is forgotten.
+    pub fn reset(&mut self)
+        ensures value { self.new ≡ fresh_engine self.old.who }
+        ensures stands { (who : Who) (end : End) (place : places.Place) → StandsAt self.old who end place → StandsAt self.new who (after_reset end) places.Closed }
+    {
+        self.handshake.reset();
+        self.refused = None;
+        self.place = Place::Closed;
+        self.tx.reset();
+        self.rx.reset();
+    }
+}
+
+/// The steps of `took`, one for each place.
+impl Endpoint {
+    /// The read of the other's state.
+    fn took_state(&mut self, value: u32) -> Notes
+        requires { self.old.place ≡ Place.Looking }
+        ensures { Takes self.old value result.items self.new }
+    {
+        let mut notes = Notes::new();
+        notes.push(Note::Saw(value));
+        self.place = match self.handshake.saw(value) {
+            Move::Stay => {
+                notes.push(Note::Over);
+                Place::Closed
+            }
+            Move::Set(state) => Place::Setting(state),
+            Move::ClearThenSet(then) => Place::Clearing { at: self.own, then },
+        };
+        notes
+    }
+
+    /// The write of 0 to an own word.
+    fn took_clear(&mut self, at: u32, then: u32) -> Notes
+        requires { self.old.place ≡ Place.Clearing at then }
+        ensures { (value : ℕ) → Takes self.old value result.items self.new }
+    {
+        let end = self.own + self.words;
+        self.place = if at + 1 == end {
+            Place::Setting(then)
+        } else {
+            Place::Clearing { at: at + 1, then }
+        };
+        Notes::new()
+    }
+
+    /// The State step of a Tick or a Stop.
+    fn took_set(&mut self, state: u32) -> Notes
+        requires { self.old.place ≡ Place.Setting state }
+        ensures { (value : ℕ) → Takes self.old value result.items self.new }
+    {
+        if state == 2 {
+            return self.took_opening();
+        }
+        self.handshake.enter(phase_of(state));
+        self.place = Place::Closed;
+        noted(Note::Over)
+    }
+
+    /// The State step that opens a session.
+    fn took_opening(&mut self) -> Notes
+        requires { self.old.place ≡ Place.Setting 2 }
+        ensures { (value : ℕ) → Takes self.old value result.items self.new }
+    {
+        self.tx.reset();
+        self.rx.reset();
+        self.handshake.enter(Phase::Ready);
+        self.place = Place::Closed;
+        noted(Note::Over)
+    }
+
+    /// The State step of a refusal, with which the session is over.
+    fn took_refusal(&mut self) -> Notes
+        requires { self.old.place ≡ Place.Refusing }
+        ensures { (value : ℕ) → Takes self.old value result.items self.new }
+    {
+        self.tx.reset();
+        self.rx.reset();
+        self.handshake.refuse();
+        self.place = Place::Closed;
+        noted(Note::Over)
+    }
+
+    /// The one step of a call that is down.
+    fn took_down(&mut self) -> Notes
+        requires { self.old.place ≡ Place.Downed }
+        ensures { (value : ℕ) → Takes self.old value result.items self.new }
+    {
+        self.place = Place::Closed;
+        noted(Note::Down)
+    }
+
+    /// A step of the sender.
+    fn took_offer(&mut self, value: u32) -> Notes
+        requires { self.old.place ≡ Place.Offering }
+        ensures { Takes self.old value result.items self.new }
+    {
+        let notes = self.tx.took(value);
+        if let Some(refused) = refused_in(notes.as_slice()) {
+            self.refused = Some(refused);
+            self.place = Place::Refusing;
+        } else if !self.tx.busy() {
+            self.place = Place::Closed;
+        }
+        notes
+    }
+
+    /// A step of the receiver.
+    fn took_poll(&mut self, value: u32) -> Notes
+        requires { self.old.place ≡ Place.Polling }
+        ensures { Takes self.old value result.items self.new }
+    {
+        let notes = self.rx.took(value);
+        if let Some(refused) = refused_in(notes.as_slice()) {
+            self.refused = Some(refused);
+            self.place = Place::Refusing;
+        } else if !self.rx.busy() {
+            self.place = Place::Closed;
+        }
+        notes
+    }
+}
+
+/// One note.
+fn noted(note: Note) -> Notes
+    ensures { result.items ≡ note ∷ [] }
+{
+    let mut notes = Notes::new();
+    notes.push(note);
+    notes
+}
+
+/// What the last Refuse of these notes refused.
+fn refused_in(notes: &[Note]) -> Option<Refused>
+    ensures { result ≡ refused_behind notes.now None }
+{
+    let mut refused = None;
+    for note in notes {
+        if let Note::Refuse(found) = note {
+            refused = Some(*found);
+        }
+    }
+    refused
+}

@@ -1,0 +1,33 @@
+//! The calls of an end, and where an open call is.
+
+/// A call that an end may be told to make; an offer, which has a frame, is a call of its own.
+#[derive(Clone, Copy, Debug, PartialEq, Eq)]
+pub enum Call {
+    /// Looks at the other's state, and moves on.
+    Tick,
+    /// Takes the frames that the other published.
+    Poll,
+    /// Leaves the link.
+    Stop,
+}
+
+/// The place in the open call: what its next step is.
+#[derive(Clone, Copy, Debug)]
+pub(crate) enum Place {
+    /// No call is open.
+    Closed,
+    /// Before the read of the other's state.
+    Looking,
+    /// Before the write of 0 to the own word `at`; behind the last one comes the State step with this value.
+    Clearing { at: u32, then: u32 },
+    /// Before the State step with this value, which ends a Tick or a Stop.
+    Setting(u32),
+    /// Before the State step of a refusal.
+    Refusing,
+    /// Before the one step of an offer or a poll outside RUN.
+    Downed,
+    /// In an offer, at the place of the sender.
+    Offering,
+    /// In a poll, at the place of the receiver.
+    Polling,
+}

@@ -1,11 +1,11 @@
 -- For which ends of the call grammar an endpoint stands, and its steps there.
-use Rattle.std.specs.Prelude.{ℕ, ◌≡◌, ◌+◌, ◌-◌, ◌<◌, ◌≤◌, Bool, true, false, List, map, All}
+use Rattle.std.specs.Prelude.{ℕ, ◌≡◌, ◌+◌, ◌-◌, ◌<◌, ◌≤◌, Bool, true, false, is_some, List, [], ◌∷◌, map, All}
 use Rattle.link_handshake.specs.declared.Phase.TheVariants.{Init}
 use Rattle.split_ring.specs.declared.steps.Note.{Note}
 use Rattle.split_ring.specs.declared.steps.Note.TheVariants as note
-use Rattle.link_laws.specs.Steps.{Mark, Accept, mark_of, marks_of}
+use Rattle.link_laws.specs.Steps.{Mark, Saw, Accept, Over, mark_of, marks_of}
 use Rattle.link_laws.specs.Ends.{End, end_behind}
-use Rattle.link_laws.specs.Calls.{Who}
+use Rattle.link_laws.specs.Calls.{Who, Tick}
 use Rattle.link_laws.specs.Places as places
 use Rattle.tx_engine.specs.Stands as tx
 use Rattle.rx_engine.specs.Stands as rx
@@ -92,3 +92,8 @@ pub record Opens (old new : Engine) : Type 0 where
   pub phase : new.phase ≡ old.phase
   pub refused : new.refused ≡ old.refused
   pub delivered : delivered new ≡ delivered old
+
+-- a Tick of an end that refused something looks at the other's state, and that is all
+abbrev pub RefusedEndsStay : Type 0
+RefusedEndsStay = (e : Engine) (who : Who) (end : End) (value : ℕ) → StandsAt e who end places.Closed → is_some e.refused ≡ true →
+    (places.marks_at who (places.first_place who end Tick) value ≡ Saw value ∷ Over ∷ []) × (places.next_place who (places.first_place who end Tick) value ≡ places.Closed)

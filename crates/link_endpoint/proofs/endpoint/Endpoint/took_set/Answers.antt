@@ -10,7 +10,7 @@ use Rattle.link_endpoint.proofs.Setting.{sets_other}
 use Rattle.link_endpoint.proofs.endpoint.Endpoint.took_set.Goals as goal
 
 taken : (c : goal.After-noted) (value : ℕ) → Takes (seen c.self.inside) value (note.Over ∷ []) (record (seen c.self.inside) { phase = c.enter.new.self.phase; place = Closed })
-taken c value = sets_other (seen c.self.inside) _ c.args.state value (grind (arith, common_steps)) c.if-state-eq2.false (grind (arith, common_steps))
+taken c value = sets_other (seen c.self.inside) _ c.args.state value (grind (arith, common_steps)) (grind (arith, common_steps)) (grind (arith, common_steps))
 
 pub returns : goal.returns
 returns c = λ value. rw (← c.self.view_is, c.noted.ensures) (taken c value)

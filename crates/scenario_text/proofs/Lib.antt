@@ -11,3 +11,4 @@ pub mod WholeLaws
 pub mod ForwardLaws
 pub mod PrintLaws
 pub mod LawLaws
+pub mod LoadLaws

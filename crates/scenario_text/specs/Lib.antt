@@ -9,3 +9,4 @@ pub mod Spelling
 pub mod Answers
 pub mod Drafts
 pub mod Laws
+pub mod Loads

@@ -1,4 +1,4 @@
-use crate::{Act, ScenarioFault, parse, print};
+use crate::{Act, ScenarioFault, load, parse, print};
 use std::alloc::Global;
 use std::test::Fail;
 
@@ -126,5 +126,19 @@ fn every_act_is_read_and_written(rt: HostRuntime) -> Result<(), Fail> {
     assert_eq!(rt; scenario.honest.items(), [true, false].as_slice());
     let again = print(rt.alloc(), &scenario)?;
     assert!(rt; again == text, "printed as it was read");
+    Ok(())
+}
+
+#[test]
+fn load_of_one_frame(rt: HostRuntime) -> Result<(), Fail> {
+    let mut text = HEAD.to_vec(rt.alloc())?;
+    text.extend_from_slice(b"auto 0 0\nauto 1 1\noffer 0 00070e151c232a31383f464d545b\n")?;
+    for _ in 0..201 {
+        text.extend_from_slice(b"turn 0 64\nturn 1 64\n")?;
+    }
+    text.extend_from_slice(b"end\n")?;
+    let scenario = load(rt.alloc(), 1)?;
+    let printed = print(rt.alloc(), &scenario)?;
+    assert!(rt; printed == text, "the text of a load of one frame");
     Ok(())
 }

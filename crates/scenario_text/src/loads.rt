@@ -1,0 +1,123 @@
+//! The scenario of a load: peer 0 offers frames, peer 1 takes them, and both choose their calls.
+ghost use Rattle.std.specs.Prelude.{◌≡◌, ◌≤◌, ◌<◌, ◌++◌, IfOk, OnOk};
+ghost use Rattle.section_map.specs.Faults.{shape_of};
+ghost use Rattle.scenario_text.specs.Spelling.{world_of};
+ghost use Rattle.scenario_text.specs.Loads.{load_frame, load_offers, load_rounds, load_acts, load_world};
+
+use crate::acts::{Act, Acts, Flags};
+use crate::scenarios::Scenario;
+use ivs_base::{Frame, NoMemory};
+use pci_space::Wiring;
+use section_map::Geometry;
+use split_ring::Queue;
+use std::alloc::{AllocError, Global};
+
+/// How many steps a peer makes in its turn.
+const STEPS: u32 = 64;
+
+/// The bytes of the frame with this number, from 0.
+fn frame_bytes(alloc: Global, number: u32) -> Result<Vec<u8>, AllocError>
+    ensures { IfOk result (λ bytes. bytes.items ≡ load_frame number) }
+{
+    let size = 14 + number % 3;
+    let first = 31 * u64::from(number);
+    (0..size)
+        .map(|place| ((first + 7 * u64::from(place)) % 256) as u8)
+        .collect(alloc)
+}
+
+/// The frame with this number, from 0.
+fn frame(alloc: Global, number: u32) -> Result<Frame, NoMemory>
+    ensures { IfOk result (λ frame. frame ≡ load_frame number) }
+{
+    match frame_bytes(alloc, number) {
+        Ok(bytes) => Frame::of(alloc, &bytes),
+        Err(_) => Err(NoMemory),
+    }
+}
+
+/// Puts the offers of so many frames last.
+fn push_offers(alloc: Global, acts: &mut Acts, count: u32) -> Result<(), NoMemory>
+    ensures { OnOk result (acts.new ≡ acts.old ++ load_offers count) }
+{
+    for number in 0..count {
+        let frame = frame(alloc, number)?;
+        acts.push(Act::Offer { peer: 0, frame })?;
+    }
+    Ok(())
+}
+
+/// Puts so many rounds last, in each of which both peers take a turn.
+fn push_rounds(acts: &mut Acts, count: u32) -> Result<(), NoMemory>
+    ensures { OnOk result (acts.new ≡ acts.old ++ load_rounds count) }
+{
+    for _ in 0..count {
+        acts.push(Act::Turn {
+            peer: 0,
+            steps: STEPS,
+        })?;
+        acts.push(Act::Turn {
+            peer: 1,
+            steps: STEPS,
+        })?;
+    }
+    Ok(())
+}
+
+/// The acts of a load of so many frames.
+fn acts(alloc: Global, count: u32) -> Result<Acts, NoMemory>
+    requires { count ≤ 80000 }
+    ensures { IfOk result (λ acts. acts ≡ load_acts count) }
+{
+    let mut acts = Acts::new(alloc);
+    acts.push(Act::Auto { peer: 0, expect: 0 })?;
+    acts.push(Act::Auto {
+        peer: 1,
+        expect: u64::from(count),
+    })?;
+    push_offers(alloc, &mut acts, count)?;
+    push_rounds(&mut acts, 200 + (count + 2) / 3)?;
+    Ok(acts)
+}
+
+/// The region: a page for the table, and four for each of two peers.
+fn region() -> Geometry
+    ensures { result ≡ shape_of 2 4096 0 16384 }
+{
+    match Geometry::new(2, 4096, 0, 16_384) {
+        Ok(geometry) => geometry,
+        Err(_) => unreachable!(),
+    }
+}
+
+/// The queue of such a section, for the least MTU.
+fn section() -> Queue
+    ensures { result ≡ record { out = 16384; mtu = 256 } }
+{
+    match Queue::of(16_384, 256) {
+        Ok(queue) => queue,
+        Err(_) => unreachable!(),
+    }
+}
+
+/// The scenario of a load of so many frames, 1 to 80,000 (profile): peer 0 offers them, peer 1 chooses its calls until
+/// it has delivered as many, and behind the offers come 200 rounds of turns and one more for each three frames.
+/// NoMemory comes only where memory ran out.
+pub fn load(alloc: Global, count: u32) -> Result<Scenario, NoMemory>
+    requires some { 1 ≤ count }
+    requires few { count ≤ 80000 }
+    ensures { IfOk result (λ scenario. world_of scenario ≡ load_world count) }
+{
+    let mut honest = Flags::new(alloc);
+    honest.push(true)?;
+    honest.push(true)?;
+    let acts = acts(alloc, count)?;
+    Ok(Scenario {
+        geometry: region(),
+        queue: section(),
+        wiring: Wiring::Msix(2),
+        honest,
+        acts,
+        version: 1,
+    })
+}

@@ -13,3 +13,5 @@ pub mod CountRows
 pub mod PlaceRows
 pub mod AllRows
 pub mod HonestKept
+pub mod FrameBytes
+pub mod Spelling

@@ -3,3 +3,4 @@ pub mod Laws
 pub mod Both
 pub mod Sides
 pub mod HonestRuns
+pub mod Written

@@ -10,6 +10,7 @@ ghost use Rattle.pair_calls.specs.Both.{FramesComeWhole};
 ghost use Rattle.pair_calls.specs.Both.{HonestCallsDeliver};
 ghost use Rattle.pair_calls.specs.Sides.{StepsFollowRows};
 ghost use Rattle.pair_calls.specs.HonestRuns.{HonestRunsDeliver};
+ghost use Rattle.pair_calls.specs.Written.{AcceptedFramesAreSpelled};
 
 /// Each step of a call that meets what memory has is a step of the pair, or touches no word; a device reset is a step of the pair; and a
 /// change of words elsewhere leaves the end where it stands.
@@ -46,4 +47,9 @@ pub fn steps_follow_rows()
 /// Wherever two honest ends come, each has delivered in order what the other accepted, each frame once, through all its sessions.
 pub fn honest_runs_deliver()
     ensures { HonestRunsDeliver }
+{}
+
+/// Right behind the step with which an honest end accepts a frame, its section spells the frame, whatever the other side stores.
+pub fn accepted_frames_are_spelled()
+    ensures { AcceptedFramesAreSpelled }
 {}

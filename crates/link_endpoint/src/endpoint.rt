@@ -118,6 +118,13 @@ impl Endpoint {
         self.refused
     }
 
+    /// The frame of the open offer.
+    pub fn offered(&self) -> &[u8]
+        ensures { result.now ≡ offered self.now }
+    {
+        self.tx.frame()
+    }
+
     /// The frame delivered last. It is empty before the first one, while the words of the next one are read, and behind a reset, a
     /// refusal, or the State step that opens a session.
     pub fn delivered(&self) -> &[u8]

@@ -97,6 +97,13 @@ impl Tx {
         !matches!(self.place, Place::Closed)
     }
 
+    /// The frame of the open offer, or of the last one since `reset`.
+    pub fn frame(&self) -> &[u8]
+        ensures { result.now ≡ self.now.frame }
+    {
+        &self.buffer[..self.length as usize]
+    }
+
     /// Opens an offer of this frame, which is copied. The end is in RUN.
     pub fn begin(&mut self, frame: &[u8])
         requires closed { is_open self.old.place ≡ false }

@@ -4,4 +4,4 @@ pub mod Apart
 pub mod Exists
 pub mod There
 pub mod Written
-pub mod Rowed
+pub mod Begins

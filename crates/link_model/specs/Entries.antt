@@ -1,26 +1,25 @@
--- An entry of a history: an event with what it gave, and the lines that tell it.
+-- An entry of a history: an event with what came of it, and the lines that tell it.
 use Rattle.std.specs.Prelude.{ℕ, ◌==◌, if◌then◌else◌, Option, Some, None, List, [], ◌∷◌, ◌++◌, map}
 use Rattle.split_ring.specs.declared.steps.Access.{Access}
 use Rattle.split_ring.specs.declared.steps.Access.TheVariants as access
 use Rattle.link_laws.specs.Steps.{Mark, Step}
 use Rattle.link_laws.specs.Steps as mark
-use Rattle.link_laws.specs.Calls.{Call}
 use Rattle.link_model.specs.declared.line.Line.{Line}
 use Rattle.link_model.specs.declared.line.Line.TheVariants as line
-use Rattle.link_model.specs.Schedule.{Event, Asked, Turned}
+use Rattle.link_model.specs.Schedule.{Event, Asked, Automated, Stormed, Turned, Acted, WasReset, Reached, Loses, Repeated, event_peer}
 
--- a call that was queued; or a turn, with the step of the call that went on, or none, and the interrupts that it brought
-pub data Entry : Type 0 where
-  Queued : (peer : ℕ) (call : Call) → Entry
-  Took : (peer : ℕ) (went : Option Step) (interrupts : List Line) → Entry
+-- an event, the step that was made in it, if there is one, and the lines of the devices: the interrupts that it brought, or what a
+-- device answered
+pub record Entry : Type 0 where
+  pub event : Event
+  pub went : Option Step
+  pub device : List Line
 
 abbrev pub event_of : Entry → Event
-event_of (Queued peer call) = Asked peer call
-event_of (Took peer went interrupts) = Turned peer
+event_of entry = entry.event
 
 abbrev pub owner : Entry → ℕ
-owner (Queued peer call) = peer
-owner (Took peer went interrupts) = peer
+owner entry = event_peer entry.event
 
 -- the line of an access that met this value; the one step of a call that is down has no access, and no line for one
 abbrev pub access_lines : ℕ → Access → ℕ → List Line
@@ -45,16 +44,39 @@ mark_line peer mark.Over = line.Over peer
 
 -- the lines of a step: its access, the interrupts that this brought, and its marks
 abbrev pub step_lines : ℕ → Step → List Line → List Line
-step_lines peer step interrupts = access_lines peer step.access step.value ++ (interrupts ++ map (mark_line peer) step.marks)
+step_lines peer step device = access_lines peer step.access step.value ++ (device ++ map (mark_line peer) step.marks)
 
 -- the lines of a turn; a turn without a step is idle
 abbrev pub turn_lines : ℕ → Option Step → List Line → List Line
-turn_lines peer None interrupts = line.Idle peer ∷ interrupts
-turn_lines peer (Some step) interrupts = step_lines peer step interrupts
+turn_lines peer None device = line.Idle peer ∷ device
+turn_lines peer (Some step) device = step_lines peer step device
+
+-- the line of an access that was denied: only a write ever is
+abbrev pub denied_lines : ℕ → Access → List Line
+denied_lines peer (access.Read word) = []
+denied_lines peer (access.Write word written) = line.Denied peer word ∷ []
+denied_lines peer (access.State state) = []
+denied_lines peer (access.Ring target vector) = []
+denied_lines peer access.Nothing = []
+
+-- the lines of one access; one without a step was denied
+abbrev pub acted_lines : ℕ → Access → Option Step → List Line → List Line
+acted_lines peer a None device = denied_lines peer a ++ device
+acted_lines peer a (Some step) device = step_lines peer step device
+
+abbrev pub lines_by : Event → Option Step → List Line → List Line
+lines_by (Asked peer call) went device = device
+lines_by (Automated peer expected) went device = device
+lines_by (Stormed peer seed) went device = device
+lines_by (Turned peer) went device = turn_lines peer went device
+lines_by (Acted peer a) went device = acted_lines peer a went device
+lines_by (WasReset peer) went device = line.Reset peer ∷ device
+lines_by (Reached peer a) went device = device
+lines_by (Loses peer) went device = device
+lines_by (Repeated peer vector) went device = device
 
 abbrev pub lines_of : Entry → List Line
-lines_of (Queued peer call) = []
-lines_of (Took peer went interrupts) = turn_lines peer went interrupts
+lines_of entry = lines_by entry.event entry.went entry.device
 
 -- the entries of one peer, in their order
 abbrev pub own : ℕ → List Entry → List Entry

@@ -7,7 +7,6 @@ use Rattle.link_model.specs.declared.line.Line.{Line}
 use Rattle.link_model.specs.declared.line.Line.TheVariants.{Read, Write}
 use Rattle.link_model.specs.Memory.{MemoryLaw, WasWrittenLast}
 use Rattle.link_model.specs.Schedule.{schedule}
-use Rattle.link_model.specs.Sides.{who_of}
 use Rattle.link_model.specs.Entries.{Entry, event_of, owner, lines_of, own}
 use Rattle.link_model.specs.Peers.{Peer, at_start, Serves}
 use Rattle.link_model.specs.Device.{DeviceRules}
@@ -19,8 +18,8 @@ pub record IsLawfulBy (world : World) (lines : List Line) (entries : List Entry)
   pub owners : All (λ entry. owner entry < world.geometry.peers) entries
   pub told : flat_map lines_of entries ≡ lines
   pub memory : MemoryLaw world.geometry (reverse lines)
-  pub device : DeviceRules [] entries
-  pub calls : (peer : ℕ) → peer < world.geometry.peers → (end : Peer) × Serves (who_of world peer) at_start (own peer entries) end
+  pub device : DeviceRules world [] (λ peer. 0) entries
+  pub calls : (peer : ℕ) → peer < world.geometry.peers → (end : Peer) × Serves world peer at_start (own peer entries) end
 
 -- the lines are a lawful history of the scenario: some entries make them up
 abbrev pub IsLawful : World → List Line → Type 0

@@ -8,5 +8,5 @@ mod laws;
 mod line;
 
 pub use fault::{Law, StepFault, Unlawful};
-pub use laws::{history_is_lawful, link_machine_runs, memory_is_kept, one_history};
+pub use laws::{cut_histories_begin, history_is_lawful, memory_is_kept, one_history};
 pub use line::{Line, Lines};

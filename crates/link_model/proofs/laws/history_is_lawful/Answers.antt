@@ -2,4 +2,4 @@ use Rattle.link_model.proofs.Exists.{history_lem}
 use Rattle.link_model.proofs.laws.history_is_lawful.Goals as goal
 
 pub returns : goal.returns
-returns c = history_lem c.calls_stay_in_reach.ensures c.calls_take_a_step.ensures
+returns c = history_lem c.calls_stay_in_reach.ensures

@@ -1,0 +1,31 @@
+-- A storm: the turns of a hostile peer that are generated writes (profile).
+use Rattle.std.specs.Prelude.{ℕ, ◌+◌, ◌*◌, ◌/◌, ◌%◌, ◌==◌, if◌then◌else◌, []}
+use Rattle.section_map.specs.Geometry.{section_start}
+use Rattle.split_ring.specs.Layout.{payload_of}
+use Rattle.split_ring.specs.declared.steps.Access.{Access}
+use Rattle.split_ring.specs.declared.steps.Access.TheVariants.{Write, State, Ring}
+use Rattle.scenario_text.specs.Scenario.{World}
+use Rattle.link_laws.specs.Steps.{Step, step_of}
+
+-- the generator's next number (a linear congruence modulo 2^64), and the 32 bits that are drawn from a number
+abbrev pub next_number : ℕ → ℕ
+next_number x = (x * 6364136223846793005 + 1442695040888963407) % 18446744073709551616
+
+abbrev pub draw : ℕ → ℕ
+draw x = x / 4294967296
+
+-- what three draws do: by the first, a write of the third to a word of the own section, or to one of its ring part, that the second chooses; a
+-- State below 8; or a doorbell with a vector below 4 to the peer that the second chooses
+abbrev pub drawn_access : World → ℕ → (kind place value : ℕ) → Access
+drawn_access world peer kind place value =
+    if kind % 4 == 0 then Write (section_start world.geometry peer + place % world.geometry.out) value
+    else if kind % 4 == 1 then Write (section_start world.geometry peer + place % (payload_of world.queue / 4)) value
+    else if kind % 4 == 2 then State (value % 8)
+    else Ring (place % world.geometry.peers) (value % 4)
+
+-- the step of a storm whose generator is at x, and where the generator is then: three numbers further
+abbrev pub storm_step : World → ℕ → ℕ → Step
+storm_step world peer x = step_of (drawn_access world peer (draw (next_number x)) (draw (next_number (next_number x))) (draw (next_number (next_number (next_number x))))) 0 []
+
+abbrev pub storm_behind : ℕ → ℕ
+storm_behind x = next_number (next_number (next_number x))

@@ -1,0 +1,41 @@
+-- Which events and which lines are the devices' alone, and that the link stands apart from them.
+use Rattle.std.specs.Prelude.{◌≡◌, Bool, true, false, not, List}
+use Rattle.std.specs.List.{filter}
+use Rattle.scenario_text.specs.declared.acts.Act.{Act}
+use Rattle.scenario_text.specs.Scenario.{World, IsWorld}
+use Rattle.link_model.specs.declared.line.Line.{Line}
+use Rattle.link_model.specs.declared.line.Line.TheVariants as line
+use Rattle.link_model.specs.Schedule.{Event, Reached, Loses, Repeated, schedule}
+use Rattle.link_model.specs.Lawful.{IsLawful}
+
+-- the event is of a device alone: a peer reaches a part of it, or an interrupt is to be lost or is repeated
+abbrev pub is_of_device_event : Event → Bool
+is_of_device_event (Reached peer a) = true
+is_of_device_event (Loses peer) = true
+is_of_device_event (Repeated peer vector) = true
+is_of_device_event _ = false
+
+abbrev pub without_device_events : List Event → List Event
+without_device_events events = filter (λ event. not (is_of_device_event event)) events
+
+-- the line is of a device alone: an interrupt that came or was lost, or an access to one of its parts
+abbrev pub is_of_device : Line → Bool
+is_of_device (line.Interrupt peer vector) = true
+is_of_device (line.Lost peer vector) = true
+is_of_device (line.ConfigRead peer offset width value) = true
+is_of_device (line.ConfigWrite peer offset width value) = true
+is_of_device (line.RegisterRead peer offset value) = true
+is_of_device (line.RegisterWrite peer offset value) = true
+is_of_device (line.MsixRead peer offset value) = true
+is_of_device (line.MsixWrite peer offset value) = true
+is_of_device _ = false
+
+abbrev pub without_devices : List Line → List Line
+without_devices lines = filter (λ line. not (is_of_device line)) lines
+
+-- where two schedules of one world differ in events of devices alone, their lawful histories differ in lines of devices alone: each access
+-- to the region, each value read, each mark and each frame is the same, in the same order
+abbrev pub DeviceActsChangeNothing : Type 0
+DeviceActsChangeNothing = (world : World) (others : List Act) (lines other_lines : List Line) → IsWorld world → IsWorld (record world { acts = others }) →
+    without_device_events (schedule world.acts) ≡ without_device_events (schedule others) → IsLawful world lines → IsLawful (record world { acts = others }) other_lines →
+    without_devices lines ≡ without_devices other_lines

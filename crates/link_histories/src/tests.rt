@@ -1,0 +1,17 @@
+//! Each law may be called: none of them asks anything of its caller.
+use super::*;
+
+#[test]
+fn laws_of_histories() {
+    histories_run_the_machine();
+    honest_peers_never_refuse();
+    refused_values_are_out_of_range();
+    refused_peers_rest();
+    done_polls_deliver_all();
+    histories_deliver();
+    accepted_frames_stand_in_the_section();
+    delivered_frames_are_read();
+    refused_values_are_read();
+    values_out_of_range_are_refused();
+    device_acts_change_nothing();
+}

@@ -1,6 +1,8 @@
-pub mod Looks
-pub mod Words
-pub mod Framed
-pub mod Carries
-pub mod Turns
+pub mod Arriving
+pub mod AtPlaces
+pub mod Steps
+pub mod Openings
+pub mod Framing
+pub mod Choosing
+pub mod Turning
 pub mod Runs

@@ -1,3 +1,3 @@
-pub mod Endpoint
-pub mod Link
+pub mod Scene
+pub mod Seats
 pub mod Simulation

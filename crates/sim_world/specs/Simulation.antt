@@ -1,30 +1,29 @@
--- What the simulation keeps: the words, the links and the lines stand for a moment of the history.
-use Rattle.std.specs.Prelude.{ℕ, ◌≡◌, true, List, Option, Some, IsSome, length, reverse, slice_get}
+-- What the simulation keeps: its scene and its seats stand for a moment of the history.
+use Rattle.std.specs.Prelude.{ℕ, ◌≡◌, ◌<◌, List, [], ◌∷◌, ◌++◌, Some, length, slice_get}
+use Rattle.std.specs.List.{AllByRecursion}
 use Rattle.scenario_text.specs.declared.acts.Act.{Act}
-use Rattle.scenario_text.specs.Scenario.{World, IsWorld, is_link, is_its_peer}
-use Rattle.scenario_text.specs.ActRows.{row_of_act}
+use Rattle.scenario_text.specs.Scenario.{World, is_link, IsAllowed}
 use Rattle.link_model.specs.Schedule.{Event}
 use Rattle.link_model.specs.Sides.{who_of}
 use Rattle.link_model.specs.Peers.{at_start}
 use Rattle.link_model.specs.History.{Moment, run, beginning, peer_at}
-use Rattle.record_text.specs.Frames.{HaveFrames}
-use Rattle.sim_world.specs.Link.{Holds, MayStand}
+use Rattle.link_model.specs.Given.{IsThere}
+use Rattle.sim_world.specs.Scene.{Behind, IsSeated}
+use Rattle.sim_world.specs.Seats.{SeatStands, is_honest}
 use Rattle.sim_world.specs.declared.link.Link.{Link}
+use Rattle.sim_world.specs.declared.seat.Seat.{Seat}
+use Rattle.sim_world.specs.declared.seat.Seat.TheVariants.{Honest}
 use Rattle.sim_world.specs.declared.simulation.Simulation.{Simulation}
 
--- the peer has a link
-abbrev pub IsLinked : List (Option Link) → ℕ → Type 0
-IsLinked links peer = (link : Link) × (slice_get links peer ≡ Some (Some link))
+-- the seat of a peer is that of an honest end of the link
+abbrev pub IsLinked : List Seat → ℕ → Type 0
+IsLinked seats peer = (link : Link) × (slice_get seats peer ≡ Some (Honest link))
 
--- so many links at the start: an honest end of the link has one, and no peer has a call
-pub record AreAtStart (world : World) (count : ℕ) (links : List (Option Link)) : Type 0 where
-  pub length_is : length links ≡ count
-  pub stands : (p : ℕ) (link : Option Link) → slice_get links p ≡ Some link → MayStand (who_of world p) at_start link
-  pub linked : (p : ℕ) (link : Option Link) → slice_get links p ≡ Some link → is_link world p ≡ true → IsSome link
-
--- the act names a peer of the kind that it is for
-abbrev pub IsForItsPeer : World → Act → Type 0
-IsForItsPeer world act = is_its_peer world (row_of_act act).form (row_of_act act).numbers ≡ true
+-- so many seats at the start: no peer has a call, and an honest end of the link has its own
+pub record AreAtStart (world : World) (count : ℕ) (seats : List Seat) : Type 0 where
+  pub length_is : length seats ≡ count
+  pub stands : (p : ℕ) (seat : Seat) → slice_get seats p ≡ Some seat → SeatStands (who_of world p) at_start seat
+  pub linked : (p : ℕ) (seat : Seat) → slice_get seats p ≡ Some seat → is_honest seat ≡ is_link world p
 
 -- the moment to which these events lead
 abbrev pub moment_of : World → List Event → Moment
@@ -32,11 +31,23 @@ moment_of world events = run world events (beginning world)
 
 -- the simulation is at the moment to which these events lead
 pub record RunsTo (world : World) (events : List Event) (s : Simulation) : Type 0 where
-  pub is_world : IsWorld world
-  pub shape : s.region.shape ≡ world.geometry
-  pub count : length s.links.items ≡ world.geometry.peers
-  pub holds : Holds s.region.words (reverse s.lines)
-  pub frames : HaveFrames s.lines
-  pub past : reverse s.lines ≡ (moment_of world events).past
-  pub stands : (p : ℕ) (link : Option Link) → slice_get s.links.items p ≡ Some link → MayStand (who_of world p) (peer_at (moment_of world events) p) link
-  pub linked : (p : ℕ) (link : Option Link) → slice_get s.links.items p ≡ Some link → is_link world p ≡ true → IsSome link
+  pub there : AllByRecursion (IsThere world) events
+  pub geometry : s.ground.geometry ≡ world.geometry
+  pub queue : s.ground.queue ≡ world.queue
+  pub behind : Behind world (moment_of world events).past (moment_of world events).losses s.scene
+  pub count : length s.seats.items ≡ world.geometry.peers
+  pub seated : (p : ℕ) → p < world.geometry.peers → IsSeated s.scene p
+  pub stands : (p : ℕ) (seat : Seat) → slice_get s.seats.items p ≡ Some seat → SeatStands (who_of world p) (peer_at (moment_of world events) p) seat
+  pub linked : (p : ℕ) (seat : Seat) → slice_get s.seats.items p ≡ Some seat → is_honest seat ≡ is_link world p
+
+-- the event happens: from where any events led, the simulation goes on to where they lead with this one behind them
+abbrev pub Happens : Event → Simulation → Simulation → Type 0
+Happens event old new = (world : World) (events : List Event) → IsThere world event → RunsTo world events old → RunsTo world (events ++ event ∷ []) new
+
+-- some events led the simulation here, in a world that has the peer
+abbrev pub IsRunning : Simulation → ℕ → Type 0
+IsRunning s peer = (world : World) × (events : List Event) × RunsTo world events s × (peer < world.geometry.peers)
+
+-- the act is one of the world's
+abbrev pub IsAct : World → Act → Type 0
+IsAct world act = (before : List Act) × IsAllowed world before act

@@ -4,25 +4,36 @@ use Rattle.link_model.specs.Sides.{world_of}
 use Rattle.link_model.specs.Schedule.{schedule}
 use Rattle.link_model.specs.Lawful.{IsLawful}
 use Rattle.record_text.specs.Frames.{HaveFrames}
-use Rattle.sim_world.proofs.Runs.{one_act, for_its_peer, whole_history}
+use Rattle.sim_world.proofs.Runs.{one_act, act_at, losses_few, whole_history}
 use Rattle.sim_world.proofs.simulate.Goals as goal
 
-pub act-requires-clause-run : goal.act-requires-clause-run
-act-requires-clause-run c =
+pub act-requires : goal.act-requires
+act-requires c =
     let world = world_of c.args.scenario in
-    (world, schedule (take c.loop-act.act-index world.acts), c.loop-act.invariant, for_its_peer world c.loop-act.act-index c.act-item.result c.args.scenario.world (rw c.items-act-items.ensures at c.loop-act-test.true) (rw c.items-act-items.ensures at c.act-item.is))
+    let i = c.loop-act.act-index in
+    let inside = rw c.items-act-items.ensures at c.loop-act-test.true in
+    let end = c.loop-act.auto.act-index-end in (
+      world,
+      schedule (take i world.acts),
+      c.loop-act.invariant,
+      act_at world i c.act-item.result c.args.scenario.world inside (rw c.items-act-items.ensures at c.act-item.is),
+      λ p. let few = losses_few world world.acts i p in let below = c.loop-act-test.true in omega arith,
+    )
 
 pub loop-act-preserved : goal.loop-act-preserved
 loop-act-preserved c =
     let world = world_of c.args.scenario in
-    one_act world world.acts c.loop-act.act-index c.act-item.result c.act.new.self (rw c.items-act-items.ensures at c.loop-act-test.true) (rw c.items-act-items.ensures at c.act-item.is)
-    (c.in_ok-act.ensures world (schedule (take c.loop-act.act-index world.acts)) c.loop-act.invariant)
+    let i = c.loop-act.act-index in
+    let inside = rw c.items-act-items.ensures at c.loop-act-test.true in
+    let at = rw c.items-act-items.ensures at c.act-item.is in
+    one_act world world.acts i c.act-item.result c.act.new.self inside at
+    (c.in_ok-act.ensures world (schedule (take i world.acts)) (act_at world i c.act-item.result c.args.scenario.world inside at) c.loop-act.invariant)
 
 pub returns-clause-lawful : goal.returns-clause-lawful
 returns-clause-lawful c =
     let world = world_of c.args.scenario in
     let same = whole_history world c.loop-act.act-index c.loop-act.simulation (omega (arith, ap length c.items-act-items.ensures)) c.loop-act.invariant in
-    subst (λ (lines : List Line). IsLawful world lines) (sym (c.into_lines.ensures ∙ same)) (c.history_is_lawful.ensures world c.args.scenario.world c.requires)
+    subst (λ (lines : List Line). IsLawful world lines) (sym (c.into_lines.ensures ∙ same)) (c.history_is_lawful.ensures world c.args.scenario.world)
 
 pub invariant_of-result : goal.invariant_of-result
-invariant_of-result c = record { frames = subst (λ (lines : List Line). HaveFrames lines) (sym c.into_lines.ensures) c.loop-act.invariant.frames }
+invariant_of-result c = record { frames = subst (λ (lines : List Line). HaveFrames lines) (sym c.into_lines.ensures) c.loop-act.invariant.behind.frames }

@@ -1,8 +1,15 @@
-use Rattle.std.proofs.Common.{◌≡◌, [], ◌++◌, take}
-use Rattle.std.specs.Prelude.{map}
-use Rattle.link_laws.specs.Steps.{marks_of}
+use Rattle.std.proofs.Common.{ℕ, List, ◌++◌, take}
+use Rattle.std.specs.Prelude.{reverse, map}
+use Rattle.scenario_text.specs.Scenario.{World}
+use Rattle.link_endpoint.specs.Engine.{offered, delivered}
+use Rattle.link_endpoint.specs.Stands.{marks_between}
+use Rattle.link_model.specs.declared.line.Line.{Line}
 use Rattle.link_model.specs.Entries.{mark_line}
+use Rattle.sim_world.specs.Scene.{Behind, IsSeated}
 use Rattle.sim_world.proofs.link.tell_notes.Given as goal
 
 abbrev pub invariant-loop-note : goal.invariant-loop-note
-invariant-loop-note l = l.lines ≡ l.initial.lines ++ map (mark_line l.me) (marks_of [] (take l.note-index l.notes))
+invariant-loop-note l =
+    ((world : World) (past : List Line) (losses : ℕ → ℕ) → Behind world past losses l.initial.scene →
+    Behind world (reverse (map (mark_line l.me) (marks_between (offered l.end) (delivered l.end) (take l.note-index l.notes))) ++ past) losses l.scene)
+    × ((q : ℕ) → IsSeated l.initial.scene q → IsSeated l.scene q)

@@ -1,9 +1,17 @@
-use Rattle.std.proofs.Common.{refl}
-use Rattle.std.proofs.lemmas.Option.{slice_get_within}
-use Rattle.sim_world.proofs.Runs.{asks_at}
+use Rattle.std.proofs.Common.{refl, sym, ◌∙◌, ap, subst}
+use Rattle.link_model.specs.Schedule.{Asked}
+use Rattle.link_model.specs.Sides.{who_of}
+use Rattle.link_model.specs.History.{peer_at}
+use Rattle.sim_world.specs.Seats.{call_of, SeatStands, is_honest}
+use Rattle.sim_world.specs.Simulation.{moment_of}
+use Rattle.sim_world.specs.declared.seat.Seat.{Seat}
+use Rattle.sim_world.specs.declared.seat.Seat.TheVariants.{Honest}
+use Rattle.sim_world.proofs.Runs.{seat_goes_on}
 use Rattle.sim_world.proofs.simulation.Simulation.ask.Goals as goal
 
-pub returns-in-Ok : goal.returns-in-Ok
-returns-in-Ok c = λ world events runs.
-    asks_at world events c.args.self.now _ c.args.peer c.args.call _ c.in-Some.link (record { end = c.in-Some.link.end; waiting = c.push_back.new.self })
-    (slice_get_within c.args.self.now.links.items c.args.peer _ c.requires.1) c.index_mut.ensures.value c.in-Some.is refl refl refl refl c.in-Ok.ensures.items runs
+pub returns : goal.returns
+returns c = λ world events there runs.
+    let m = moment_of world events in
+    let p = c.args.peer in
+    seat_goes_on world events (Asked p (call_of c.args.call)) c.args.self.now _ _ (Honest c.ask.new.self) there c.index_mut.ensures.value refl refl
+    (λ stands. c.in_ok-ask-in-Honest.ensures (who_of world p) (peer_at m p) (subst (λ (s : Seat). SeatStands (who_of world p) (peer_at m p) s) c.in-Honest.is stands)) (λ kind. sym (ap is_honest c.in-Honest.is) ∙ kind) runs.behind (λ q seated. seated) runs

@@ -1,9 +1,37 @@
-use Rattle.std.proofs.Common.{refl}
-use Rattle.sim_world.proofs.Runs.{placed, turns_at}
+use Rattle.std.proofs.Common.{refl, sym, ◌∙◌, ap, arith}
+use Rattle.std.specs.Prelude.{Some}
+use Rattle.std.proofs.lemmas.Option.{slice_get-get_or}
+use Rattle.link_model.specs.Schedule.{Turned}
+use Rattle.link_model.specs.Sides.{who_of}
+use Rattle.link_model.specs.History.{peer_at}
+use Rattle.sim_world.specs.Simulation.{moment_of}
+use Rattle.sim_world.proofs.Runs.{fit_at, seat_goes_on, seat_fits}
 use Rattle.sim_world.proofs.simulation.Simulation.turn.Goals as goal
 
-pub take_turn-requires : goal.take_turn-requires
-take_turn-requires c = λ link is. placed c.requires.run.0 c.requires.run.1 c.args.self.now c.args.peer _ link c.requires.run.2 c.requires.inside c.index_mut-link.ensures.value is
+pub turn-requires-clause-ground : goal.turn-requires-clause-ground
+turn-requires-clause-ground c =
+    let world = c.requires.0 in
+    let events = c.requires.1 in
+    let runs = c.requires.2 in
+    let below = c.requires.3 in
+    let count = runs.count in
+    let p = c.args.peer in
+    let here = slice_get-get_or c.args.self.now.seats.items p _ (omega arith) ∙ ap Some (sym c.index_mut-seat.ensures.value) in
+    let stands = runs.stands p _ here in (
+      world,
+      peer_at (moment_of world events) p,
+      record { is_world = runs.behind.is_world; there = below; geometry = runs.geometry; queue = runs.queue },
+      runs.behind.shape,
+      stands,
+      seat_fits (who_of world p) (peer_at (moment_of world events) p) _ stands (fit_at c.calls_stay_in_reach.ensures world events p runs.behind.is_world runs.there),
+    )
 
 pub returns : goal.returns
-returns c = λ world events runs. turns_at world events c.args.self.now _ c.args.peer _ c.take_turn.new.link c.requires.inside c.index_mut-link.ensures.value refl c.in_ok-take_turn.ensures.shape c.in_ok-take_turn.ensures.some c.in_ok-take_turn.ensures.turn runs
+returns c = λ world events there runs.
+    let m = moment_of world events in
+    let p = c.args.peer in
+    let count = runs.count in
+    let here = slice_get-get_or c.args.self.now.seats.items p _ (omega arith) ∙ ap Some (sym c.index_mut-seat.ensures.value) in
+    let turned = c.in_ok-turn.ensures.turn world m.past m.losses (peer_at m p) (record { is_world = runs.behind.is_world; there = there; geometry = runs.geometry; queue = runs.queue }) runs.behind (runs.stands p _ here) in
+    seat_goes_on world events (Turned p) c.args.self.now _ _ c.turn.new.seat there c.index_mut-seat.ensures.value refl refl
+    (λ stands. turned.1) (λ kind. c.in_ok-turn.ensures.kind ∙ kind) turned.0 c.in_ok-turn.ensures.seated runs

@@ -5,7 +5,6 @@
 
 ghost use Rattle.std.specs.Prelude.{◌↔◌, IsTrue, IfOk};
 ghost use Rattle.link_model.specs.Sides.{world_of};
-ghost use Rattle.link_model.specs.Schedule.{IsBuilt};
 ghost use Rattle.link_model.specs.Lawful.{IsLawful};
 
 mod lines;
@@ -19,9 +18,8 @@ use scenario_text::Scenario;
 use sim_world::simulate;
 use std::alloc::Global;
 
-/// Are these lines a lawful history of the scenario, each of whose acts is one that is built? NoMemory comes only where memory ran out.
+/// Are these lines a lawful history of the scenario? NoMemory comes only where memory ran out.
 pub fn is_lawful(alloc: Global, scenario: Scenario, lines: &[Line]) -> Result<bool, NoMemory>
-    requires { IsBuilt scenario.acts }
     ensures { IfOk result (λ yes. IsTrue yes ↔ IsLawful (world_of scenario) lines.now) }
 {
     one_history();

@@ -1,12 +1,8 @@
 //! A worked history, and the same with each of its lines changed.
-ghost use Rattle.std.specs.Prelude.{IsTrue};
-ghost use Rattle.link_model.specs.Schedule.{IsBuilt};
-
 use super::is_lawful;
 use link_model::Line;
-use scenario_text::{Act, parse};
+use scenario_text::parse;
 use std::alloc::Global;
-use std::process::Abort;
 use std::test::Fail;
 
 /// Two honest peers, of which peer 0 ticks twice.
@@ -46,16 +42,9 @@ fn lines(alloc: Global, changed: u32) -> Result<Vec<Line>, Fail> {
     Ok(lines)
 }
 
-fn are_built(acts: &[Act]) -> bool
-    ensures { IsTrue result → IsBuilt acts.now }
-{
-    acts.iter().all(|act| matches!(act, Act::Tick { .. } | Act::Stop { .. } | Act::Turn { .. }))
-}
-
 /// The answer for these lines of the scenario.
-fn answer(rt: &impl Abort, alloc: Global, lines: &[Line]) -> Result<bool, Fail> {
+fn answer(alloc: Global, lines: &[Line]) -> Result<bool, Fail> {
     let scenario = parse(alloc, SCENARIO)?;
-    assert!(rt; are_built(scenario.acts.items()));
     Ok(is_lawful(alloc, scenario, lines)?)
 }
 
@@ -63,11 +52,11 @@ fn answer(rt: &impl Abort, alloc: Global, lines: &[Line]) -> Result<bool, Fail> 
 fn one_peer_alone(rt: HostRuntime) -> Result<(), Fail> {
     let alloc = rt.alloc();
     let whole = lines(alloc, 9)?;
-    assert!(rt; answer(&rt, alloc, whole.as_slice())?);
-    assert!(rt; !answer(&rt, alloc, whole.get(..8).unwrap_or(&[]))?);
+    assert!(rt; answer(alloc, whole.as_slice())?);
+    assert!(rt; !answer(alloc, whole.get(..8).unwrap_or(&[]))?);
     for changed in 0..9 {
         assert!(rt;
-            !answer(&rt, alloc, lines(alloc, changed)?.as_slice())?,
+            !answer(alloc, lines(alloc, changed)?.as_slice())?,
             "line {changed}"
         );
     }

@@ -2,26 +2,22 @@
 use Rattle.std.proofs.Common.{◌≡◌, ℕ, ◌⊎◌, ◌≤◌, ◌<◌, List, [], ◌++◌, length, refl, sym, ◌∙◌, ap, subst, inl, inr, arith, length-append}
 use Rattle.std.specs.Prelude.{Option, Some, None, true, false, IsTrue, IsSome, MatchBool, if◌then◌else◌, Ok}
 use Rattle.std.proofs.lemmas.List.{append-nil}
-use Rattle.std.proofs.lemmas.List.Sums.{list_all-from_AllPass}
 use Rattle.std.proofs.lemmas.Bool.{cases_lt, lt-ltb}
 use Rattle.ivs_base.specs.Ends.{Input, Output, ahead, IsAtEnd}
 use Rattle.ivshm_cli.specs.declared.words.Form.{Form}
-use Rattle.ivshm_cli.specs.declared.words.Form.TheVariants.{Sim, Dump, Config}
+use Rattle.ivshm_cli.specs.declared.words.Form.TheVariants.{Sim, Dump, Config, Load}
 use Rattle.ivshm_cli.specs.declared.refusals.Fault.{Fault}
-use Rattle.ivshm_cli.specs.declared.refusals.Fault.TheVariants.{TooLong, Text, Unbuilt, BadPeer, Image}
+use Rattle.ivshm_cli.specs.declared.refusals.Fault.TheVariants.{TooLong, Text, BadPeer, Image}
 use Rattle.ivshm_cli.specs.declared.exit.Status.{Status}
 use Rattle.ivshm_cli.specs.declared.exit.Status.TheVariants.{Done, Differs, Usage, Refused, ReadFault, WriteFault, NoMemory}
-use Rattle.std.specs.List.{list_all}
-use Rattle.scenario_text.specs.declared.acts.Act.{Act}
 use Rattle.scenario_text.specs.Scenario.{World}
 use Rattle.scenario_text.specs.declared.scenarios.Scenario.{Scenario}
 use Rattle.scenario_text.specs.Spelling.{IsSpelling}
 use Rattle.scenario_text.specs.Laws.{IsReadAgain}
 use Rattle.scenario_text.specs.Judge.{answer}
-use Rattle.link_model.specs.Schedule.{IsBuilt, runs_by_now}
 use Rattle.section_dump.specs.Image.{IsImage}
 use Rattle.section_dump.specs.Laws.{FaultsAreOfNoImage}
-use Rattle.ivshm_cli.specs.Forms.{limit_of, passes, unbuilt_in, missing_in, scenario_fault, IsImageVerdict, IsTextVerdict, Accepts, line_of, Answers}
+use Rattle.ivshm_cli.specs.Forms.{limit_of, passes, none_in, missing_in, scenario_fault, IsImageVerdict, IsTextVerdict, Accepts, line_of, Answers}
 use Rattle.ivshm_cli.specs.Due.{IsDue, Follows, limit_for, HasRead, is_answer, Delivers, given_by, input_of, IsSettled}
 
 pub status_cases : (s : Status) → IsTrue (is_answer s) ⊎ ((s ≡ ReadFault) ⊎ ((s ≡ WriteFault) ⊎ (s ≡ NoMemory)))
@@ -38,6 +34,7 @@ not_usage : (form : Form) (bytes text : List ℕ) → Answers form bytes Usage t
 not_usage Sim bytes text h = h
 not_usage Dump bytes text h = h
 not_usage (Config peer) bytes text h = h
+not_usage (Load count) bytes text h = h
 
 usage_follows : (form : Form) (bytes text : List ℕ) (found : Option Fault) → Follows form bytes Usage text found → ⊥
 usage_follows form bytes text None h = not_usage form bytes text h
@@ -126,34 +123,27 @@ read_spelled world bytes spelled again =
     } in
     ap answer spelled.1 ∙ again scenario
 
--- the test of all acts
-built_all : (acts : List Act) → IsBuilt acts → list_all runs_by_now acts ≡ true
-built_all acts built = list_all-from_AllPass runs_by_now acts built
-
 -- a world that has the peer
 has_peer : (peer : ℕ) (world : World) → peer < world.geometry.peers → missing_in peer world ≡ None
 has_peer peer world has = ap (λ b. if b then None else Some BadPeer) (lt-ltb peer world.geometry.peers has)
-
-has_built : (world : World) → IsBuilt world.acts → unbuilt_in world ≡ None
-has_built world built = ap (λ b. if b then None else Some Unbuilt) (built_all world.acts built)
 
 image_answered : (image : List ℕ) (found : Option Fault) → FaultsAreOfNoImage → IsImage image → IsImageVerdict image found → found ≡ None
 image_answered image None exact is verdict = refl
 image_answered image (Some (Image fault)) exact is verdict = absurd (exact image fault verdict.1 verdict.0 is)
 image_answered image (Some TooLong) exact is verdict = absurd verdict
 image_answered image (Some (Text fault)) exact is verdict = absurd verdict
-image_answered image (Some Unbuilt) exact is verdict = absurd verdict
 image_answered image (Some BadPeer) exact is verdict = absurd verdict
 
 -- bytes that are what the form reads aren't refused
 answered : (form : Form) (bytes : List ℕ) (found : Option Fault) → IsReadAgain → FaultsAreOfNoImage → Accepts form bytes → IsTextVerdict form bytes found → found ≡ None
 answered Sim bytes found again exact accepted verdict =
-    sym verdict ∙ ap (scenario_fault unbuilt_in) (read_spelled accepted.0 bytes accepted.1 again) ∙ has_built accepted.0 accepted.2
+    sym verdict ∙ ap (scenario_fault none_in) (read_spelled accepted.0 bytes accepted.1 again)
 answered Dump bytes found again exact accepted verdict = image_answered bytes found exact accepted verdict
 answered (Config peer) bytes found again exact accepted verdict =
     sym verdict ∙ ap (scenario_fault (missing_in peer)) (read_spelled accepted.0 bytes accepted.1 again) ∙ has_peer peer accepted.0 accepted.2
+answered (Load count) bytes found again exact accepted verdict = verdict
 
--- each form answers Done, and is given all bytes: a line for each
+-- each form answers Done: a line for each
 is_done : (form : Form) (bytes text : List ℕ) (status : Status) → Answers form bytes status text → status ≡ Done
 is_done Sim bytes text Done h = refl
 is_done Sim bytes text _ h = absurd h
@@ -161,11 +151,21 @@ is_done Dump bytes text Done h = refl
 is_done Dump bytes text _ h = absurd h
 is_done (Config peer) bytes text Done h = refl
 is_done (Config peer) bytes text _ h = absurd h
+is_done (Load count) bytes text Done h = refl
+is_done (Load count) bytes text _ h = absurd h
 
-given_all : (form : Form) (all : List ℕ) → given_by (limit_of form) all ≡ all
-given_all Sim all = refl
-given_all Dump all = refl
-given_all (Config peer) all = refl
+-- what a form is given isn't too long and is accepted where all bytes are: a line for each
+given_short : (form : Form) (all : List ℕ) → passes (limit_of form) all ≡ false → passes (limit_of form) (given_by (limit_of form) all) ≡ false
+given_short Sim all short = short
+given_short Dump all short = short
+given_short (Config peer) all short = short
+given_short (Load count) all short = refl
+
+given_accepted : (form : Form) (all : List ℕ) → Accepts form all → Accepts form (given_by (limit_of form) all)
+given_accepted Sim all accepted = accepted
+given_accepted Dump all accepted = accepted
+given_accepted (Config peer) all accepted = accepted
+given_accepted (Load count) all accepted = tt
 
 due_done : (form : Form) (bytes text : List ℕ) (status : Status) → IsReadAgain → FaultsAreOfNoImage → passes (limit_of form) bytes ≡ false → Accepts form bytes → IsDue (Some form) bytes status text → status ≡ Done
 due_done form bytes text status again exact short accepted due =
@@ -178,6 +178,6 @@ done words form all before now status is again exact short accepted settled = el
   | inl none ↦ inr none.1
   | inr due ↦ (
       let known = subst (λ f. IsDue f (input_of f all) status due.0) is due.1 in
-      inl (due_done form all due.0 status again exact short accepted (subst (λ bytes. IsDue (Some form) bytes status due.0) (given_all form all) known))
+      inl (due_done form (given_by (limit_of form) all) due.0 status again exact (given_short form all short) (given_accepted form all accepted) known)
       )
 ]

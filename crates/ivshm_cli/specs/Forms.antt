@@ -1,31 +1,35 @@
 -- The words of the program, what each form reads, why it refuses, and what it answers. A new form is a line in each.
-use Rattle.std.specs.Prelude.{ℕ, ◌≡◌, ◌≢◌, ◌<◌, ◌-◌, ◌&&◌, Bool, false, nat_lt, nat_le, if◌then◌else◌, MatchBool, List, [], ◌∷◌, ◌++◌, length, codes, decimal, Option, Some, None, Result, Ok, Err}
-use Rattle.std.specs.List.{list_all}
+use Rattle.std.specs.Prelude.{ℕ, ◌≡◌, ◌≢◌, ◌<◌, ◌≤◌, ◌-◌, ◌&&◌, Bool, false, nat_lt, nat_le, if◌then◌else◌, MatchBool, List, [], ◌∷◌, ◌++◌, length, codes, decimal, Option, Some, None, Result, Ok, Err, option_and_then}
 use Rattle.std.specs.Str.{bytes_eq}
+use Rattle.line_text.specs.Numbers.{number_of}
 use Rattle.scenario_text.specs.declared.faults.ScenarioFault.{ScenarioFault}
 use Rattle.scenario_text.specs.declared.faults.ScenarioFault.TheVariants as faults
 use Rattle.scenario_text.specs.Scenario.{World}
 use Rattle.scenario_text.specs.Spelling.{IsSpelling}
 use Rattle.scenario_text.specs.Judge.{answer}
-use Rattle.link_model.specs.Schedule.{IsBuilt, runs_by_now}
 use Rattle.section_dump.specs.declared.DumpFault.{DumpFault}
 use Rattle.section_dump.specs.declared.DumpFault.TheVariants as dumps
 use Rattle.section_dump.specs.Image.{IsImage}
 use Rattle.section_dump.specs.Faults.{IsDumpFault}
 use Rattle.section_dump.specs.Listing.{IsListing}
 use Rattle.ivshm_cli.specs.declared.words.Form.{Form}
-use Rattle.ivshm_cli.specs.declared.words.Form.TheVariants.{Sim, Dump, Config}
+use Rattle.ivshm_cli.specs.declared.words.Form.TheVariants.{Sim, Dump, Config, Load}
 use Rattle.ivshm_cli.specs.declared.refusals.Fault.{Fault}
-use Rattle.ivshm_cli.specs.declared.refusals.Fault.TheVariants.{TooLong, Text, Unbuilt, BadPeer, Image}
+use Rattle.ivshm_cli.specs.declared.refusals.Fault.TheVariants.{TooLong, Text, BadPeer, Image}
 use Rattle.ivshm_cli.specs.declared.exit.Status.{Status}
 use Rattle.ivshm_cli.specs.declared.exit.Status.TheVariants.{Done}
 use Rattle.ivshm_cli.specs.Headline.{IsRecordOf}
 use Rattle.ivshm_cli.specs.Configuration.{IsConfigurationOf}
+use Rattle.ivshm_cli.specs.Load.{IsLoadOf}
 
 -- `config` with a peer: one digit, 0 to 7 (profile)
 abbrev pub config_of : List ℕ → Option Form
 config_of (digit ∷ []) = if nat_le 48 digit && nat_le digit 55 then Some (Config (digit - 48)) else None
 config_of _ = None
+
+-- `load` with a count: a number from 1 to 80,000, in decimal without leading zeros (profile)
+abbrev pub load_of : List ℕ → Option Form
+load_of word = option_and_then (λ count. if nat_le 1 count && nat_le count 80000 then Some (Load count) else None) (number_of word)
 
 -- the form that the words are, if they are one
 abbrev pub form_of : List (List ℕ) → Option Form
@@ -33,14 +37,23 @@ form_of (first ∷ []) =
     if bytes_eq first (codes "sim") then Some Sim
     else if bytes_eq first (codes "dump") then Some Dump
     else None
-form_of (first ∷ second ∷ []) = if bytes_eq first (codes "config") then config_of second else None
+form_of (first ∷ second ∷ []) =
+    if bytes_eq first (codes "config") then config_of second
+    else if bytes_eq first (codes "load") then load_of second
+    else None
 form_of _ = None
+
+-- the count of a load is in its range
+abbrev pub IsInRange : Form → Type 0
+IsInRange (Load count) = (1 ≤ count) × (count ≤ 80000)
+IsInRange _ = Unit {0}
 
 -- how many bytes a form reads at most; None reads nothing (profile)
 abbrev pub limit_of : Form → Option ℕ
 limit_of Sim = Some 16777216
 limit_of Dump = Some 16777248
 limit_of (Config peer) = Some 16777216
+limit_of (Load count) = None
 
 -- the bytes are more than the limit
 abbrev pub passes : Option ℕ → List ℕ → Bool
@@ -49,9 +62,9 @@ passes None bytes = false
 
 -- ---- why a form refuses bytes: a fault, or None where it answers them
 
--- a scenario is refused where an act isn't one that is built
-abbrev pub unbuilt_in : World → Option Fault
-unbuilt_in world = if list_all runs_by_now world.acts then None else Some Unbuilt
+-- every scenario is simulated
+abbrev pub none_in : World → Option Fault
+none_in world = None
 
 -- a scenario is refused where it hasn't the peer
 abbrev pub missing_in : ℕ → World → Option Fault
@@ -70,25 +83,28 @@ IsImageVerdict image (Some _) = ⊥
 
 -- what a form finds in bytes that aren't too long
 abbrev pub IsTextVerdict : Form → List ℕ → Option Fault → Type 0
-IsTextVerdict Sim bytes found = scenario_fault unbuilt_in (answer bytes) ≡ found
+IsTextVerdict Sim bytes found = scenario_fault none_in (answer bytes) ≡ found
 IsTextVerdict Dump bytes found = IsImageVerdict bytes found
 IsTextVerdict (Config peer) bytes found = scenario_fault (missing_in peer) (answer bytes) ≡ found
+IsTextVerdict (Load count) bytes found = found ≡ None
 
 -- what a form finds in bytes
 abbrev pub IsVerdict : Form → List ℕ → Option Fault → Type 0
 IsVerdict form bytes found = MatchBool (passes (limit_of form) bytes) (found ≡ Some TooLong) (IsTextVerdict form bytes found)
 
--- the bytes are what the form reads
+-- the bytes are what the form reads; one that reads nothing accepts all
 abbrev pub Accepts : Form → List ℕ → Type 0
-Accepts Sim bytes = (world : World) × IsSpelling world bytes × IsBuilt world.acts
+Accepts Sim bytes = (world : World) × IsSpelling world bytes
 Accepts Dump bytes = IsImage bytes
 Accepts (Config peer) bytes = (world : World) × IsSpelling world bytes × (peer < world.geometry.peers)
+Accepts (Load count) bytes = Unit {0}
 
 -- the form answers bytes that it doesn't refuse with this status and this text
 abbrev pub Answers : Form → List ℕ → Status → List ℕ → Type 0
 Answers Sim bytes Done text = IsRecordOf bytes text
 Answers Dump bytes Done text = IsListing bytes text
 Answers (Config peer) bytes Done text = IsConfigurationOf bytes text
+Answers (Load count) bytes Done text = IsLoadOf count text
 Answers form bytes _ text = ⊥
 
 -- ---- refusals
@@ -137,6 +153,5 @@ image_line_of dumps.NoMemory = codes "refused 0 NoMemory\n"
 abbrev pub line_of : Fault → List ℕ
 line_of TooLong = codes "refused 0 TooLong\n"
 line_of (Text fault) = text_line_of fault
-line_of Unbuilt = codes "refused 0 Unbuilt\n"
 line_of BadPeer = codes "refused 0 BadPeer\n"
 line_of (Image fault) = image_line_of fault

@@ -1,5 +1,6 @@
 pub mod Exit
 pub mod Headline
 pub mod Configuration
+pub mod Load
 pub mod Forms
 pub mod Due

@@ -15,9 +15,14 @@ ghost use Rattle.ivshm_cli.specs.Headline.{Simulates};
 ghost use Rattle.ivshm_cli.specs.declared.words.Form.{Form};
 
 mod configuration;
+#[cfg(test)]
+mod deliveries;
 mod exit;
 mod refusals;
 mod replies;
+#[cfg(test)]
+mod rows;
+mod summary;
 #[cfg(test)]
 mod tests;
 mod words;
@@ -83,11 +88,12 @@ fn answer_to<S: Source, K: Sink>(
 }
 
 /// Answers the words of the program, which are its arguments after its name: reads what they ask for to its end, and
-/// writes the one text that is due. Nothing is written before that text is whole.
+/// writes the one text that is due. Nothing is written before that text is whole. `load N` reads nothing.
 ///
 /// The statuses and the texts that go with them:
 /// - `Done`: for `sim` the record of the scenario that was read and of its lawful history, for `dump` the listing of the
-///   image, for `config P` the 16 lines of a device's configuration space at reset;
+///   image, for `config P` the 16 lines of a device's configuration space at reset, for `load N` the five lines that count
+///   the lawful history of a load of N frames;
 /// - `Usage`: the words are none of the forms, and the usage line was written. Nothing is read, and no memory is taken;
 /// - `Refused`: what was read is longer than the form allows, or isn't what the form reads, and one `refused` line was
 ///   written;

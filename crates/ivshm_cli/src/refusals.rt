@@ -14,8 +14,6 @@ pub(crate) enum Fault {
     TooLong,
     /// The text spells no scenario.
     Text(ScenarioFault),
-    /// The scenario has acts that can't be simulated by now.
-    Unbuilt,
     /// The scenario hasn't the peer that the words name.
     BadPeer,
     /// The bytes are no image of a region.
@@ -98,7 +96,6 @@ pub(crate) fn refusal_line(alloc: Global, fault: Fault) -> Result<Vec<u8>, Alloc
     match fault {
         Fault::TooLong => b"refused 0 TooLong\n".to_vec(alloc),
         Fault::Text(fault) => text_line(alloc, fault),
-        Fault::Unbuilt => b"refused 0 Unbuilt\n".to_vec(alloc),
         Fault::BadPeer => b"refused 0 BadPeer\n".to_vec(alloc),
         Fault::Image(fault) => image_line(alloc, fault),
     }

@@ -1,26 +1,26 @@
 //! What is due to a form and to the bytes that it read.
 
 ghost use Rattle.std.specs.Prelude.{◌≡◌, ◌^◌, ◌<◌, ◌≤◌, ℕ, List, true, false, Option, Some, None, Ok, IsSome, IsTrue, IfOk, OnOk, IsErrOf, length};
-ghost use Rattle.std.specs.List.{list_all};
 ghost use Rattle.ivs_base.specs.Ends.{SourceFailed};
-ghost use Rattle.ivshm_cli.specs.Forms.{limit_of, passes, scenario_fault, IsTextVerdict, Answers};
+ghost use Rattle.ivshm_cli.specs.Forms.{limit_of, passes, scenario_fault, IsInRange, IsTextVerdict, Answers};
 ghost use Rattle.ivshm_cli.specs.Due.{IsDue, HasRead, is_answer};
-ghost use Rattle.link_model.specs.Schedule.{IsBuilt, runs_by_now};
 ghost use Rattle.scenario_text.specs.Scenario.{World};
 ghost use Rattle.scenario_text.specs.Spelling.{IsSpelling, world_of};
 ghost use Rattle.scenario_text.specs.Judge.{answer as judged};
 ghost use Rattle.section_dump.specs.Listing.{IsListing};
 ghost use Rattle.ivshm_cli.specs.Headline.{IsRecordOf};
 ghost use Rattle.ivshm_cli.specs.Configuration.{IsConfigurationOf};
+ghost use Rattle.ivshm_cli.specs.Load.{IsLoadOf};
 ghost use Rattle.ivshm_cli.specs.declared.refusals.Fault.{Fault};
 
 use crate::configuration::configuration;
 use crate::exit::Status;
 use crate::refusals::{Fault, refusal_line};
+use crate::summary::summary;
 use crate::words::{Form, limit};
 use ivs_base::{NoMemory, ReadEnd, Source, read_all};
 use record_text::print;
-use scenario_text::{Act, Scenario, ScenarioFault, parse};
+use scenario_text::{Scenario, ScenarioFault, load, parse};
 use section_dump::{DumpFault, dump};
 use sim_world::simulate;
 use std::alloc::Global;
@@ -60,14 +60,6 @@ pub(crate) fn read_for<S: Source>(
     }
 }
 
-/// Whether each of the acts is one that is built.
-fn are_built(acts: &[Act]) -> bool
-    ensures value { result ≡ list_all runs_by_now acts.now }
-    ensures built { IsTrue result → IsBuilt acts.now }
-{
-    acts.iter().all(|act| matches!(act, Act::Tick { .. } | Act::Stop { .. } | Act::Turn { .. }))
-}
-
 /// The scenario that the bytes spell.
 fn scenario_in(alloc: Global, bytes: &[u8]) -> Result<Scenario, Failure>
     ensures spelled { IfOk result (λ scenario. IsSpelling (world_of scenario) bytes.now) }
@@ -89,9 +81,6 @@ fn simulated(alloc: Global, bytes: &[u8]) -> Result<Vec<u8>, Failure>
     ensures refused { (fault : Fault) → IsErrOf result (Failure.Refused fault) → IsTextVerdict Form.Sim bytes.now (Some fault) }
 {
     let scenario = scenario_in(alloc, bytes)?;
-    if !are_built(scenario.acts.items()) {
-        return Err(Failure::Refused(Fault::Unbuilt));
-    }
     let trace = match simulate(alloc, scenario) {
         Ok(trace) => trace,
         Err(_) => return Err(Failure::NoMemory),
@@ -131,8 +120,23 @@ fn configured(alloc: Global, peer: u32, bytes: &[u8]) -> Result<Vec<u8>, Failure
     }
 }
 
+/// What the lawful history of a load of so many frames counts.
+fn loaded(alloc: Global, count: u32) -> Result<Vec<u8>, NoMemory>
+    requires some { 1 ≤ count }
+    requires few { count ≤ 80000 }
+    ensures { IfOk result (λ text. IsLoadOf count text.items) }
+{
+    let scenario = load(alloc, count)?;
+    let trace = simulate(alloc, scenario)?;
+    match summary(alloc, count, &trace) {
+        Ok(text) => Ok(text),
+        Err(_) => Err(NoMemory),
+    }
+}
+
 /// The text that a form answers to the bytes that it read.
 fn text_for(alloc: Global, form: Form, bytes: &[u8]) -> Result<Vec<u8>, Failure>
+    requires { IsInRange form }
     ensures accepted { OnOk result (IsTextVerdict form bytes.now None) }
     ensures answers { IfOk result (λ text. Answers form bytes.now Status.Done text.items) }
     ensures refused { (fault : Fault) → IsErrOf result (Failure.Refused fault) → IsTextVerdict form bytes.now (Some fault) }
@@ -141,12 +145,17 @@ fn text_for(alloc: Global, form: Form, bytes: &[u8]) -> Result<Vec<u8>, Failure>
         Form::Sim => simulated(alloc, bytes),
         Form::Dump => listed(alloc, bytes),
         Form::Config(peer) => configured(alloc, peer, bytes),
+        Form::Load(count) => match loaded(alloc, count) {
+            Ok(text) => Ok(text),
+            Err(_) => Err(Failure::NoMemory),
+        },
     }
 }
 
 /// What is due to a form and to the bytes that it read, which aren't too long.
 pub(crate) fn reply_to(alloc: Global, form: Form, bytes: &[u8]) -> Result<Reply, NoMemory>
-    requires { passes (limit_of form) bytes.now ≡ false }
+    requires short { passes (limit_of form) bytes.now ≡ false }
+    requires range { IsInRange form }
     ensures due { IfOk result (λ r. IsDue (Some form) bytes.now r.status r.text.items) }
     ensures answer { IfOk result (λ r. IsTrue (is_answer r.status)) }
 {

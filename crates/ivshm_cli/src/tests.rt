@@ -14,9 +14,9 @@ const HANDSHAKE: &str =
 
 /// A status, and all that was written.
 #[derive(Drop)]
-struct Written {
-    status: Status,
-    text: Vec<u8>,
+pub(crate) struct Written {
+    pub(crate) status: Status,
+    pub(crate) text: Vec<u8>,
 }
 
 fn owned(alloc: Global, words: &[&str]) -> Result<Vec<String>, AllocError> {
@@ -28,7 +28,7 @@ fn owned(alloc: Global, words: &[&str]) -> Result<Vec<String>, AllocError> {
 }
 
 /// The answer to these words, with ample memory and with ends that don't fail.
-fn answer(alloc: Global, words: &[&str], input: &[u8]) -> Result<Written, Fail> {
+pub(crate) fn answer(alloc: Global, words: &[&str], input: &[u8]) -> Result<Written, Fail> {
     let words = owned(alloc, words)?;
     let mut source = MemorySource::new(alloc, input, 4096, &[])?;
     let mut sink = MemorySink::new(alloc, 1 << 18, 4096, &[])?;
@@ -98,7 +98,7 @@ fn stop(rt: HostRuntime) -> Result<(), Fail> {
 #[test]
 fn words_that_are_no_form(rt: HostRuntime) -> Result<(), Fail> {
     let usage = b"usage: ivshm sim | run | replay | dump | config P | load N\n".as_slice();
-    let lists: [&[&str]; 11] = [
+    let lists: [&[&str]; 16] = [
         &[],
         &["sim", "x"],
         &["Sim"],
@@ -110,6 +110,11 @@ fn words_that_are_no_form(rt: HostRuntime) -> Result<(), Fail> {
         &["config", "8"],
         &["config", "00"],
         &["config", "0", "0"],
+        &["load"],
+        &["load", "0"],
+        &["load", "80001"],
+        &["load", "01"],
+        &["load", "x"],
     ];
     for words in lists {
         let found = answer(rt.alloc(), words, b"")?;
@@ -121,7 +126,7 @@ fn words_that_are_no_form(rt: HostRuntime) -> Result<(), Fail> {
 
 #[test]
 fn bad_texts(rt: HostRuntime) -> Result<(), Fail> {
-    let cases: [(&str, &str, &str); 14] = [
+    let cases: [(&str, &str, &str); 13] = [
         ("", "", "refused 0 NoEnd\n"),
         ("ivshm 2\n", "", "refused 1 BadNumber\n"),
         (HEAD, "turn 0 07\nend\n", "refused 11 BadNumber\n"),
@@ -138,7 +143,6 @@ fn bad_texts(rt: HostRuntime) -> Result<(), Fail> {
         ),
         (HEAD, "tick 0\nend", "refused 0 NoEnd\n"),
         (HEAD, "end\ntick 0", "refused 12 BadLine\n"),
-        (HEAD, "poll 0\nend\n", "refused 0 Unbuilt\n"),
         (
             "ivshm 1\npeers 2\ntable 4096\ncommon 0\nout 0\n",
             "",
@@ -287,6 +291,17 @@ fn configuration_of_no_peer(rt: HostRuntime) -> Result<(), Fail> {
         assert_eq!(rt; found.status, Status::Refused);
         assert_eq!(rt; found.text.as_slice(), line.as_bytes());
     }
+    Ok(())
+}
+
+#[test]
+fn load_of_one_frame(rt: HostRuntime) -> Result<(), Fail> {
+    let found = answer(rt.alloc(), &["load", "1"], b"")?;
+    assert_eq!(rt; found.status, Status::Done);
+    assert_eq!(rt;
+        found.text.as_slice(),
+        b"load 1\naccepted 1\ndelivered 1\nrefused 0\nindex 1\n".as_slice()
+    );
     Ok(())
 }
 

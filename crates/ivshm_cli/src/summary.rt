@@ -1,10 +1,10 @@
 //! The text of a load: what its history counts.
 
 ghost use Rattle.std.specs.Prelude.{◌≡◌, ◌++◌, IfOk, OnOk, count_by, string_bytes};
-ghost use Rattle.link_model.specs.Sides.{world_of};
+ghost use Rattle.lawful_history.specs.Sides.{world_of};
 ghost use Rattle.ivshm_cli.specs.Load.{is_accept, is_deliver, is_refuse, written_to, last_written, index_word, number_line, summary_of};
 
-use link_model::Line;
+use lawful_history::Line;
 use record_text::Trace;
 use scenario_text::Scenario;
 use std::alloc::{AllocError, Global};

@@ -17,18 +17,18 @@ use Rattle.pair_calls.specs.Both.{OnlyComes}
 use Rattle.pair_calls.specs.Sides.{SideIs}
 use Rattle.pair_calls.proofs.Kept.{kept}
 use Rattle.pair_calls.proofs.AllRows.{follow_lem}
-use Rattle.link_model.specs.declared.line.Line.{Line}
-use Rattle.link_model.specs.declared.line.Line.TheVariants as line
-use Rattle.link_model.specs.Schedule.{Event, Asked, Automated, Stormed, Turned, Acted, WasReset, Reached, Loses, Repeated, event_peer, schedule}
-use Rattle.link_model.specs.Sides.{who_of}
-use Rattle.link_model.specs.Peers.{Peer, Driver, Waits, Chooses, Storms, at_start, asked_by}
+use Rattle.lawful_history.specs.declared.line.Line.{Line}
+use Rattle.lawful_history.specs.declared.line.Line.TheVariants as line
+use Rattle.lawful_history.specs.Schedule.{Event, Asked, Automated, Stormed, Turned, Acted, WasReset, Reached, Loses, Repeated, event_peer, schedule}
+use Rattle.lawful_history.specs.Sides.{who_of}
+use Rattle.lawful_history.specs.Peers.{Peer, Driver, Waits, Chooses, Storms, at_start, asked_by}
 use Rattle.link_laws.specs.Calls.{Call, Tick, Stop, Offer, Poll}
-use Rattle.link_model.specs.Device.{device_lines, step_interrupts}
-use Rattle.link_model.specs.History.{Moment, peer_at, step_of_event, peer_behind, happens, run, beginning, history}
-use Rattle.link_model.specs.Lawful.{IsLawful}
-use Rattle.link_model.proofs.There.{IsThere, there_below, all_there}
-use Rattle.link_model.proofs.Unique.{one_history_lem}
-use Rattle.link_model.proofs.Exists.{Good, good_on, good_at_first, has_sections, opened_fits, peer_same, peer_other, at_beginning, stays_on, history_lem}
+use Rattle.lawful_history.specs.Device.{device_lines, step_interrupts}
+use Rattle.lawful_history.specs.History.{Moment, peer_at, step_of_event, peer_behind, happens, run, beginning, history}
+use Rattle.lawful_history.specs.Lawful.{IsLawful}
+use Rattle.lawful_history.proofs.There.{IsThere, there_below, all_there}
+use Rattle.lawful_history.proofs.Unique.{one_history_lem}
+use Rattle.lawful_history.proofs.Exists.{Good, good_on, good_at_first, has_sections, opened_fits, peer_same, peer_other, at_beginning, stays_on, history_lem}
 use Rattle.link_histories.specs.Rows.{EachLine, KeepsRows, HistoriesRunTheMachine}
 use Rattle.link_histories.proofs.Proper.{ground_of, IsProper, all_proper}
 use Rattle.link_histories.proofs.Stands.{Fine, Stands, ends_alike, device_quiet, Settled, step_quiet, step_brings}

@@ -1,13 +1,13 @@
 -- What stands at the marks of a lawful history.
 use Rattle.std.proofs.Common.{◌∷◌, ◌++◌, ◌≡◌, [], List, sym, ap, subst, append_assoc}
-use Rattle.link_model.specs.declared.line.Line.TheVariants.{Accept, Deliver, Refuse, Read}
+use Rattle.lawful_history.specs.declared.line.Line.TheVariants.{Accept, Deliver, Refuse, Read}
 use Rattle.link_histories.specs.Reads.{DeliveredFramesAreRead, RefusedValuesAreRead, OutOfRangeIsRefused}
 use Rattle.link_histories.specs.Spelled.{HistoriesSpellAccepted}
 use Rattle.link_histories.proofs.Stands.{Fine, AnswersTo, Settled}
 use Rattle.link_histories.proofs.Lines.{at_line, middle}
 use Rattle.link_histories.proofs.Along.{all_fine, all_settled}
 use Rattle.link_histories.specs.Rows.{EachLine}
-use Rattle.link_model.specs.declared.line.Line.{Line}
+use Rattle.lawful_history.specs.declared.line.Line.{Line}
 use Rattle.std.specs.Prelude.{reverse}
 
 pub accepted_lem : HistoriesSpellAccepted

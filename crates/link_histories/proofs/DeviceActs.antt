@@ -8,15 +8,15 @@ use Rattle.scenario_text.specs.declared.acts.Act.{Act}
 use Rattle.scenario_text.specs.Scenario.{World}
 use Rattle.link_laws.specs.Steps.{Step, step_of}
 use Rattle.link_laws.specs.Trees.{CallTree, Ended, Does, Reads}
-use Rattle.link_model.specs.declared.line.Line.{Line}
-use Rattle.link_model.specs.Memory.{last_write}
-use Rattle.link_model.specs.Sides.{who_of}
-use Rattle.link_model.specs.Schedule.{Event, Asked, Automated, Stormed, Turned, Acted, WasReset, Reached, Loses, Repeated, DeviceAccess, event_peer, schedule}
-use Rattle.link_model.specs.Entries.{lines_by, lines_of}
-use Rattle.link_model.specs.Peers.{Driver, Peer, at_start, opened, stepped}
-use Rattle.link_model.specs.Device.{device_lines}
-use Rattle.link_model.specs.Lawful.{HasOneHistory}
-use Rattle.link_model.specs.History.{Moment, step_by, moved_by, acted_step, step_in, peer_in, peer_at, step_of_event, entry_of, peer_behind, happens, run, beginning, history, HistoryIsLawful}
+use Rattle.lawful_history.specs.declared.line.Line.{Line}
+use Rattle.lawful_history.specs.Memory.{last_write}
+use Rattle.lawful_history.specs.Sides.{who_of}
+use Rattle.lawful_history.specs.Schedule.{Event, Asked, Automated, Stormed, Turned, Acted, WasReset, Reached, Loses, Repeated, DeviceAccess, event_peer, schedule}
+use Rattle.lawful_history.specs.Entries.{lines_by, lines_of}
+use Rattle.lawful_history.specs.Peers.{Driver, Peer, at_start, opened, stepped}
+use Rattle.lawful_history.specs.Device.{device_lines}
+use Rattle.lawful_history.specs.Lawful.{HasOneHistory}
+use Rattle.lawful_history.specs.History.{Moment, step_by, moved_by, acted_step, step_in, peer_in, peer_at, step_of_event, entry_of, peer_behind, happens, run, beginning, history, HistoryIsLawful}
 use Rattle.link_histories.specs.Devices.{without_devices, without_device_events, DeviceActsChangeNothing}
 use Rattle.link_histories.proofs.DeviceLines.{lines_of_devices, without_both, without_reverse, event_apart, same_written}
 

@@ -10,14 +10,14 @@ use Rattle.doorbell_irq.specs.Events as device
 use Rattle.doorbell_irq.specs.DeviceRules.{effect_of}
 use Rattle.scenario_text.specs.Scenario.{World}
 use Rattle.link_laws.specs.Steps.{Step}
-use Rattle.link_model.specs.declared.line.Line.{Line}
-use Rattle.link_model.specs.declared.line.Line.TheVariants as line
-use Rattle.link_model.specs.Memory.{Touch, touch_of, value_behind, last_write}
-use Rattle.link_model.specs.Memory as touch
-use Rattle.link_model.specs.Schedule.{Event, Asked, Automated, Stormed, Turned, Acted, Reached, Loses, Repeated, DeviceAccess, ReadsConfig, WritesConfig, ReadsRegister, WritesRegister, ReadsMsix, WritesMsix}
-use Rattle.link_model.specs.Schedule as event
-use Rattle.link_model.specs.Entries.{access_lines, mark_line, turn_lines, denied_lines, acted_lines, lines_by}
-use Rattle.link_model.specs.Device.{devices_of, device_events, arrival, arrived, arrivals_by, lost_count, told_by, brought_by, step_interrupts, reached_line, device_lines}
+use Rattle.lawful_history.specs.declared.line.Line.{Line}
+use Rattle.lawful_history.specs.declared.line.Line.TheVariants as line
+use Rattle.lawful_history.specs.Memory.{Touch, touch_of, value_behind, last_write}
+use Rattle.lawful_history.specs.Memory as touch
+use Rattle.lawful_history.specs.Schedule.{Event, Asked, Automated, Stormed, Turned, Acted, Reached, Loses, Repeated, DeviceAccess, ReadsConfig, WritesConfig, ReadsRegister, WritesRegister, ReadsMsix, WritesMsix}
+use Rattle.lawful_history.specs.Schedule as event
+use Rattle.lawful_history.specs.Entries.{access_lines, mark_line, turn_lines, denied_lines, acted_lines, lines_by}
+use Rattle.lawful_history.specs.Device.{devices_of, device_events, arrival, arrived, arrivals_by, lost_count, told_by, brought_by, step_interrupts, reached_line, device_lines}
 use Rattle.link_histories.specs.Devices.{is_of_device, without_devices}
 
 -- each of these lines is of a device alone

@@ -4,7 +4,7 @@ use Rattle.section_map.specs.Geometry.{section_start}
 use Rattle.scenario_text.specs.Scenario.{World}
 use Rattle.link_laws.specs.Calls.{Who}
 use Rattle.pair_calls.specs.Ground as pair
-use Rattle.link_model.specs.Sides.{partner, traffic_vector, who_of}
+use Rattle.lawful_history.specs.Sides.{partner, traffic_vector, who_of}
 use Rattle.link_histories.proofs.Proper.{ground_of}
 use Rattle.link_histories.proofs.Outside.{section_is}
 

@@ -2,7 +2,7 @@
 use Rattle.std.proofs.Common.{◌≡◌, List, [], ◌∷◌, ◌++◌, ◌∙◌, ap, subst, append_assoc}
 use Rattle.std.specs.Prelude.{reverse}
 use Rattle.std.proofs.lemmas.List.{reverse-append}
-use Rattle.link_model.specs.declared.line.Line.{Line}
+use Rattle.lawful_history.specs.declared.line.Line.{Line}
 use Rattle.link_histories.specs.Rows.{EachLine}
 
 pub older_lines : (P : List Line → Line → Type 0) (new old : List Line) → EachLine P (new ++ old) → EachLine P old

@@ -34,9 +34,9 @@ use Rattle.pair_calls.specs.Ground as pair
 use Rattle.pair_calls.specs.Written.{words_of}
 use Rattle.pair_calls.specs.Sides.{SideIs}
 use Rattle.pair_calls.proofs.Spelling.{spelling}
-use Rattle.link_model.specs.declared.line.Line.{Line}
-use Rattle.link_model.specs.declared.line.Line.TheVariants as line
-use Rattle.link_model.specs.Memory.{last_write}
+use Rattle.lawful_history.specs.declared.line.Line.{Line}
+use Rattle.lawful_history.specs.declared.line.Line.TheVariants as line
+use Rattle.lawful_history.specs.Memory.{last_write}
 use Rattle.link_histories.specs.Told.{side_of}
 use Rattle.link_histories.specs.Reads.{Got, got, reads_of, IsReadFrame, IsReadBeyond, entry_read}
 use Rattle.link_histories.specs.Spelled.{section_words}

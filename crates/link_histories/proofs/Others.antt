@@ -11,15 +11,15 @@ use Rattle.link_laws.specs.Trees.{CallTree, Ended}
 use Rattle.link_laws.specs.Ends.{End}
 use Rattle.link_laws.specs.Calls.{Who, Call}
 use Rattle.link_laws.specs.Places.{Place}
-use Rattle.link_model.specs.declared.line.Line.{Line}
-use Rattle.link_model.specs.declared.line.Line.TheVariants as line
-use Rattle.link_model.specs.Memory.{MemoryLaw, last_write}
-use Rattle.link_model.specs.Sides.{who_of}
-use Rattle.link_model.specs.Storm.{drawn_access, draw, next_number}
-use Rattle.link_model.specs.Entries.{step_lines, turn_lines, acted_lines}
-use Rattle.link_model.specs.Peers.{Driver, Waits, Chooses, Storms, Peer, chosen, opened_by, opened}
-use Rattle.link_model.specs.History.{driven_step, step_by, may_write, acted_step, turn_step}
-use Rattle.link_model.proofs.Unique.{first_law}
+use Rattle.lawful_history.specs.declared.line.Line.{Line}
+use Rattle.lawful_history.specs.declared.line.Line.TheVariants as line
+use Rattle.lawful_history.specs.Memory.{MemoryLaw, last_write}
+use Rattle.lawful_history.specs.Sides.{who_of}
+use Rattle.lawful_history.specs.Storm.{drawn_access, draw, next_number}
+use Rattle.lawful_history.specs.Entries.{step_lines, turn_lines, acted_lines}
+use Rattle.lawful_history.specs.Peers.{Driver, Waits, Chooses, Storms, Peer, chosen, opened_by, opened}
+use Rattle.lawful_history.specs.History.{driven_step, step_by, may_write, acted_step, turn_step}
+use Rattle.lawful_history.proofs.Unique.{first_law}
 use Rattle.link_histories.proofs.Proper.{MayAct}
 use Rattle.link_histories.proofs.Stands.{Stands, IsQuiet, Alike, quiet_lines, stands_alike, first_behind, answers}
 use Rattle.link_histories.proofs.Outside.{read_stands, write_stands, state_stands, reset_stands}

@@ -21,9 +21,9 @@ use Rattle.pair_calls.proofs.Spelling.{spelling}
 use Rattle.pair_calls.specs.Ground as pair
 use Rattle.link_histories.specs.Reads.{Got, got, reads_of}
 use Rattle.link_histories.proofs.ReadPlaces.{ReadsAre}
-use Rattle.link_model.specs.declared.line.Line.{Line}
-use Rattle.link_model.specs.declared.line.Line.TheVariants as line
-use Rattle.link_model.specs.Memory.{last_write}
+use Rattle.lawful_history.specs.declared.line.Line.{Line}
+use Rattle.lawful_history.specs.declared.line.Line.TheVariants as line
+use Rattle.lawful_history.specs.Memory.{last_write}
 use Rattle.link_histories.specs.Told.{side_behind, side_of, telling_of}
 use Rattle.link_histories.proofs.Proper.{ground_of, is_ground}
 use Rattle.link_histories.proofs.Stands.{Stands, Settled, Rests, answers}

@@ -27,11 +27,11 @@ use Rattle.pair_calls.specs.Both.{OnlyComes, Holds}
 use Rattle.pair_calls.specs.Sides.{SideIs}
 use Rattle.pair_calls.proofs.Kept.{kept}
 use Rattle.pair_calls.proofs.AllRows.{follow_lem}
-use Rattle.link_model.specs.declared.line.Line.{Line}
-use Rattle.link_model.specs.declared.line.Line.TheVariants as line
-use Rattle.link_model.specs.Memory.{last_write}
-use Rattle.link_model.specs.Sides as model
-use Rattle.link_model.specs.Entries.{step_lines, mark_line}
+use Rattle.lawful_history.specs.declared.line.Line.{Line}
+use Rattle.lawful_history.specs.declared.line.Line.TheVariants as line
+use Rattle.lawful_history.specs.Memory.{last_write}
+use Rattle.lawful_history.specs.Sides as model
+use Rattle.lawful_history.specs.Entries.{step_lines, mark_line}
 use Rattle.link_histories.specs.Told.{side_of}
 use Rattle.link_histories.specs.Rows.{EachLine}
 use Rattle.link_histories.specs.Reads.{Got, reads_of, IsReadBeyond, got}

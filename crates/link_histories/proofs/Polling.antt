@@ -8,8 +8,8 @@ use Rattle.std.proofs.lemmas.List.Elements.{recursion_from_All}
 use Rattle.link_laws.specs.Steps.{Mark, Saw, Reclaim, Full, Accept, Look, Deliver, Return, Done, Down, Refuse, Over}
 use Rattle.link_laws.specs.LinkMachine.{Side, Told, Wrote, Marked, WasReset}
 use Rattle.link_laws.proofs.OfferLists.{yes, no}
-use Rattle.link_model.specs.declared.line.Line.{Line}
-use Rattle.link_model.specs.declared.line.Line.TheVariants as line
+use Rattle.lawful_history.specs.declared.line.Line.{Line}
+use Rattle.lawful_history.specs.declared.line.Line.TheVariants as line
 use Rattle.link_histories.specs.Told.{Telling, Tells, Silent, telling_of, side_behind, side_told, side_of}
 use Rattle.link_histories.specs.Polls.{delivers, deliver_count, IsWithin, DonePollsDeliverAll}
 use Rattle.link_histories.proofs.Stands.{Fine, first_behind}

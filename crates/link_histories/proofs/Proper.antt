@@ -16,8 +16,8 @@ use Rattle.scenario_text.specs.Table.{pieces_of}
 use Rattle.scenario_text.specs.ActRows.{row_of_act}
 use Rattle.pair_calls.specs.Ground.{Ground, IsGround}
 use Rattle.pair_calls.specs.Laws.{IsGivenTo}
-use Rattle.link_model.specs.Sides.{traffic_vector}
-use Rattle.link_model.specs.Schedule.{Event, Asked, Automated, Stormed, Turned, Acted, WasReset, Reached, Loses, Repeated, register_event, events_of, schedule}
+use Rattle.lawful_history.specs.Sides.{traffic_vector}
+use Rattle.lawful_history.specs.Schedule.{Event, Asked, Automated, Stormed, Turned, Acted, WasReset, Reached, Loses, Repeated, register_event, events_of, schedule}
 
 -- the ground of the scenario's link
 abbrev pub ground_of : World → Ground

@@ -10,9 +10,9 @@ use Rattle.scenario_text.specs.Scenario.{World, IsWorld, is_link}
 use Rattle.link_laws.specs.Steps.{Mark, Saw, Reclaim, Full, Accept, Look, Deliver, Return, Done, Down, Refuse, Over}
 use Rattle.link_laws.specs.LinkMachine.{Side, Told, Wrote, Marked, WasReset}
 use Rattle.link_laws.proofs.OfferLists.{yes}
-use Rattle.link_model.specs.declared.line.Line.{Line}
-use Rattle.link_model.specs.declared.line.Line.TheVariants as line
-use Rattle.link_model.specs.Lawful.{IsLawful}
+use Rattle.lawful_history.specs.declared.line.Line.{Line}
+use Rattle.lawful_history.specs.declared.line.Line.TheVariants as line
+use Rattle.lawful_history.specs.Lawful.{IsLawful}
 use Rattle.link_histories.specs.Told.{Tells, telling_of, side_behind, side_told, side_of}
 use Rattle.link_histories.specs.Refusals.{HonestPeersNeverRefuse, RefusesOutOfRange, RefusedPeersRest}
 use Rattle.link_histories.proofs.Stands.{Fine, first_behind}

@@ -8,7 +8,7 @@ use Rattle.scenario_text.specs.Scenario.{World, is_link}
 use Rattle.link_laws.specs.LinkMachine.{Side, fresh_side, Told, Wrote, Marked, WasReset, Row, Log, no_sessions, log_behind, MachineRuns, starts, goes, DeliversInOrder}
 use Rattle.link_laws.proofs.OfferLists.{no}
 use Rattle.link_laws.proofs.MachineLaws.{machine}
-use Rattle.link_model.specs.declared.line.Line.{Line}
+use Rattle.lawful_history.specs.declared.line.Line.{Line}
 use Rattle.link_histories.specs.Told.{Telling, Tells, Silent, telling_of, side_behind, side_told, side_of}
 use Rattle.link_histories.specs.Rows.{EachLine, IsRow, HasRow}
 use Rattle.link_histories.specs.Sessions.{log_told, log_of, HistoriesDeliver}

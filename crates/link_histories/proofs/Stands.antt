@@ -16,20 +16,20 @@ use Rattle.pair_calls.specs.Written.{words_of, HasWritten}
 use Rattle.pair_calls.specs.Ground.{StandsAs}
 use Rattle.pair_calls.specs.Both.{Holds}
 use Rattle.pair_calls.specs.Sides.{SideIs}
-use Rattle.link_model.specs.declared.line.Line.{Line}
-use Rattle.link_model.specs.declared.line.Line.TheVariants as line
-use Rattle.link_model.specs.Memory.{Touch, touch_of, value_behind, last_write}
-use Rattle.link_model.specs.Memory as touch
-use Rattle.link_model.specs.Schedule.{Event, Asked, Automated, Stormed, Turned, Acted, Reached, Loses, Repeated, DeviceAccess, ReadsConfig, WritesConfig, ReadsRegister, WritesRegister, ReadsMsix, WritesMsix}
-use Rattle.link_model.specs.Schedule as event
-use Rattle.link_model.specs.Entries.{access_lines}
-use Rattle.link_model.specs.Device.{devices_of, device_events, arrival, arrived, arrivals_by, lost_count, told_by, brought_by, step_interrupts, reached_line, device_lines}
+use Rattle.lawful_history.specs.declared.line.Line.{Line}
+use Rattle.lawful_history.specs.declared.line.Line.TheVariants as line
+use Rattle.lawful_history.specs.Memory.{Touch, touch_of, value_behind, last_write}
+use Rattle.lawful_history.specs.Memory as touch
+use Rattle.lawful_history.specs.Schedule.{Event, Asked, Automated, Stormed, Turned, Acted, Reached, Loses, Repeated, DeviceAccess, ReadsConfig, WritesConfig, ReadsRegister, WritesRegister, ReadsMsix, WritesMsix}
+use Rattle.lawful_history.specs.Schedule as event
+use Rattle.lawful_history.specs.Entries.{access_lines}
+use Rattle.lawful_history.specs.Device.{devices_of, device_events, arrival, arrived, arrivals_by, lost_count, told_by, brought_by, step_interrupts, reached_line, device_lines}
 use Rattle.link_histories.specs.Told.{Telling, Tells, Silent, telling_of, side_told, side_of}
 use Rattle.link_histories.specs.Rows.{EachLine, HasRow}
 use Rattle.link_histories.specs.Reads.{Got, Reading, Passes, reading_of, reads_with, reads_of, IsReadFrame, IsReadBeyond, Takes, Breaks, got}
 use Rattle.link_histories.specs.Spelled.{SpellsNext}
 use Rattle.link_histories.proofs.ReadPlaces.{ReadsAre}
-use Rattle.link_model.specs.Sides.{who_of}
+use Rattle.lawful_history.specs.Sides.{who_of}
 use Rattle.link_histories.proofs.Proper.{ground_of}
 use Rattle.split_ring.specs.declared.ranges.Refused.{Refused}
 use Rattle.split_ring.specs.declared.steps.Access.{Access}

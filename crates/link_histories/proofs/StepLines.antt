@@ -11,11 +11,11 @@ use Rattle.link_laws.specs.Steps.{Mark, Saw, Reclaim, Full, Accept, Look, Delive
 use Rattle.link_laws.specs.LinkMachine.{Side, Told, Wrote, Marked, WasReset, MarkRow, Row}
 use Rattle.pair_calls.specs.Ground.{Leaves}
 use Rattle.pair_calls.specs.Sides.{told_of, RowsAlong}
-use Rattle.link_model.specs.declared.line.Line.{Line}
-use Rattle.link_model.specs.declared.line.Line.TheVariants as line
-use Rattle.link_model.specs.Memory.{last_write}
-use Rattle.link_model.specs.Entries.{mark_line, step_lines}
-use Rattle.link_model.proofs.Apart.{mark_apart}
+use Rattle.lawful_history.specs.declared.line.Line.{Line}
+use Rattle.lawful_history.specs.declared.line.Line.TheVariants as line
+use Rattle.lawful_history.specs.Memory.{last_write}
+use Rattle.lawful_history.specs.Entries.{mark_line, step_lines}
+use Rattle.lawful_history.proofs.Apart.{mark_apart}
 use Rattle.link_histories.specs.Told.{Telling, Tells, telling_of, side_marked, side_behind, side_told, side_of}
 use Rattle.link_histories.specs.Rows.{EachLine, IsRow, HasRow}
 use Rattle.link_histories.specs.Reads.{Got, got, Reading, Breaks, reading_of, reads_with, reads_of}

@@ -11,12 +11,12 @@ use Rattle.link_laws.specs.Calls.{Who, Call, Tick, Stop, Offer, Poll}
 use Rattle.link_laws.specs.Automatic.{Round, Anew, BehindOffer, BehindPoll, Choice, ChoosesTick, ChoosesOffer, ChoosesPoll, IsFinished, in_phase, choice_of}
 use Rattle.pair_calls.specs.Ground.{IsOffered, AreOffered}
 use Rattle.pair_calls.specs.Laws.{IsGivenTo}
-use Rattle.link_model.specs.declared.line.Line.{Line}
-use Rattle.link_model.specs.Schedule.{Event, Asked, Automated, Stormed, Turned, Acted, WasReset, Reached, Loses, Repeated, event_peer}
-use Rattle.link_model.specs.Memory.{last_write}
-use Rattle.link_model.specs.Sides.{who_of}
-use Rattle.link_model.specs.Peers.{Auto, Driver, Waits, Chooses, Storms, Peer, at_start, asked_by, cut, with_choice, chosen, opened_by, opened, counted, counted_all, driver_behind}
-use Rattle.link_model.specs.History.{driven, moved_by, peer_in}
+use Rattle.lawful_history.specs.declared.line.Line.{Line}
+use Rattle.lawful_history.specs.Schedule.{Event, Asked, Automated, Stormed, Turned, Acted, WasReset, Reached, Loses, Repeated, event_peer}
+use Rattle.lawful_history.specs.Memory.{last_write}
+use Rattle.lawful_history.specs.Sides.{who_of}
+use Rattle.lawful_history.specs.Peers.{Auto, Driver, Waits, Chooses, Storms, Peer, at_start, asked_by, cut, with_choice, chosen, opened_by, opened, counted, counted_all, driver_behind}
+use Rattle.lawful_history.specs.History.{driven, moved_by, peer_in}
 use Rattle.link_histories.proofs.Proper.{ground_of, IsProper}
 
 -- an honest peer isn't a storm, and no other is automatic; the frames of an automatic peer may be offered

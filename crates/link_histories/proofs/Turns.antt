@@ -21,13 +21,13 @@ use Rattle.pair_calls.specs.Ground.{Ground, Meets}
 use Rattle.pair_calls.specs.Ground as pair
 use Rattle.pair_calls.specs.Laws.{IsGivenTo}
 use Rattle.pair_calls.specs.Both.{OnlyComes}
-use Rattle.link_model.specs.declared.line.Line.{Line}
-use Rattle.link_model.specs.declared.line.Line.TheVariants as line
-use Rattle.link_model.specs.Memory.{last_write}
-use Rattle.link_model.specs.Sides.{who_of}
-use Rattle.link_model.specs.Entries.{step_lines, turn_lines}
-use Rattle.link_model.specs.Peers.{Auto, Driver, Waits, Chooses, Storms, Peer, with_choice, chosen, opened_by, opened}
-use Rattle.link_model.specs.History.{driven_step, driven, step_by, moved_by}
+use Rattle.lawful_history.specs.declared.line.Line.{Line}
+use Rattle.lawful_history.specs.declared.line.Line.TheVariants as line
+use Rattle.lawful_history.specs.Memory.{last_write}
+use Rattle.lawful_history.specs.Sides.{who_of}
+use Rattle.lawful_history.specs.Entries.{step_lines, turn_lines}
+use Rattle.lawful_history.specs.Peers.{Auto, Driver, Waits, Chooses, Storms, Peer, with_choice, chosen, opened_by, opened}
+use Rattle.lawful_history.specs.History.{driven_step, driven, step_by, moved_by}
 use Rattle.link_histories.proofs.Proper.{ground_of}
 use Rattle.link_histories.proofs.Stands.{Stands, IsQuiet, quiet_lines, stands_alike, ends_alike, BringsNone}
 use Rattle.link_histories.proofs.Grounds.{who_is}

@@ -3,10 +3,10 @@ use Rattle.std.specs.Prelude.{◌≡◌, Bool, true, false, not, List}
 use Rattle.std.specs.List.{filter}
 use Rattle.scenario_text.specs.declared.acts.Act.{Act}
 use Rattle.scenario_text.specs.Scenario.{World, IsWorld}
-use Rattle.link_model.specs.declared.line.Line.{Line}
-use Rattle.link_model.specs.declared.line.Line.TheVariants as line
-use Rattle.link_model.specs.Schedule.{Event, Reached, Loses, Repeated, schedule}
-use Rattle.link_model.specs.Lawful.{IsLawful}
+use Rattle.lawful_history.specs.declared.line.Line.{Line}
+use Rattle.lawful_history.specs.declared.line.Line.TheVariants as line
+use Rattle.lawful_history.specs.Schedule.{Event, Reached, Loses, Repeated, schedule}
+use Rattle.lawful_history.specs.Lawful.{IsLawful}
 
 -- the event is of a device alone: a peer reaches a part of it, or an interrupt is to be lost or is repeated
 abbrev pub is_of_device_event : Event → Bool

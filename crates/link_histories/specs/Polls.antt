@@ -3,9 +3,9 @@ use Rattle.std.specs.Prelude.{ℕ, ◌≡◌, ◌≢◌, ◌+◌, ◌==◌, if�
 use Rattle.scenario_text.specs.Scenario.{World, IsWorld}
 use Rattle.link_laws.specs.Steps as mark
 use Rattle.link_laws.specs.LinkMachine.{Wrote, Marked}
-use Rattle.link_model.specs.declared.line.Line.{Line}
-use Rattle.link_model.specs.declared.line.Line.TheVariants.{Look, Done}
-use Rattle.link_model.specs.Lawful.{IsLawful}
+use Rattle.lawful_history.specs.declared.line.Line.{Line}
+use Rattle.lawful_history.specs.declared.line.Line.TheVariants.{Look, Done}
+use Rattle.lawful_history.specs.Lawful.{IsLawful}
 use Rattle.link_histories.specs.Told.{Telling, Tells, Silent, telling_of}
 
 -- whether a line is a delivery of peer p, as a number

@@ -12,10 +12,10 @@ use Rattle.link_laws.specs.Words.{frame_in}
 use Rattle.link_laws.specs.Offers.{entry_of}
 use Rattle.link_laws.specs.Polls.{Item, item_entry, item_address, IsGood}
 use Rattle.link_laws.specs.LinkMachine.{Side}
-use Rattle.link_model.specs.declared.line.Line.{Line}
-use Rattle.link_model.specs.declared.line.Line.TheVariants as line
-use Rattle.link_model.specs.Sides.{who_of}
-use Rattle.link_model.specs.Lawful.{IsLawful}
+use Rattle.lawful_history.specs.declared.line.Line.{Line}
+use Rattle.lawful_history.specs.declared.line.Line.TheVariants as line
+use Rattle.lawful_history.specs.Sides.{who_of}
+use Rattle.lawful_history.specs.Lawful.{IsLawful}
 use Rattle.link_histories.specs.Told.{side_of}
 
 -- a word, and the value that a read of it gave

@@ -3,9 +3,9 @@ use Rattle.std.specs.Prelude.{ℕ, ◌≡◌, ◌≢◌, ◌-◌, true, false, L
 use Rattle.split_ring.specs.declared.ranges.Refused.{Refused}
 use Rattle.scenario_text.specs.Scenario.{World, IsWorld, is_link}
 use Rattle.link_laws.specs.LinkMachine.{IsBeyond}
-use Rattle.link_model.specs.declared.line.Line.{Line}
-use Rattle.link_model.specs.declared.line.Line.TheVariants.{State, Reset, Refuse}
-use Rattle.link_model.specs.Lawful.{IsLawful}
+use Rattle.lawful_history.specs.declared.line.Line.{Line}
+use Rattle.lawful_history.specs.declared.line.Line.TheVariants.{State, Reset, Refuse}
+use Rattle.lawful_history.specs.Lawful.{IsLawful}
 use Rattle.link_histories.specs.Told.{side_of}
 
 -- where both link peers are honest, nobody refuses

@@ -2,8 +2,8 @@
 use Rattle.std.specs.Prelude.{ℕ, ◌-◌, ◌<◌, List, [], ◌∷◌, reverse}
 use Rattle.scenario_text.specs.Scenario.{World, IsWorld, is_link}
 use Rattle.link_laws.specs.LinkMachine.{Told, Wrote, Marked, WasReset, Side, Row}
-use Rattle.link_model.specs.declared.line.Line.{Line}
-use Rattle.link_model.specs.Lawful.{IsLawful}
+use Rattle.lawful_history.specs.declared.line.Line.{Line}
+use Rattle.lawful_history.specs.Lawful.{IsLawful}
 use Rattle.link_histories.specs.Told.{Telling, Tells, Silent, telling_of, side_of}
 
 -- each line has this property behind the lines that are older

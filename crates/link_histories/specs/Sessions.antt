@@ -2,8 +2,8 @@
 use Rattle.std.specs.Prelude.{ℕ, ◌≡◌, ◌-◌, ◌<◌, ◌==◌, true, if◌then◌else◌, List, [], ◌∷◌, ◌++◌, reverse}
 use Rattle.scenario_text.specs.Scenario.{World, IsWorld, is_link}
 use Rattle.link_laws.specs.LinkMachine.{Side, Log, no_sessions, log_behind, DeliversInOrder}
-use Rattle.link_model.specs.declared.line.Line.{Line}
-use Rattle.link_model.specs.Lawful.{IsLawful}
+use Rattle.lawful_history.specs.declared.line.Line.{Line}
+use Rattle.lawful_history.specs.Lawful.{IsLawful}
 use Rattle.link_histories.specs.Told.{Telling, Tells, Silent, telling_of, side_of}
 
 -- the sessions of peer p behind a line that tells this, where they and those of its partner were these, and it was this side

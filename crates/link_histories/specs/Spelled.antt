@@ -4,10 +4,10 @@ use Rattle.section_map.specs.Geometry.{section_start}
 use Rattle.split_ring.specs.Layout.{limit_of}
 use Rattle.split_ring.specs.Spelling.{Spells}
 use Rattle.scenario_text.specs.Scenario.{World, IsWorld}
-use Rattle.link_model.specs.declared.line.Line.{Line}
-use Rattle.link_model.specs.declared.line.Line.TheVariants.{Accept}
-use Rattle.link_model.specs.Memory.{last_write}
-use Rattle.link_model.specs.Lawful.{IsLawful}
+use Rattle.lawful_history.specs.declared.line.Line.{Line}
+use Rattle.lawful_history.specs.declared.line.Line.TheVariants.{Accept}
+use Rattle.lawful_history.specs.Memory.{last_write}
+use Rattle.lawful_history.specs.Lawful.{IsLawful}
 use Rattle.link_histories.specs.Told.{side_of}
 
 -- the words of the output section of peer p behind these lines, of which the newest is the first

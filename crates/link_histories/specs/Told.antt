@@ -3,8 +3,8 @@
 use Rattle.std.specs.Prelude.{ℕ, ◌+◌, ◌==◌, true, false, if◌then◌else◌, Some, None, List, [], ◌∷◌, ◌++◌, length}
 use Rattle.link_laws.specs.Steps.{Mark, Saw, Reclaim, Full, Accept, Look, Deliver, Return, Done, Down, Refuse, Over}
 use Rattle.link_laws.specs.LinkMachine.{Side, fresh_side, Told, Wrote, Marked, WasReset, side_with}
-use Rattle.link_model.specs.declared.line.Line.{Line}
-use Rattle.link_model.specs.declared.line.Line.TheVariants as line
+use Rattle.lawful_history.specs.declared.line.Line.{Line}
+use Rattle.lawful_history.specs.declared.line.Line.TheVariants as line
 
 -- what a line tells the machine of a peer: a write of its state, a mark, or the reset of its device; or nothing
 pub data Telling : Type 0 where

@@ -1,4 +1,4 @@
-//! What holds of every lawful history of a scenario. It stands on `link_model` for the histories and on `pair_calls` for what two ends
+//! What holds of every lawful history of a scenario. It stands on `lawful_history` for the histories and on `pair_calls` for what two ends
 //! keep. It holds no code: each law is the contract of a function that does nothing.
 #![tactic(auto)]
 
@@ -10,7 +10,7 @@ ghost use Rattle.link_histories.specs.Rows.{HistoriesRunTheMachine};
 ghost use Rattle.link_histories.specs.Sessions.{HistoriesDeliver};
 ghost use Rattle.link_histories.specs.Spelled.{HistoriesSpellAccepted};
 
-use link_model::{history_is_lawful, one_history};
+use lawful_history::{history_is_lawful, one_history};
 
 #[cfg(test)]
 mod tests;

@@ -1,11 +1,11 @@
 //! Whether a history is lawful, decided by comparing it with the one lawful history of its scenario. It stands on `sim_world`, which computes
-//! that history, and on the law of `link_model` that a scenario has one at most. Its contract promises an answer of yes exactly
+//! that history, and on the law of `lawful_history` that a scenario has one at most. Its contract promises an answer of yes exactly
 //! where the history is lawful.
 #![tactic(auto)]
 
 ghost use Rattle.std.specs.Prelude.{◌↔◌, IsTrue, IfOk};
-ghost use Rattle.link_model.specs.Sides.{world_of};
-ghost use Rattle.link_model.specs.Lawful.{IsLawful};
+ghost use Rattle.lawful_history.specs.Sides.{world_of};
+ghost use Rattle.lawful_history.specs.Lawful.{IsLawful};
 
 mod lines;
 #[cfg(test)]
@@ -13,7 +13,7 @@ mod tests;
 
 use ivs_base::NoMemory;
 use lines::same_lines;
-use link_model::{Line, one_history};
+use lawful_history::{Line, one_history};
 use scenario_text::Scenario;
 use sim_world::simulate;
 use std::alloc::Global;

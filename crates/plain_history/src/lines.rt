@@ -1,7 +1,7 @@
 //! Lines that are the same.
 ghost use Rattle.std.specs.Prelude.{◌≡◌, ◌↔◌, IsTrue};
 
-use link_model::Line;
+use lawful_history::Line;
 
 /// Is it the same line?
 fn is_same(line: &Line, other: &Line) -> bool

@@ -1,6 +1,6 @@
 //! A worked history, and the same with each of its lines changed.
 use super::is_lawful;
-use link_model::Line;
+use lawful_history::Line;
 use scenario_text::parse;
 use std::alloc::Global;
 use std::test::Fail;

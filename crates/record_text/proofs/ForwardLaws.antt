@@ -11,7 +11,7 @@ use Rattle.line_text.proofs.LineLaws.{free_of}
 use Rattle.line_text.proofs.MachineLaws.{Goes, goes-append, goes-leads, reads}
 use Rattle.line_text.proofs.TableLaws.{finds}
 use Rattle.line_text.proofs.RowLaws.{IsRow, bare, row_plain, row_printable, row_cut, hex_of-spell, text_is_lines}
-use Rattle.link_model.specs.declared.line.Line.{Line}
+use Rattle.lawful_history.specs.declared.line.Line.{Line}
 use Rattle.scenario_text.specs.Scenario.{World}
 use Rattle.scenario_text.specs.Table as scenario_table
 use Rattle.scenario_text.specs.Spelling as scenario
@@ -21,7 +21,7 @@ use Rattle.scenario_text.proofs.ForwardLaws as scenario_laws
 use Rattle.record_text.specs.declared.faults.RecordCause.{RecordCause}
 use Rattle.record_text.specs.declared.forms.LineForm.{LineForm}
 use Rattle.record_text.specs.declared.forms.LineForm.TheVariants.{Count}
-use Rattle.record_text.specs.Frames.{has_frame, HaveFrames}
+use Rattle.lawful_history.specs.Frames.{has_frame, HaveFrames}
 use Rattle.record_text.specs.Table.{pieces_of, all_forms}
 use Rattle.record_text.specs.LineRows.{row_of_line, entry_of, is_frame}
 use Rattle.record_text.specs.Spelling.{Record, Fits, AllFit, IsRecord, first_line, history_rows, spelling, IsSpelling}

@@ -2,7 +2,7 @@
 use Rattle.std.specs.Prelude.{◌≡◌, ℕ, ◌^◌, ◌<◌, All, List, [], ◌∷◌, ◌++◌, length, map, codes}
 use Rattle.line_text.specs.Forms.{Fit, FitBytes}
 use Rattle.line_text.specs.Rows.{Row, row, text_of}
-use Rattle.link_model.specs.declared.line.Line.{Line}
+use Rattle.lawful_history.specs.declared.line.Line.{Line}
 use Rattle.scenario_text.specs.Scenario.{World, IsWorld}
 use Rattle.scenario_text.specs.Spelling as scenario
 use Rattle.record_text.specs.declared.forms.LineForm.{LineForm}
@@ -10,7 +10,7 @@ use Rattle.record_text.specs.declared.forms.LineForm.TheVariants.{Count}
 use Rattle.record_text.specs.declared.trace.Trace.{Trace}
 use Rattle.record_text.specs.Table.{pieces_of}
 use Rattle.record_text.specs.LineRows.{row_of_line}
-use Rattle.record_text.specs.Frames.{HaveFrames}
+use Rattle.lawful_history.specs.Frames.{HaveFrames}
 
 -- what a record says
 pub record Record : Type 0 where

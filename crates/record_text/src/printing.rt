@@ -10,7 +10,7 @@ use crate::forms::LineForm;
 use crate::trace::Trace;
 use ivs_base::{Frame, NoMemory};
 use line_text::put_line;
-use link_model::Line;
+use lawful_history::Line;
 use scenario_text::put_scenario;
 use split_ring::{FieldName, Refused};
 use std::alloc::{AllocError, Global};

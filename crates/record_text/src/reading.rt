@@ -11,7 +11,7 @@ use crate::faults::{RecordCause, RecordFault};
 use crate::taking::take;
 use crate::trace::Trace;
 use line_text::cut;
-use link_model::Lines;
+use lawful_history::Lines;
 use scenario_text::{Draft, Scenario};
 use std::alloc::Global;
 

@@ -4,7 +4,7 @@ ghost use Rattle.std.specs.List.{list_all};
 ghost use Rattle.line_text.specs.Forms.{texts, AreInRange, is_printable};
 ghost use Rattle.record_text.specs.Table.{pieces_of};
 ghost use Rattle.record_text.specs.LineRows.{entry_of, is_frame, refusal_of};
-ghost use Rattle.record_text.specs.Frames.{HaveFrames};
+ghost use Rattle.lawful_history.specs.Frames.{HaveFrames};
 ghost use Rattle.record_text.specs.Judge.{frame_in, judge, history_step};
 ghost use Rattle.record_text.specs.Answers.{Takes};
 
@@ -13,7 +13,7 @@ use crate::faults::RecordCause;
 use crate::forms::{LineForm, form_of};
 use ivs_base::{Frame, NoMemory};
 use line_text::{hex_field, numbers_in, read_hex};
-use link_model::{Line, Lines};
+use lawful_history::{Line, Lines};
 use split_ring::{FieldName, Refused};
 use std::alloc::Global;
 

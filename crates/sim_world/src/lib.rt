@@ -1,27 +1,21 @@
-//! The simulation: the lawful history of a scenario, step by step over a region and its devices. It stands on `link_endpoint` for the
-//! ends of the link, on `doorbell_irq` for the devices and on `section_map` for the region. The contract of `simulate` promises the one
-//! lawful history of its scenario, whatever its acts are.
+//! The simulation: the lawful history of a scenario, made act by act on a stage. It stands on `link_world` for the stage, and on
+//! `record_text` for the trace that it makes. The contract of `simulate` promises the one lawful history of its scenario, whatever
+//! its acts are.
 #![tactic(auto)]
 
 ghost use Rattle.std.specs.Prelude.{◌≡◌, IfOk};
-ghost use Rattle.link_model.specs.Sides.{world_of};
-ghost use Rattle.link_model.specs.Lawful.{IsLawful};
-ghost use Rattle.link_model.specs.History.{history};
+ghost use Rattle.lawful_history.specs.Sides.{world_of};
+ghost use Rattle.lawful_history.specs.Lawful.{IsLawful};
+ghost use Rattle.lawful_history.specs.History.{history};
 
-mod acts;
-mod devices;
-mod link;
-mod scene;
-mod seat;
-mod simulation;
 #[cfg(test)]
 mod tests;
 
 use ivs_base::NoMemory;
-use link_model::history_is_lawful;
+use lawful_history::history_is_lawful;
+use link_world::Stage;
 use record_text::Trace;
 use scenario_text::Scenario;
-use simulation::Simulation;
 use std::alloc::Global;
 
 /// The scenario with its one lawful history. NoMemory comes only where memory ran out.
@@ -31,12 +25,12 @@ pub fn simulate(alloc: Global, scenario: Scenario) -> Result<Trace, NoMemory>
     ensures lawful { IfOk result (λ trace. IsLawful (world_of scenario) trace.lines) }
 {
     history_is_lawful();
-    let mut simulation = Simulation::new(alloc, &scenario)?;
+    let mut stage = Stage::new(alloc, &scenario)?;
     for act in scenario.acts.items() {
-        simulation.act(act)?;
+        stage.act(act)?;
     }
     Ok(Trace {
-        lines: simulation.into_lines(),
+        lines: stage.into_lines(),
         scenario,
     })
 }

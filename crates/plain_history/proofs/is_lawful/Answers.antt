@@ -1,7 +1,7 @@
 use Rattle.std.proofs.Common.{List, subst, sym, ◌∙◌}
-use Rattle.link_model.specs.declared.line.Line.{Line}
-use Rattle.link_model.specs.Sides.{world_of}
-use Rattle.link_model.specs.Lawful.{IsLawful}
+use Rattle.lawful_history.specs.declared.line.Line.{Line}
+use Rattle.lawful_history.specs.Sides.{world_of}
+use Rattle.lawful_history.specs.Lawful.{IsLawful}
 use Rattle.plain_history.proofs.is_lawful.Goals as goal
 
 pub returns : goal.returns

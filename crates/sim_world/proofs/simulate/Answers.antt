@@ -1,10 +1,10 @@
 use Rattle.std.proofs.Common.{arith, List, ap, length, take, subst, sym, ◌∙◌}
-use Rattle.link_model.specs.declared.line.Line.{Line}
-use Rattle.link_model.specs.Sides.{world_of}
-use Rattle.link_model.specs.Schedule.{schedule}
-use Rattle.link_model.specs.Lawful.{IsLawful}
-use Rattle.record_text.specs.Frames.{HaveFrames}
-use Rattle.sim_world.proofs.Runs.{one_act, act_at, losses_few, whole_history}
+use Rattle.lawful_history.specs.declared.line.Line.{Line}
+use Rattle.lawful_history.specs.Sides.{world_of}
+use Rattle.lawful_history.specs.Schedule.{schedule}
+use Rattle.lawful_history.specs.Lawful.{IsLawful}
+use Rattle.lawful_history.specs.Frames.{HaveFrames}
+use Rattle.link_world.proofs.Runs.{one_act, act_at, losses_few, whole_history}
 use Rattle.sim_world.proofs.simulate.Goals as goal
 
 pub act-requires : goal.act-requires

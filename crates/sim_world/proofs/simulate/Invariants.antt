@@ -1,8 +1,8 @@
 use Rattle.std.proofs.Common.{take}
-use Rattle.link_model.specs.Schedule.{schedule}
-use Rattle.link_model.specs.Sides.{world_of}
-use Rattle.sim_world.specs.Simulation.{RunsTo}
+use Rattle.lawful_history.specs.Schedule.{schedule}
+use Rattle.lawful_history.specs.Sides.{world_of}
+use Rattle.link_world.specs.Stage.{RunsTo}
 use Rattle.sim_world.proofs.simulate.Given as goal
 
 abbrev pub invariant-loop-act : goal.invariant-loop-act
-invariant-loop-act l = RunsTo (world_of l.fn.scenario) (schedule (take l.act-index l.fn.scenario.acts)) l.simulation
+invariant-loop-act l = RunsTo (world_of l.fn.scenario) (schedule (take l.act-index l.fn.scenario.acts)) l.stage

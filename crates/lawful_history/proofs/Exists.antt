@@ -1,0 +1,481 @@
+-- The history that is computed is lawful.
+use Rattle.std.proofs.Common.{◌≡◌, ◌≢◌, ℕ, ◌+◌, ◌*◌, ◌/◌, ◌%◌, ◌<◌, ◌≤◌, Bool, true, false, List, [], ◌∷◌, ◌++◌, length, refl, sym, ◌∙◌, ap, subst, arith, append_assoc, replicate, inl, inr, ◌⊎◌, length-set}
+use Rattle.std.specs.Prelude.{◌==◌, ◌&&◌, ◌||◌, nat_lt, nat_le, if◌then◌else◌, Option, Some, None, map, reverse, drop}
+use Rattle.std.specs.List.{flat_map, AllByRecursion}
+use Rattle.std.proofs.lemmas.List.{reverse-append, reverse-reverse, append-nil, get_or-set_same, get_or-set_other, get_or-replicate, get_or_past, length-replicate}
+use Rattle.std.proofs.lemmas.Bool.Decides.{nat_tests}
+use Rattle.std.proofs.lemmas.List.Elements.{All-from_recursion}
+use Rattle.std.proofs.Math.Nat.{mod-lt}
+use Rattle.section_map.specs.Geometry.{Shape, section_start}
+use Rattle.section_map.specs.MayWrite.{MayWrite}
+use Rattle.split_ring.specs.declared.steps.Access.{Access}
+use Rattle.split_ring.specs.declared.steps.Access.TheVariants as access
+use Rattle.split_ring.specs.Layout.{Sizes, IsQueue, payload_of}
+use Rattle.split_ring.proofs.Bounds.{bounds}
+use Rattle.scenario_text.specs.Scenario.{World, IsWorld}
+use Rattle.doorbell_irq.specs.declared.effect.Delivery.{Delivery}
+use Rattle.doorbell_irq.specs.Events as device
+use Rattle.doorbell_irq.specs.DeviceRules.{effect_of}
+use Rattle.link_handshake.specs.declared.Phase.{Phase}
+use Rattle.link_handshake.specs.declared.Phase.TheVariants.{Reset, Init, Ready, Run}
+use Rattle.link_laws.specs.Steps.{Mark, Saw, Reclaim, Full, Accept, Look, Deliver, Return, Done, Down, Refuse, Over, Step, step_of}
+use Rattle.link_laws.specs.Trees.{CallTree, Ended, Does, Reads}
+use Rattle.link_laws.specs.Calls.{Who, Call, Tick, Stop, Offer, Poll}
+use Rattle.link_laws.specs.Automatic.{Round, Anew, BehindOffer, BehindPoll, Choice, ChoosesTick, ChoosesOffer, ChoosesPoll, IsFinished, in_phase, choice_of}
+use Rattle.link_laws.specs.Reach.{MayDo, StaysInReach, HasSections, IsGiven, CallsStayInReach}
+use Rattle.lawful_history.specs.declared.line.Line.{Line}
+use Rattle.lawful_history.specs.declared.line.Line.TheVariants as line
+use Rattle.lawful_history.specs.Memory.{MemoryLaw, last_write, touch_of}
+use Rattle.lawful_history.specs.Schedule.{Event, Asked, Automated, Stormed, Turned, Acted, WasReset, Reached, Loses, Repeated, event_peer, schedule, DeviceAccess, ReadsConfig, WritesConfig, ReadsRegister, WritesRegister, ReadsMsix, WritesMsix}
+use Rattle.lawful_history.specs.Sides.{who_of}
+use Rattle.lawful_history.specs.Storm.{next_number, draw, drawn_access, storm_step}
+use Rattle.lawful_history.specs.Entries.{Entry, event_of, owner, mark_line, access_lines, step_lines, turn_lines, acted_lines, lines_by, lines_of, own}
+use Rattle.lawful_history.specs.Peers.{Auto, Driver, Waits, Chooses, Storms, Peer, at_start, asked_by, cut, with_choice, chosen, opened_by, opened, counted, counted_all, driver_behind, Drives, Moves, IsMade, Acts, Serves}
+use Rattle.lawful_history.specs.Device.{devices_of, device_events, arrival, arrived, arrivals_by, lost_count, told_by, brought_by, step_interrupts, reached_line, device_lines, DeviceRules}
+use Rattle.lawful_history.specs.History.{Moment, driven_step, driven, step_by, moved_by, may_write, acted_step, step_in, peer_in, peer_at, step_of_event, entry_of, peer_behind, happens, run, beginning, HistoryIsLawful}
+use Rattle.lawful_history.proofs.Owners.{is_same, is_other, not_below}
+use Rattle.lawful_history.proofs.Apart.{Harmless, harmless_law, marks_harmless}
+use Rattle.lawful_history.specs.Given.{IsThere}
+use Rattle.lawful_history.proofs.There.{there_below, all_there}
+
+abbrev AllHarmless : Shape → List Line → Type 0
+AllHarmless g lines = AllByRecursion (λ line. Harmless g (touch_of line)) lines
+
+all_harmless : (g : Shape) (lines others : List Line) → AllHarmless g lines → AllHarmless g others → AllHarmless g (lines ++ others)
+all_harmless g [] others first rest = rest
+all_harmless g (line ∷ lines) others first rest = (first.0, all_harmless g lines others first.1 rest)
+
+-- The lines of the devices say nothing of a word
+
+arrival_harmless : (g : Shape) (b : Bool) (p vector : ℕ) → Harmless g (touch_of (if b then line.Lost p vector else line.Interrupt p vector))
+arrival_harmless g true p vector = tt
+arrival_harmless g false p vector = tt
+
+arrived_harmless : (g : Shape) (older : List Line) (losses : ℕ → ℕ) (deliveries : List Delivery) → AllHarmless g (arrived older losses deliveries)
+arrived_harmless g older losses [] = tt
+arrived_harmless g older losses (delivery ∷ deliveries) =
+    (arrival_harmless g (nat_lt (lost_count older delivery.peer) (losses delivery.peer)) delivery.peer delivery.vector, arrived_harmless g (arrival older losses delivery ∷ older) losses deliveries)
+
+arrivals_harmless : (world : World) (older : List Line) (losses : ℕ → ℕ) (line : Line) (told : Option device.Event) → AllHarmless world.geometry (arrivals_by world older losses line told)
+arrivals_harmless world older losses line None = tt
+arrivals_harmless world older losses line (Some event) = arrived_harmless world.geometry (line ∷ older) losses (effect_of (devices_of world) (device_events older) event).deliveries.items
+
+brought_harmless : (world : World) (older : List Line) (losses : ℕ → ℕ) (lines : List Line) → AllHarmless world.geometry (brought_by world older losses lines)
+brought_harmless world older losses [] = tt
+brought_harmless world older losses (line ∷ lines) = arrivals_harmless world older losses line (told_by line)
+
+step_harmless : (world : World) (older : List Line) (losses : ℕ → ℕ) (p : ℕ) (went : Option Step) → AllHarmless world.geometry (step_interrupts world older losses p went)
+step_harmless world older losses p None = tt
+step_harmless world older losses p (Some step) = brought_harmless world older losses (access_lines p step.access step.value)
+
+reached_harmless : (world : World) (older : List Line) (p : ℕ) (a : DeviceAccess) → Harmless world.geometry (touch_of (reached_line world older p a))
+reached_harmless world older p (ReadsConfig offset width) = tt
+reached_harmless world older p (WritesConfig offset width value) = tt
+reached_harmless world older p (ReadsRegister offset) = tt
+reached_harmless world older p (WritesRegister offset value) = tt
+reached_harmless world older p (ReadsMsix offset) = tt
+reached_harmless world older p (WritesMsix offset value) = tt
+
+device_harmless : (world : World) (older : List Line) (losses : ℕ → ℕ) (event : Event) (went : Option Step) → AllHarmless world.geometry (device_lines world older losses event went)
+device_harmless world older losses (Asked p call) went = tt
+device_harmless world older losses (Automated p expected) went = tt
+device_harmless world older losses (Stormed p seed) went = tt
+device_harmless world older losses (Turned p) went = step_harmless world older losses p went
+device_harmless world older losses (Acted p a) went = step_harmless world older losses p went
+device_harmless world older losses (WasReset p) went = arrivals_harmless world older losses (line.Reset p) (told_by (line.Reset p))
+device_harmless world older losses (Reached p a) went = (reached_harmless world older p a, tt)
+device_harmless world older losses (Loses p) went = tt
+device_harmless world older losses (Repeated p vector) went = (tt, tt)
+
+-- Steps keep the memory law
+
+-- the lines of an access that needs no value keep the law
+do_harmless : (world : World) (p : ℕ) (a : Access) (marks : List Mark) (dev : List Line) → MayDo (who_of world p) a → AllHarmless world.geometry dev →
+    AllHarmless world.geometry (step_lines p (step_of a 0 marks) dev)
+do_harmless world p (access.Read word) marks dev may harmless = absurd may
+do_harmless world p (access.Write word written) marks dev may harmless = (inl may, all_harmless world.geometry dev _ harmless (marks_harmless world.geometry p marks))
+do_harmless world p (access.State state) marks dev may harmless = (tt, all_harmless world.geometry dev _ harmless (marks_harmless world.geometry p marks))
+do_harmless world p (access.Ring target vector) marks dev may harmless = (tt, all_harmless world.geometry dev _ harmless (marks_harmless world.geometry p marks))
+do_harmless world p access.Nothing marks dev may harmless = all_harmless world.geometry dev _ harmless (marks_harmless world.geometry p marks)
+
+-- a read that gives what was written last keeps it
+read_law : (g : Shape) (p word : ℕ) (others past : List Line) → AllHarmless g others → MemoryLaw g past → MemoryLaw g (reverse (line.Read p word (last_write past word) ∷ others) ++ past)
+read_law g p word others past harmless law =
+    let first = line.Read p word (last_write past word) in
+    let e : reverse (first ∷ others) ++ past ≡ reverse others ++ (first ∷ past) =
+    ap (λ r. r ++ past) (reverse-append (first ∷ []) others) ∙ append_assoc (reverse others) (first ∷ []) past in
+    rw e (harmless_law g others (first ∷ past) harmless (refl, law))
+
+-- what a storm does, as a call may do it
+pub storm_does : (world : World) (p kind place value : ℕ) (b c d : Bool) → (kind % 4 == 0) ≡ b → (kind % 4 == 1) ≡ c → (kind % 4 == 2) ≡ d → 0 < world.geometry.out → 0 < payload_of world.queue / 4 →
+    payload_of world.queue / 4 ≤ world.geometry.out → (P : Access → Type 0) →
+    ((word : ℕ) → section_start world.geometry p ≤ word → word < section_start world.geometry p + world.geometry.out → P (access.Write word value)) → ((state : ℕ) → P (access.State state)) →
+    ((target vector : ℕ) → P (access.Ring target vector)) → P (drawn_access world p kind place value)
+storm_does world p kind place value true c d is is' is'' some ring within P writes states rings =
+    let small : place % world.geometry.out < world.geometry.out = mod-lt place some in rw is (writes _ (omega arith) (omega arith))
+storm_does world p kind place value false true d is is' is'' some ring within P writes states rings =
+    let small : place % (payload_of world.queue / 4) < payload_of world.queue / 4 = mod-lt place ring in rw (is, is') (writes _ (omega arith) (omega arith))
+storm_does world p kind place value false false true is is' is'' some ring within P writes states rings = rw (is, is', is'') (states _)
+storm_does world p kind place value false false false is is' is'' some ring within P writes states rings = rw (is, is', is'') (rings _ _)
+
+-- the ring part has a word, and is smaller than the section
+pub ring_words : (q : Sizes) → IsQueue q → (4 ≤ payload_of q) × (8 * payload_of q < q.out)
+ring_words q is = let b = bounds q is in let least = b.size_least in (omega arith, b.rings)
+
+storm_harmless : (world : World) (p kind place value : ℕ) (dev : List Line) → IsWorld world → AllHarmless world.geometry dev →
+    AllHarmless world.geometry (step_lines p (step_of (drawn_access world p kind place value) 0 []) dev)
+storm_harmless world p kind place value dev is harmless =
+    let ring = ring_words world.queue is.queue in
+    let least = ring.0 in
+    let most = ring.1 in
+    let out = is.out in
+    let page = is.geometry.out_page in
+    storm_does world p kind place value _ _ _ refl refl refl (omega arith) (omega arith) (omega arith)
+    (λ (a : Access). AllHarmless world.geometry (step_lines p (step_of a 0 []) dev))
+    (λ word low high. (inl (low, high), all_harmless world.geometry dev [] harmless tt)) (λ state. (tt, all_harmless world.geometry dev [] harmless tt)) (λ target vector. (tt, all_harmless world.geometry dev [] harmless tt))
+
+driven_law : (world : World) (p : ℕ) (driver : Driver) (dev past : List Line) → IsWorld world → AllHarmless world.geometry dev → MemoryLaw world.geometry past →
+    MemoryLaw world.geometry (reverse (turn_lines p (driven_step world p driver) dev) ++ past)
+driven_law world p Waits dev past is harmless law = harmless_law world.geometry (line.Idle p ∷ dev) past (tt, harmless) law
+driven_law world p (Chooses auto) dev past is harmless law = harmless_law world.geometry (line.Idle p ∷ dev) past (tt, harmless) law
+driven_law world p (Storms x) dev past is harmless law = harmless_law world.geometry (step_lines p (storm_step world p x) dev) past (storm_harmless world p (draw (next_number x)) (draw (next_number (next_number x))) (draw (next_number (next_number (next_number x)))) dev is harmless) law
+
+-- a turn by which a call in reach goes on keeps the law
+turn_law : (world : World) (p : ℕ) (driver : Driver) (tree : CallTree) (dev past : List Line) → IsWorld world → StaysInReach (who_of world p) tree → AllHarmless world.geometry dev → MemoryLaw world.geometry past →
+    MemoryLaw world.geometry (reverse (turn_lines p (step_by world p driver tree past) dev) ++ past)
+turn_law world p driver Ended dev past is stays harmless law = driven_law world p driver dev past is harmless law
+turn_law world p driver (Does a marks rest) dev past is stays harmless law = harmless_law world.geometry (step_lines p (step_of a 0 marks) dev) past (do_harmless world p a marks dev stays.0 harmless) law
+turn_law world p driver (Reads word marks rest) dev past is stays harmless law =
+    let v = last_write past word in
+    read_law world.geometry p word (dev ++ map (mark_line p) (marks v)) past (all_harmless world.geometry dev _ harmless (marks_harmless world.geometry p (marks v))) law
+
+-- an access of its own accord keeps it: a write is denied exactly where it is forbidden
+either_in : (own own_end table common_end word : ℕ) → ((nat_le own word && nat_lt word own_end) || (nat_le table word && nat_lt word common_end)) ≡ true →
+    ((own ≤ word) × (word < own_end)) ⊎ ((table ≤ word) × (word < common_end))
+either_in own own_end table common_end word is = grind (arith, nat_tests)
+
+not_own : (own own_end table common_end word : ℕ) → ((nat_le own word && nat_lt word own_end) || (nat_le table word && nat_lt word common_end)) ≡ false → own ≤ word → word < own_end → ⊥
+not_own own own_end table common_end word is low high = grind (arith, nat_tests)
+
+not_common : (own own_end table common_end word : ℕ) → ((nat_le own word && nat_lt word own_end) || (nat_le table word && nat_lt word common_end)) ≡ false → table ≤ word → word < common_end → ⊥
+not_common own own_end table common_end word is low high = grind (arith, nat_tests)
+
+may : (g : Shape) (p word : ℕ) → may_write g p word ≡ true → MayWrite g p word
+may g p word is = either_in (section_start g p) (section_start g p + g.out) g.table (g.table + g.common) word is
+
+may_not : (g : Shape) (p word : ℕ) → may_write g p word ≡ false → ¬ MayWrite g p word
+may_not g p word is = λ may. elim may [
+  | inl here ↦ not_own (section_start g p) (section_start g p + g.out) g.table (g.table + g.common) word is here.0 here.1
+  | inr here ↦ not_common (section_start g p) (section_start g p + g.out) g.table (g.table + g.common) word is here.0 here.1
+]
+
+write_law : (world : World) (p word value : ℕ) (b : Bool) (dev past : List Line) → may_write world.geometry p word ≡ b → AllHarmless world.geometry dev → MemoryLaw world.geometry past →
+    MemoryLaw world.geometry (reverse (acted_lines p (access.Write word value) (if b then Some (step_of (access.Write word value) 0 []) else None) dev) ++ past)
+write_law world p word value true dev past is harmless law =
+    harmless_law world.geometry (line.Write p word value ∷ dev ++ []) past (may world.geometry p word is, all_harmless world.geometry dev [] harmless tt) law
+write_law world p word value false dev past is harmless law = harmless_law world.geometry (line.Denied p word ∷ dev) past (may_not world.geometry p word is, harmless) law
+
+acted_law : (world : World) (p : ℕ) (a : Access) (dev past : List Line) → AllHarmless world.geometry dev → MemoryLaw world.geometry past →
+    MemoryLaw world.geometry (reverse (acted_lines p a (acted_step world p a past) dev) ++ past)
+acted_law world p (access.Read word) dev past harmless law = read_law world.geometry p word (dev ++ []) past (all_harmless world.geometry dev [] harmless tt) law
+acted_law world p (access.Write word value) dev past harmless law = write_law world p word value (may_write world.geometry p word) dev past refl harmless law
+acted_law world p (access.State state) dev past harmless law = harmless_law world.geometry (line.State p state ∷ dev ++ []) past (tt, all_harmless world.geometry dev [] harmless tt) law
+acted_law world p (access.Ring target vector) dev past harmless law = harmless_law world.geometry (line.Doorbell p target vector ∷ dev ++ []) past (tt, all_harmless world.geometry dev [] harmless tt) law
+acted_law world p access.Nothing dev past harmless law = harmless_law world.geometry (dev ++ []) past (all_harmless world.geometry dev [] harmless tt) law
+
+-- Calls that may be given stay in reach
+
+pub has_sections : (world : World) (p : ℕ) → IsWorld world → HasSections (who_of world p)
+has_sections world p is = record { queue = is.queue; words = is.out }
+
+-- the frames of an automatic peer may be offered
+abbrev pub AreGiven : Who → Driver → Type 0
+AreGiven who Waits = Unit {0}
+AreGiven who (Chooses auto) = AllByRecursion (λ frame. IsGiven who (Offer frame)) auto.frames
+AreGiven who (Storms x) = Unit {0}
+
+-- what is known of a peer: its open call stays in reach, and the calls to come may be given
+pub record IsFit (who : Who) (peer : Peer) : Type 0 where
+  pub stays : StaysInReach who peer.left
+  pub given : AllByRecursion (IsGiven who) peer.waiting
+  pub frames : AreGiven who peer.driver
+
+abbrev ChoiceFits : Who → Choice → Type 0
+ChoiceFits who ChoosesTick = Unit {0}
+ChoiceFits who (ChoosesOffer frame) = IsGiven who (Offer frame)
+ChoiceFits who ChoosesPoll = Unit {0}
+ChoiceFits who IsFinished = Unit {0}
+
+phase_fits : (who : Who) (phase : Phase) (round : Round) (frames : List (List ℕ)) → AllByRecursion (λ frame. IsGiven who (Offer frame)) frames → ChoiceFits who (in_phase phase round frames)
+phase_fits who Reset round frames given = tt
+phase_fits who Init round frames given = tt
+phase_fits who Ready round frames given = tt
+phase_fits who Run Anew [] given = tt
+phase_fits who Run Anew (frame ∷ frames) given = given.0
+phase_fits who Run BehindOffer frames given = tt
+phase_fits who Run BehindPoll frames given = tt
+
+finished_fits : (who : Who) (b : Bool) (choice : Choice) → ChoiceFits who choice → ChoiceFits who (if b then IsFinished else choice)
+finished_fits who true choice fits = tt
+finished_fits who false choice fits = fits
+
+choice_fits : (who : Who) (phase : Phase) (round : Round) (frames : List (List ℕ)) (delivered expected : ℕ) → AllByRecursion (λ frame. IsGiven who (Offer frame)) frames →
+    ChoiceFits who (choice_of phase round frames delivered expected)
+choice_fits who phase round [] delivered expected given = finished_fits who (nat_le expected delivered) _ (phase_fits who phase round [] given)
+choice_fits who phase round (frame ∷ frames) delivered expected given = phase_fits who phase round (frame ∷ frames) given
+
+with_choice_fits : CallsStayInReach → (who : Who) (peer : Peer) (auto : Auto) (choice : Choice) → HasSections who → ChoiceFits who choice → AllByRecursion (λ frame. IsGiven who (Offer frame)) auto.frames → IsFit who peer →
+    IsFit who (with_choice who peer auto choice)
+with_choice_fits reach who peer auto ChoosesTick has fits given fit = record { stays = reach.calls who peer.end Tick has tt; given = fit.given; frames = given }
+with_choice_fits reach who peer auto (ChoosesOffer frame) has fits given fit = record { stays = reach.calls who peer.end (Offer frame) has fits; given = fit.given; frames = given }
+with_choice_fits reach who peer auto ChoosesPoll has fits given fit = record { stays = reach.calls who peer.end Poll has tt; given = fit.given; frames = given }
+with_choice_fits reach who peer auto IsFinished has fits given fit = fit
+
+chosen_fits : CallsStayInReach → (who : Who) (peer : Peer) (driver : Driver) → HasSections who → AreGiven who driver → IsFit who peer → IsFit who (chosen who peer driver)
+chosen_fits reach who peer Waits has given fit = fit
+chosen_fits reach who peer (Chooses auto) has given fit =
+    with_choice_fits reach who peer auto _ has (choice_fits who peer.end.handshake.phase auto.round auto.frames auto.delivered auto.expected given) given fit
+chosen_fits reach who peer (Storms x) has given fit = fit
+
+opened_by_fits : CallsStayInReach → (who : Who) (peer : Peer) (tree : CallTree) (waiting : List Call) → HasSections who → AllByRecursion (IsGiven who) waiting → IsFit who peer → IsFit who (opened_by who peer tree waiting)
+opened_by_fits reach who peer Ended [] has given fit = chosen_fits reach who peer peer.driver has fit.frames fit
+opened_by_fits reach who peer Ended (call ∷ waiting) has given fit = record { stays = reach.calls who peer.end call has given.0; given = given.1; frames = fit.frames }
+opened_by_fits reach who peer (Does a marks rest) waiting has given fit = fit
+opened_by_fits reach who peer (Reads word marks rest) waiting has given fit = fit
+
+pub opened_fits : CallsStayInReach → (who : Who) (peer : Peer) → HasSections who → IsFit who peer → IsFit who (opened who peer)
+opened_fits reach who peer has fit = opened_by_fits reach who peer peer.left peer.waiting has fit.given fit
+
+tail_given : (who : Who) (frames : List (List ℕ)) → AllByRecursion (λ frame. IsGiven who (Offer frame)) frames → AllByRecursion (λ frame. IsGiven who (Offer frame)) (drop 1 frames)
+tail_given who [] given = tt
+tail_given who (frame ∷ frames) given = given.1
+
+counted_given : (who : Who) (auto : Auto) (marks : List Mark) → AllByRecursion (λ frame. IsGiven who (Offer frame)) auto.frames → AllByRecursion (λ frame. IsGiven who (Offer frame)) (counted_all auto marks).frames
+counted_given who auto [] given = given
+counted_given who auto (Saw value ∷ marks) given = counted_given who auto marks given
+counted_given who auto (Reclaim count ∷ marks) given = counted_given who auto marks given
+counted_given who auto (Full ∷ marks) given = counted_given who auto marks given
+counted_given who auto (Accept frame ∷ marks) given = counted_given who (counted auto (Accept frame)) marks (tail_given who auto.frames given)
+counted_given who auto (Look count ∷ marks) given = counted_given who auto marks given
+counted_given who auto (Deliver frame ∷ marks) given = counted_given who (counted auto (Deliver frame)) marks given
+counted_given who auto (Return ∷ marks) given = counted_given who auto marks given
+counted_given who auto (Done ∷ marks) given = counted_given who auto marks given
+counted_given who auto (Down ∷ marks) given = counted_given who auto marks given
+counted_given who auto (Refuse refused ∷ marks) given = counted_given who auto marks given
+counted_given who auto (Over ∷ marks) given = counted_given who auto marks given
+
+driver_given : (who : Who) (driver : Driver) (marks : List Mark) → AreGiven who driver → AreGiven who (driver_behind driver marks)
+driver_given who Waits marks given = tt
+driver_given who (Chooses auto) marks given = counted_given who auto marks given
+driver_given who (Storms x) marks given = tt
+
+driven_fits : (who : Who) (peer : Peer) (driver : Driver) → IsFit who peer → IsFit who (driven peer driver)
+driven_fits who peer Waits fit = fit
+driven_fits who peer (Chooses auto) fit = fit
+driven_fits who peer (Storms x) fit = record { stays = fit.stays; given = fit.given; frames = tt }
+
+moved_fits : (who : Who) (peer : Peer) (tree : CallTree) (past : List Line) → StaysInReach who tree → IsFit who peer → IsFit who (moved_by peer tree past)
+moved_fits who peer Ended past stays fit = driven_fits who peer peer.driver fit
+moved_fits who peer (Does a marks rest) past stays fit = record { stays = stays.1; given = fit.given; frames = driver_given who peer.driver marks fit.frames }
+moved_fits who peer (Reads word marks rest) past stays fit =
+    let v = last_write past word in record { stays = stays.1 v; given = fit.given; frames = driver_given who peer.driver (marks v) fit.frames }
+
+waiting_given : (who : Who) (waiting : List Call) (call : Call) → AllByRecursion (IsGiven who) waiting → IsGiven who call → AllByRecursion (IsGiven who) (waiting ++ call ∷ [])
+waiting_given who [] call given this = (this, tt)
+waiting_given who (other ∷ waiting) call given this = (given.0, waiting_given who waiting call given.1 this)
+
+frames_given : (who : Who) (frames : List (List ℕ)) (frame : List ℕ) → AllByRecursion (λ f. IsGiven who (Offer f)) frames → IsGiven who (Offer frame) → AllByRecursion (λ f. IsGiven who (Offer f)) (frames ++ frame ∷ [])
+frames_given who [] frame given this = (this, tt)
+frames_given who (other ∷ frames) frame given this = (given.0, frames_given who frames frame given.1 this)
+
+queued_fits : (who : Who) (peer : Peer) (call : Call) → IsGiven who call → IsFit who peer → IsFit who (record peer { waiting = peer.waiting ++ call ∷ [] })
+queued_fits who peer call this fit = record { stays = fit.stays; given = waiting_given who peer.waiting call fit.given this; frames = fit.frames }
+
+asked_fits : (who : Who) (peer : Peer) (driver : Driver) (call : Call) → AreGiven who driver → IsGiven who call → IsFit who peer → IsFit who (asked_by peer driver call)
+asked_fits who peer (Chooses auto) (Offer frame) given this fit = record { stays = fit.stays; given = fit.given; frames = frames_given who auto.frames frame given this }
+asked_fits who peer (Chooses auto) Tick given this fit = queued_fits who peer Tick this fit
+asked_fits who peer (Chooses auto) Stop given this fit = queued_fits who peer Stop this fit
+asked_fits who peer (Chooses auto) Poll given this fit = queued_fits who peer Poll this fit
+asked_fits who peer Waits Tick given this fit = queued_fits who peer Tick this fit
+asked_fits who peer Waits Stop given this fit = queued_fits who peer Stop this fit
+asked_fits who peer Waits (Offer frame) given this fit = queued_fits who peer (Offer frame) this fit
+asked_fits who peer Waits Poll given this fit = queued_fits who peer Poll this fit
+asked_fits who peer (Storms x) Tick given this fit = queued_fits who peer Tick this fit
+asked_fits who peer (Storms x) Stop given this fit = queued_fits who peer Stop this fit
+asked_fits who peer (Storms x) (Offer frame) given this fit = queued_fits who peer (Offer frame) this fit
+asked_fits who peer (Storms x) Poll given this fit = queued_fits who peer Poll this fit
+
+cut_given : (who : Who) (driver : Driver) → AreGiven who driver → AreGiven who (cut driver)
+cut_given who Waits given = tt
+cut_given who (Chooses auto) given = given
+cut_given who (Storms x) given = tt
+
+-- The computed step and peer of an event are those of the relation
+
+drives : (world : World) (p : ℕ) (peer : Peer) (driver : Driver) → Drives world p peer driver (driven_step world p driver) (driven peer driver)
+drives world p peer Waits = (refl, refl)
+drives world p peer (Chooses auto) = (refl, refl)
+drives world p peer (Storms x) = (refl, refl)
+
+moves : (world : World) (p : ℕ) (peer : Peer) (tree : CallTree) (past : List Line) → Moves world p peer tree (step_by world p peer.driver tree past) (moved_by peer tree past)
+moves world p peer Ended past = drives world p peer peer.driver
+moves world p peer (Does a marks rest) past = (_, _, refl, (refl, refl), refl)
+moves world p peer (Reads word marks rest) past = (_, _, refl, (_, refl, refl), refl)
+
+write_made : (word value : ℕ) (b : Bool) → IsMade (access.Write word value) (if b then Some (step_of (access.Write word value) 0 []) else None)
+write_made word value true = inl refl
+write_made word value false = inr refl
+
+acted_made : (world : World) (p : ℕ) (a : Access) (past : List Line) → IsMade a (acted_step world p a past)
+acted_made world p (access.Read word) past = (_, refl)
+acted_made world p (access.Write word value) past = write_made word value (may_write world.geometry p word)
+acted_made world p (access.State state) past = refl
+acted_made world p (access.Ring target vector) past = refl
+acted_made world p access.Nothing past = refl
+
+event_acts : (world : World) (peer : Peer) (past : List Line) (event : Event) → Acts world (event_peer event) peer event (step_in world peer past event) (peer_in world peer past event)
+event_acts world peer past (Asked q call) = (refl, refl)
+event_acts world peer past (Automated q expected) = (refl, refl)
+event_acts world peer past (Stormed q seed) = (refl, refl)
+event_acts world peer past (Turned q) = moves world q (opened (who_of world q) peer) (opened (who_of world q) peer).left past
+event_acts world peer past (Acted q a) = (acted_made world q a past, refl)
+event_acts world peer past (WasReset q) = (refl, refl)
+event_acts world peer past (Reached q a) = (refl, refl)
+event_acts world peer past (Loses q) = (refl, refl)
+event_acts world peer past (Repeated q vector) = (refl, refl)
+
+-- what is known of a moment
+pub record Good (world : World) (moment : Moment) : Type 0 where
+  pub law : MemoryLaw world.geometry moment.past
+  pub fits : (p : ℕ) → IsFit (who_of world p) (peer_at moment p)
+  pub count : length moment.peers ≡ world.geometry.peers
+
+-- the peer of an event behind it, and the others
+pub peer_same : (world : World) (moment : Moment) (event : Event) → event_peer event < length moment.peers → peer_at (happens world moment event) (event_peer event) ≡ peer_behind world moment event
+peer_same world moment event below = get_or-set_same moment.peers (event_peer event) (peer_behind world moment event) at_start below
+
+pub peer_other : (world : World) (moment : Moment) (event : Event) (q : ℕ) → q ≢ event_peer event → peer_at (happens world moment event) q ≡ peer_at moment q
+peer_other world moment event q other = get_or-set_other moment.peers (event_peer event) q (peer_behind world moment event) at_start other
+
+lines_law : CallsStayInReach → (world : World) (peer : Peer) (past dev : List Line) (event : Event) → IsWorld world → IsFit (who_of world (event_peer event)) peer → AllHarmless world.geometry dev → MemoryLaw world.geometry past →
+    MemoryLaw world.geometry (reverse (lines_by event (step_in world peer past event) dev) ++ past)
+lines_law reach world peer past dev (Asked p call) is fit harmless law = harmless_law world.geometry dev past harmless law
+lines_law reach world peer past dev (Automated p expected) is fit harmless law = harmless_law world.geometry dev past harmless law
+lines_law reach world peer past dev (Stormed p seed) is fit harmless law = harmless_law world.geometry dev past harmless law
+lines_law reach world peer past dev (Turned p) is fit harmless law =
+    let who = who_of world p in turn_law world p (opened who peer).driver (opened who peer).left dev past is (opened_fits reach who peer (has_sections world p is) fit).stays harmless law
+lines_law reach world peer past dev (Acted p a) is fit harmless law = acted_law world p a dev past harmless law
+lines_law reach world peer past dev (WasReset p) is fit harmless law = harmless_law world.geometry (line.Reset p ∷ dev) past (tt, harmless) law
+lines_law reach world peer past dev (Reached p a) is fit harmless law = harmless_law world.geometry dev past harmless law
+lines_law reach world peer past dev (Loses p) is fit harmless law = harmless_law world.geometry dev past harmless law
+lines_law reach world peer past dev (Repeated p vector) is fit harmless law = harmless_law world.geometry dev past harmless law
+
+event_law : CallsStayInReach → (world : World) (moment : Moment) (event : Event) → IsWorld world → Good world moment → MemoryLaw world.geometry (happens world moment event).past
+event_law reach world moment event is good =
+    lines_law reach world (peer_at moment (event_peer event)) moment.past _ event is (good.fits (event_peer event)) (device_harmless world moment.past moment.losses event (step_of_event world moment event)) good.law
+
+peer_fits : CallsStayInReach → (world : World) (peer : Peer) (past : List Line) (event : Event) → IsWorld world → IsThere world event → IsFit (who_of world (event_peer event)) peer →
+    IsFit (who_of world (event_peer event)) (peer_in world peer past event)
+peer_fits reach world peer past (Asked p call) is there fit = asked_fits (who_of world p) peer peer.driver call fit.frames there.1 fit
+peer_fits reach world peer past (Automated p expected) is there fit = record { stays = fit.stays; given = fit.given; frames = tt }
+peer_fits reach world peer past (Stormed p seed) is there fit = record { stays = fit.stays; given = fit.given; frames = tt }
+peer_fits reach world peer past (Turned p) is there fit =
+    let opened_fit = opened_fits reach (who_of world p) peer (has_sections world p is) fit in
+    moved_fits (who_of world p) (opened (who_of world p) peer) (opened (who_of world p) peer).left past opened_fit.stays opened_fit
+peer_fits reach world peer past (Acted p a) is there fit = fit
+peer_fits reach world peer past (WasReset p) is there fit = record { stays = tt; given = tt; frames = cut_given (who_of world p) peer.driver fit.frames }
+peer_fits reach world peer past (Reached p a) is there fit = fit
+peer_fits reach world peer past (Loses p) is there fit = fit
+peer_fits reach world peer past (Repeated p vector) is there fit = fit
+
+-- what holds of each peer holds behind an event
+pub stays_on : (P : ℕ → Peer → Type 0) (world : World) (moment : Moment) (event : Event) → event_peer event < length moment.peers → P (event_peer event) (peer_behind world moment event) →
+    (q : ℕ) (b : Bool) → (event_peer event == q) ≡ b → P q (peer_at moment q) → P q (peer_at (happens world moment event) q)
+stays_on P world moment event below here q true is there =
+    let now : P (event_peer event) (peer_at (happens world moment event) (event_peer event)) = subst (λ (x : Peer). P (event_peer event) x) (sym (peer_same world moment event below)) here in
+    subst (λ (k : ℕ). P k (peer_at (happens world moment event) k)) (is_same (event_peer event) q is) now
+stays_on P world moment event below here q false is there = subst (λ (x : Peer). P q x) (sym (peer_other world moment event q (is_other (event_peer event) q is))) there
+
+pub good_on : CallsStayInReach → (world : World) (moment : Moment) (event : Event) → IsWorld world → IsThere world event → Good world moment → Good world (happens world moment event)
+good_on reach world moment event is there good =
+    let below : event_peer event < length moment.peers = omega (arith, good.count, there_below world event there) in
+    record {
+      law = event_law reach world moment event is good;
+      fits = λ q.
+          stays_on (λ k x. IsFit (who_of world k) x) world moment event below (peer_fits reach world (peer_at moment (event_peer event)) moment.past event is there (good.fits (event_peer event))) q (event_peer event == q) refl (good.fits q);
+      count = length-set moment.peers (event_peer event) (peer_behind world moment event) ∙ good.count;
+    }
+
+-- the entries of events from a moment on
+abbrev entries_of : World → List Event → Moment → List Entry
+entries_of world [] moment = []
+entries_of world (event ∷ events) moment = entry_of world moment event ∷ entries_of world events (happens world moment event)
+
+-- what is known of them
+record Found (world : World) (events : List Event) (moment : Moment) : Type 0 where
+  scheduled : map event_of (entries_of world events moment) ≡ events
+  owners : AllByRecursion (λ entry. owner entry < world.geometry.peers) (entries_of world events moment)
+  lines : reverse (flat_map lines_of (entries_of world events moment)) ++ moment.past ≡ (run world events moment).past
+  law : MemoryLaw world.geometry (run world events moment).past
+  device : DeviceRules world moment.past moment.losses (entries_of world events moment)
+  calls : (p : ℕ) → p < world.geometry.peers → (end : Peer) × Serves world p (peer_at moment p) (own p (entries_of world events moment)) end
+
+lines_go : (s new : List Line) (past all : List Line) → reverse new ++ (reverse s ++ past) ≡ all → reverse (s ++ new) ++ past ≡ all
+lines_go s new past all is = ap (λ r. r ++ past) (reverse-append s new) ∙ append_assoc (reverse new) (reverse s) past ∙ is
+
+-- the entry of an event and those behind it, for a peer
+serves_from : (world : World) (moment : Moment) (event : Event) (others : List Entry) (q : ℕ) (b : Bool) → (event_peer event == q) ≡ b → event_peer event < length moment.peers →
+    ((end : Peer) × Serves world q (peer_at (happens world moment event) q) (own q others) end) →
+    (end : Peer) × Serves world q (peer_at moment q) (if b then entry_of world moment event ∷ own q others else own q others) end
+serves_from world moment event others q true is below rest =
+    let same : event_peer event ≡ q = is_same (event_peer event) q is in
+    let acts = event_acts world (peer_at moment (event_peer event)) moment.past event in
+    let first : Acts world q (peer_at moment q) event (step_of_event world moment event) (peer_behind world moment event) =
+    subst (λ (k : ℕ). Acts world k (peer_at moment k) event (step_of_event world moment event) (peer_behind world moment event)) same acts in
+    let here : peer_at (happens world moment event) q ≡ peer_behind world moment event =
+    ap (λ (k : ℕ). peer_at (happens world moment event) k) (sym same) ∙ peer_same world moment event below in
+    (rest.0, (peer_behind world moment event, first, subst (λ (x : Peer). Serves world q x (own q others) rest.0) here rest.1))
+serves_from world moment event others q false is below rest =
+    (rest.0, subst (λ (x : Peer). Serves world q x (own q others) rest.0) (peer_other world moment event q (is_other (event_peer event) q is)) rest.1)
+
+found : CallsStayInReach → (world : World) (events : List Event) (moment : Moment) → IsWorld world → AllByRecursion (IsThere world) events → Good world moment → Found world events moment
+found reach world [] moment is there good = record { scheduled = refl; owners = tt; lines = refl; law = good.law; device = tt; calls = λ p below. (peer_at moment p, refl) }
+found reach world (event ∷ events) moment is there good =
+    let rest = found reach world events (happens world moment event) is there.1 (good_on reach world moment event is there.0 good) in
+    let here : event_peer event < world.geometry.peers = there_below world event there.0 in
+    record {
+      scheduled = ap (λ es. event ∷ es) rest.scheduled;
+      owners = (here, rest.owners);
+      lines = lines_go (lines_of (entry_of world moment event)) (flat_map lines_of (entries_of world events (happens world moment event))) moment.past _ rest.lines;
+      law = rest.law;
+      device = (refl, rest.device);
+      calls = λ q below. serves_from world moment event (entries_of world events (happens world moment event)) q (event_peer event == q) refl (omega (arith, good.count)) (rest.calls q below);
+    }
+
+pub at_beginning : (world : World) (p : ℕ) (b : Bool) → nat_lt p world.geometry.peers ≡ b → peer_at (beginning world) p ≡ at_start
+at_beginning world p true is = get_or-replicate world.geometry.peers p at_start at_start (grind (arith, nat_tests))
+at_beginning world p false is = get_or_past (replicate world.geometry.peers at_start) p at_start (omega (arith, length-replicate world.geometry.peers at_start, not_below p world.geometry.peers is))
+
+pub good_at_first : (world : World) → Good world (beginning world)
+good_at_first world = record {
+  law = tt;
+  fits = λ p. subst (λ (x : Peer). IsFit (who_of world p) x) (sym (at_beginning world p (nat_lt p world.geometry.peers) refl)) (record { stays = tt; given = tt; frames = tt });
+  count = length-replicate world.geometry.peers at_start;
+}
+
+pub history_lem : CallsStayInReach → HistoryIsLawful
+history_lem reach world is =
+    let events = schedule world.acts in
+    let f = found reach world events (beginning world) is (all_there world is) (good_at_first world) in
+    let entries = entries_of world events (beginning world) in (
+      entries,
+      record {
+        events = f.scheduled;
+        owners = All-from_recursion (λ (entry : Entry). owner entry < world.geometry.peers) entries f.owners;
+        told = sym (reverse-reverse (flat_map lines_of entries)) ∙ ap reverse (sym (append-nil (reverse (flat_map lines_of entries))) ∙ f.lines);
+        memory = rw reverse-reverse f.law;
+        device = f.device;
+        calls = λ p below.
+            let served = f.calls p below in (served.0, subst (λ (x : Peer). Serves world p x (own p entries) served.0) (at_beginning world p (nat_lt p world.geometry.peers) refl) served.1);
+      },
+    )

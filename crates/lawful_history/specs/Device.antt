@@ -1,0 +1,107 @@
+-- The device's rules over a history: which interrupts come and where they stand, and what a device answers. The rules themselves are
+-- those of `doorbell_irq` (the device's specification, PCI 3.0): what a device is, is a function of the lines that came before.
+use Rattle.std.specs.Prelude.{ℕ, ◌≡◌, ◌+◌, ◌*◌, ◌==◌, nat_lt, if◌then◌else◌, Option, Some, None, List, [], ◌∷◌, ◌++◌, reverse}
+use Rattle.pci_space.specs.Numbers.{number_from}
+use Rattle.doorbell_irq.specs.declared.effect.Delivery.{Delivery}
+use Rattle.doorbell_irq.specs.Events as device
+use Rattle.doorbell_irq.specs.DeviceRules.{bytes_after, effect_of, register_at, msix_at}
+use Rattle.scenario_text.specs.Scenario.{World}
+use Rattle.link_laws.specs.Steps.{Step}
+use Rattle.lawful_history.specs.declared.line.Line.{Line}
+use Rattle.lawful_history.specs.declared.line.Line.TheVariants as line
+use Rattle.lawful_history.specs.Schedule.{Event, Asked, Automated, Stormed, Turned, Acted, WasReset, Reached, Loses, Repeated, DeviceAccess, ReadsConfig, WritesConfig, ReadsRegister, WritesRegister, ReadsMsix, WritesMsix}
+use Rattle.lawful_history.specs.Entries.{Entry, access_lines, lines_of}
+
+-- the scenario's world, as its devices are
+abbrev pub devices_of : World → device.World
+devices_of world = record { shape = world.geometry; wiring = world.wiring }
+
+-- what a line tells the devices: a write of State or of the Doorbell (its vector in the low 16 bits, its target in the high ones), of another
+-- register, of the configuration space or of the MSI-X region, or a reset
+abbrev pub told_by : Line → Option device.Event
+told_by (line.State peer value) = Some (device.RegisterWritten peer 0x10 value)
+told_by (line.Doorbell peer target vector) = Some (device.RegisterWritten peer 0x0C (65536 * target + vector))
+told_by (line.Reset peer) = Some (device.WasReset peer)
+told_by (line.ConfigWrite peer offset width value) = Some (device.ConfigWritten peer offset width value)
+told_by (line.RegisterWrite peer offset value) = Some (device.RegisterWritten peer offset value)
+told_by (line.MsixWrite peer offset value) = Some (device.MsixWritten peer offset value)
+told_by _ = None
+
+abbrev pub told_before : Option device.Event → List device.Event → List device.Event
+told_before None events = events
+told_before (Some event) events = event ∷ events
+
+-- what these lines tell the devices; of lines and events the newest is the first
+abbrev pub device_events : List Line → List device.Event
+device_events [] = []
+device_events (line ∷ older) = told_before (told_by line) (device_events older)
+
+-- the line is an interrupt of this peer that was lost
+abbrev pub lost_by : Line → ℕ → ℕ
+lost_by (line.Lost peer vector) at = if peer == at then 1 else 0
+lost_by _ at = 0
+
+-- how many interrupts of a peer were lost in these lines
+abbrev pub lost_count : List Line → ℕ → ℕ
+lost_count [] peer = 0
+lost_count (line ∷ older) peer = lost_by line peer + lost_count older peer
+
+-- a delivery is lost on its way where fewer were lost at its peer than are to be
+abbrev pub arrival : List Line → (ℕ → ℕ) → Delivery → Line
+arrival older losses delivery =
+    if nat_lt (lost_count older delivery.peer) (losses delivery.peer) then line.Lost delivery.peer delivery.vector
+    else line.Interrupt delivery.peer delivery.vector
+
+-- the lines of these deliveries, one behind the other
+abbrev pub arrived : List Line → (ℕ → ℕ) → List Delivery → List Line
+arrived older losses [] = []
+arrived older losses (delivery ∷ deliveries) = arrival older losses delivery ∷ arrived (arrival older losses delivery ∷ older) losses deliveries
+
+-- the interrupts that a line brings behind older ones, in ascending order of peer
+abbrev pub arrivals_by : World → List Line → (ℕ → ℕ) → Line → Option device.Event → List Line
+arrivals_by world older losses line None = []
+arrivals_by world older losses line (Some event) = arrived (line ∷ older) losses (effect_of (devices_of world) (device_events older) event).deliveries.items
+
+abbrev pub arrivals : World → List Line → (ℕ → ℕ) → Line → List Line
+arrivals world older losses line = arrivals_by world older losses line (told_by line)
+
+-- the interrupts that the line of an access brings
+abbrev pub brought_by : World → List Line → (ℕ → ℕ) → List Line → List Line
+brought_by world older losses [] = []
+brought_by world older losses (line ∷ lines) = arrivals world older losses line
+
+abbrev pub step_interrupts : World → List Line → (ℕ → ℕ) → ℕ → Option Step → List Line
+step_interrupts world older losses peer None = []
+step_interrupts world older losses peer (Some step) = brought_by world older losses (access_lines peer step.access step.value)
+
+-- the line of an access to a part of the device: what is read there behind these lines, or what is written
+abbrev pub reached_line : World → List Line → ℕ → DeviceAccess → Line
+reached_line world older peer (ReadsConfig offset width) = line.ConfigRead peer offset width (number_from (bytes_after (devices_of world) (device_events older) peer device.Config) offset width)
+reached_line world older peer (WritesConfig offset width value) = line.ConfigWrite peer offset width value
+reached_line world older peer (ReadsRegister offset) = line.RegisterRead peer offset (register_at (bytes_after (devices_of world) (device_events older) peer) offset)
+reached_line world older peer (WritesRegister offset value) = line.RegisterWrite peer offset value
+reached_line world older peer (ReadsMsix offset) = line.MsixRead peer offset (msix_at world.wiring (bytes_after (devices_of world) (device_events older) peer) offset)
+reached_line world older peer (WritesMsix offset value) = line.MsixWrite peer offset value
+
+-- the device's lines of an event in which this step was made, behind these lines, where so many interrupts of each peer are to be lost
+abbrev pub device_lines : World → List Line → (ℕ → ℕ) → Event → Option Step → List Line
+device_lines world older losses (Asked peer call) went = []
+device_lines world older losses (Automated peer expected) went = []
+device_lines world older losses (Stormed peer seed) went = []
+device_lines world older losses (Turned peer) went = step_interrupts world older losses peer went
+device_lines world older losses (Acted peer a) went = step_interrupts world older losses peer went
+device_lines world older losses (WasReset peer) went = arrivals world older losses (line.Reset peer)
+device_lines world older losses (Reached peer a) went = reached_line world older peer a ∷ []
+device_lines world older losses (Loses peer) went = []
+device_lines world older losses (Repeated peer vector) went = line.Interrupt peer vector ∷ []
+
+-- one more interrupt of the peer is to be lost
+abbrev pub losses_with : Event → (ℕ → ℕ) → ℕ → ℕ
+losses_with (Loses peer) losses at = if peer == at then losses at + 1 else losses at
+losses_with _ losses at = losses at
+
+-- the device's rules over entries that stand behind these older lines, of which the newest is the first
+abbrev pub DeviceRules : World → List Line → (ℕ → ℕ) → List Entry → Type 0
+DeviceRules world older losses [] = Unit {0}
+DeviceRules world older losses (entry ∷ entries) =
+    (entry.device ≡ device_lines world older losses entry.event entry.went) × DeviceRules world (reverse (lines_of entry) ++ older) (losses_with entry.event losses) entries

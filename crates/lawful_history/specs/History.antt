@@ -1,0 +1,138 @@
+-- The lawful history of a scenario, computed: the plain program beside the relation of `Lawful`.
+use Rattle.std.specs.Prelude.{ℕ, ◌≡◌, ◌&&◌, ◌||◌, nat_le, nat_lt, if◌then◌else◌, ◌+◌, Bool, Option, Some, None, List, [], ◌∷◌, ◌++◌, reverse, replicate, slice_index_or, slice_set}
+use Rattle.section_map.specs.Geometry.{Shape, section_start}
+use Rattle.split_ring.specs.declared.steps.Access.{Access}
+use Rattle.split_ring.specs.declared.steps.Access.TheVariants as access
+use Rattle.scenario_text.specs.declared.acts.Act.{Act}
+use Rattle.scenario_text.specs.Scenario.{World, IsWorld}
+use Rattle.link_laws.specs.Steps.{Step, step_of}
+use Rattle.link_laws.specs.Trees.{CallTree, Ended, Does, Reads}
+use Rattle.lawful_history.specs.declared.line.Line.{Line}
+use Rattle.lawful_history.specs.Memory.{last_write}
+use Rattle.lawful_history.specs.Schedule.{Event, Asked, Automated, Stormed, Turned, Acted, WasReset, Reached, Loses, Repeated, event_peer, schedule}
+use Rattle.lawful_history.specs.Sides.{who_of}
+use Rattle.lawful_history.specs.Entries.{Entry, lines_of}
+use Rattle.lawful_history.specs.Storm.{storm_step, storm_behind}
+use Rattle.lawful_history.specs.Peers.{Peer, Driver, Waits, Chooses, Storms, at_start, asked, automated, stormed, was_reset, opened, stepped}
+use Rattle.lawful_history.specs.Device.{device_lines, losses_with}
+use Rattle.lawful_history.specs.Lawful.{IsLawful}
+
+-- the lines so far, of which the newest is the first, how many interrupts of each peer are to be lost, and where each peer is, from peer 0
+pub record Moment : Type 0 where
+  pub past : List Line
+  pub losses : ℕ → ℕ
+  pub peers : List Peer
+
+-- the step of a turn without an open call, and the peer behind it
+abbrev pub driven_step : World → ℕ → Driver → Option Step
+driven_step world p Waits = None
+driven_step world p (Chooses auto) = None
+driven_step world p (Storms x) = Some (storm_step world p x)
+
+abbrev pub driven : Peer → Driver → Peer
+driven peer Waits = peer
+driven peer (Chooses auto) = peer
+driven peer (Storms x) = record peer { driver = Storms (storm_behind x) }
+
+-- the step of a turn, where a read gives what was written last
+abbrev pub step_by : World → ℕ → Driver → CallTree → List Line → Option Step
+step_by world p driver Ended past = driven_step world p driver
+step_by world p driver (Does a marks rest) past = Some (step_of a 0 marks)
+step_by world p driver (Reads word marks rest) past = Some (step_of (access.Read word) (last_write past word) (marks (last_write past word)))
+
+-- and the peer behind it
+abbrev pub moved_by : Peer → CallTree → List Line → Peer
+moved_by peer Ended past = driven peer peer.driver
+moved_by peer (Does a marks rest) past = stepped peer (step_of a 0 marks) rest
+moved_by peer (Reads word marks rest) past = stepped peer (step_of (access.Read word) (last_write past word) (marks (last_write past word))) (rest (last_write past word))
+
+abbrev pub moved : Peer → List Line → Peer
+moved peer past = moved_by peer peer.left past
+
+-- the step of a peer's turn, and where the peer is behind it
+abbrev pub turn_step : World → ℕ → Peer → List Line → Option Step
+turn_step world p peer past = step_by world p (opened (who_of world p) peer).driver (opened (who_of world p) peer).left past
+
+abbrev pub turned : World → ℕ → Peer → List Line → Peer
+turned world p peer past = moved (opened (who_of world p) peer) past
+
+-- whether a peer may write a word: it lies in the peer's output section or in the common section
+abbrev pub may_write : Shape → ℕ → ℕ → Bool
+may_write g peer word =
+    (nat_le (section_start g peer) word && nat_lt word (section_start g peer + g.out)) || (nat_le g.table word && nat_lt word (g.table + g.common))
+
+-- the step of an access of the peer's own accord; a forbidden write is denied
+abbrev pub acted_step : World → ℕ → Access → List Line → Option Step
+acted_step world p (access.Read word) past = Some (step_of (access.Read word) (last_write past word) [])
+acted_step world p (access.Write word written) past = if may_write world.geometry p word then Some (step_of (access.Write word written) 0 []) else None
+acted_step world p (access.State state) past = Some (step_of (access.State state) 0 [])
+acted_step world p (access.Ring target vector) past = Some (step_of (access.Ring target vector) 0 [])
+acted_step world p access.Nothing past = Some (step_of access.Nothing 0 [])
+
+-- the step that is made in an event, and where its peer is behind it
+abbrev pub step_in : World → Peer → List Line → Event → Option Step
+step_in world peer past (Asked p call) = None
+step_in world peer past (Automated p expected) = None
+step_in world peer past (Stormed p seed) = None
+step_in world peer past (Turned p) = turn_step world p peer past
+step_in world peer past (Acted p a) = acted_step world p a past
+step_in world peer past (WasReset p) = None
+step_in world peer past (Reached p a) = None
+step_in world peer past (Loses p) = None
+step_in world peer past (Repeated p vector) = None
+
+abbrev pub peer_in : World → Peer → List Line → Event → Peer
+peer_in world peer past (Asked p call) = asked peer call
+peer_in world peer past (Automated p expected) = automated peer expected
+peer_in world peer past (Stormed p seed) = stormed peer seed
+peer_in world peer past (Turned p) = turned world p peer past
+peer_in world peer past (Acted p a) = peer
+peer_in world peer past (WasReset p) = was_reset peer
+peer_in world peer past (Reached p a) = peer
+peer_in world peer past (Loses p) = peer
+peer_in world peer past (Repeated p vector) = peer
+
+abbrev pub peer_at : Moment → ℕ → Peer
+peer_at moment peer = slice_index_or moment.peers peer at_start
+
+-- the step of an event, its entry, and where its peer is behind it
+abbrev pub step_of_event : World → Moment → Event → Option Step
+step_of_event world moment event = step_in world (peer_at moment (event_peer event)) moment.past event
+
+abbrev pub entry_of : World → Moment → Event → Entry
+entry_of world moment event = record {
+  event = event;
+  went = step_of_event world moment event;
+  device = device_lines world moment.past moment.losses event (step_of_event world moment event);
+}
+
+abbrev pub peer_behind : World → Moment → Event → Peer
+peer_behind world moment event = peer_in world (peer_at moment (event_peer event)) moment.past event
+
+abbrev pub happens : World → Moment → Event → Moment
+happens world moment event = record {
+  past = reverse (lines_of (entry_of world moment event)) ++ moment.past;
+  losses = losses_with event moment.losses;
+  peers = slice_set moment.peers (event_peer event) (peer_behind world moment event);
+}
+
+abbrev pub run : World → List Event → Moment → Moment
+run world [] moment = moment
+run world (event ∷ events) moment = run world events (happens world moment event)
+
+abbrev pub beginning : World → Moment
+beginning world = record { past = []; losses = λ peer. 0; peers = replicate world.geometry.peers at_start }
+
+-- the history of the scenario
+abbrev pub history : World → List Line
+history world = reverse (run world (schedule world.acts) (beginning world)).past
+
+-- a scenario has a lawful history, and this is it
+abbrev pub HistoryIsLawful : Type 0
+HistoryIsLawful = (world : World) → IsWorld world → IsLawful world (history world)
+
+-- a schedule that goes on from where another one ends has a history that goes on from the other's: of two lawful histories one begins the other where
+-- one is cut
+abbrev pub CutHistoriesBegin : Type 0
+CutHistoriesBegin = (world : World) (acts : List Act) (more : List Event) (lines others : List Line) → IsWorld world → IsWorld (record world { acts = acts }) →
+    schedule acts ≡ schedule world.acts ++ more → IsLawful world lines → IsLawful (record world { acts = acts }) others → (rest : List Line) × (others ≡ lines ++ rest)

@@ -1,0 +1,11 @@
+pub mod Sides
+pub mod Frames
+pub mod Memory
+pub mod Schedule
+pub mod Given
+pub mod Entries
+pub mod Storm
+pub mod Peers
+pub mod Device
+pub mod Lawful
+pub mod History

@@ -1,0 +1,31 @@
+//! What holds of every lawful history. The functions do nothing: their contracts are the laws.
+ghost use Rattle.lawful_history.specs.Lawful.{HasOneHistory, ReadsWhatWasWritten, WritesWhereItMay};
+ghost use Rattle.lawful_history.specs.History.{CutHistoriesBegin, HistoryIsLawful};
+
+use link_laws::calls_stay_in_reach;
+
+/// A scenario has one lawful history at most: the schedule and the values read decide each next line.
+pub fn one_history()
+    ensures { HasOneHistory }
+{}
+
+/// A scenario has a lawful history, which `specs/History` computes.
+pub fn history_is_lawful()
+    ensures { HistoryIsLawful }
+{
+    calls_stay_in_reach();
+}
+
+/// Of two lawful histories one begins the other, where the schedule of one begins that of the other.
+pub fn cut_histories_begin()
+    ensures { CutHistoriesBegin }
+{
+    one_history();
+    history_is_lawful();
+}
+
+/// What a peer read is what was written last, and a peer writes where it may.
+pub fn memory_is_kept()
+    ensures reads { ReadsWhatWasWritten }
+    ensures writes { WritesWhereItMay }
+{}

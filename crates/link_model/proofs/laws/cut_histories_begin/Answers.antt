@@ -1,5 +1,0 @@
-use Rattle.link_model.proofs.Begins.{begins_lem}
-use Rattle.link_model.proofs.laws.cut_histories_begin.Goals as goal
-
-pub returns : goal.returns
-returns c = begins_lem c.one_history.ensures c.history_is_lawful.ensures

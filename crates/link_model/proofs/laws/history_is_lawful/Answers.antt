@@ -1,5 +1,0 @@
-use Rattle.link_model.proofs.Exists.{history_lem}
-use Rattle.link_model.proofs.laws.history_is_lawful.Goals as goal
-
-pub returns : goal.returns
-returns c = history_lem c.calls_stay_in_reach.ensures

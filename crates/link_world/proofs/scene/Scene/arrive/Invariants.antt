@@ -1,0 +1,12 @@
+use Rattle.std.proofs.Common.{ℕ, List, ◌++◌, take}
+use Rattle.std.specs.Prelude.{reverse}
+use Rattle.scenario_text.specs.Scenario.{World}
+use Rattle.lawful_history.specs.declared.line.Line.{Line}
+use Rattle.lawful_history.specs.Device.{arrived}
+use Rattle.link_world.specs.Scene.{Behind, IsSeated}
+use Rattle.link_world.proofs.scene.Scene.arrive.Given as goal
+
+abbrev pub invariant-loop-delivery : goal.invariant-loop-delivery
+invariant-loop-delivery l =
+    ((world : World) (past : List Line) (losses : ℕ → ℕ) → Behind world past losses l.initial.self → Behind world (reverse (arrived past losses (take l.delivery-index l.deliveries)) ++ past) losses l.self)
+    × ((me : ℕ) → IsSeated l.initial.self me → IsSeated l.self me)

@@ -1,0 +1,13 @@
+use Rattle.std.proofs.Common.{ℕ, ◌∷◌, refl, subst}
+use Rattle.lawful_history.specs.declared.line.Line.TheVariants.{ConfigRead}
+use Rattle.lawful_history.specs.Device.{devices_of, device_events}
+use Rattle.link_world.specs.Scene.{Behind}
+use Rattle.link_world.specs.declared.scene.Scene.{Scene}
+use Rattle.link_world.proofs.Arriving.{remarked}
+use Rattle.link_world.proofs.scene.Scene.read_config.Goals as goal
+
+pub returns-clause-behind : goal.returns-clause-behind
+returns-clause-behind c = λ world past losses behind.
+    let now : Scene = record { region = c.args.self.now.region; device = c.args.self.now.device; unspent = c.args.self.now.unspent; lines = c.push.new.self } in
+    subst (λ (v : ℕ). Behind world (ConfigRead c.args.me c.args.offset c.args.width v ∷ past) losses now) (c.in-Ok.ensures.value (devices_of world) (device_events past) behind.devices)
+    (remarked world past losses c.args.self.now now (ConfigRead c.args.me c.args.offset c.args.width c.in-Ok.value) behind (record { touch = refl; told = refl; lost = λ p. refl; frame = refl }) refl refl refl c.in_ok-push-in-Ok.ensures.put)

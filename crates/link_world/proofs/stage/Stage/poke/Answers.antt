@@ -1,0 +1,12 @@
+use Rattle.std.proofs.Common.{refl}
+use Rattle.split_ring.specs.declared.steps.Access.TheVariants as access
+use Rattle.lawful_history.specs.Schedule.{Acted}
+use Rattle.link_world.specs.Scene.{Behind}
+use Rattle.link_world.specs.Stage.{moment_of}
+use Rattle.link_world.proofs.Runs.{scene_goes_on, poked}
+use Rattle.link_world.proofs.stage.Stage.poke.Goals as goal
+
+pub returns : goal.returns
+returns c = λ world events there runs.
+    let m = moment_of world events in
+    scene_goes_on world events (Acted c.args.peer (access.Write c.args.word c.args.value)) c.args.self.now _ there refl refl refl (poked world m.past m.losses c.args.peer c.args.word c.args.value (λ ls. Behind world ls m.losses c.poke.new.self) (c.in_ok-poke.ensures.behind world m.past m.losses runs.behind)) c.in_ok-poke.ensures.seated runs

@@ -1,0 +1,10 @@
+use Rattle.std.proofs.Common.{refl}
+use Rattle.lawful_history.specs.Schedule.{Repeated}
+use Rattle.link_world.specs.Stage.{moment_of}
+use Rattle.link_world.proofs.Runs.{scene_goes_on}
+use Rattle.link_world.proofs.stage.Stage.repeat.Goals as goal
+
+pub returns : goal.returns
+returns c = λ world events there runs.
+    let m = moment_of world events in
+    scene_goes_on world events (Repeated c.args.peer c.args.vector) c.args.self.now _ there refl refl refl (c.in_ok-repeat.ensures.behind world m.past m.losses runs.behind) c.in_ok-repeat.ensures.seated runs

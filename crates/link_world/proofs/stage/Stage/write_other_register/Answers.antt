@@ -1,0 +1,10 @@
+use Rattle.std.proofs.Common.{refl}
+use Rattle.lawful_history.specs.Schedule.{Reached, WritesRegister}
+use Rattle.link_world.specs.Stage.{moment_of}
+use Rattle.link_world.proofs.Runs.{scene_goes_on}
+use Rattle.link_world.proofs.stage.Stage.write_other_register.Goals as goal
+
+pub returns : goal.returns
+returns c = λ world events there runs.
+    let m = moment_of world events in
+    scene_goes_on world events (Reached c.args.peer (WritesRegister c.args.offset c.args.value)) c.args.self.now _ there refl refl refl (c.in_ok-write_register.ensures.behind world m.past m.losses runs.behind) c.in_ok-write_register.ensures.seated runs

@@ -5,6 +5,7 @@
 
 mod laws;
 mod line;
+mod same;
 
 pub use laws::{cut_histories_begin, history_is_lawful, memory_is_kept, one_history};
 pub use line::{Line, Lines};

@@ -193,6 +193,13 @@ impl Lines {
         }
     }
 
+    /// Drops the lines. The room that they had stays.
+    pub fn clear(&mut self)
+        ensures { self.new ≡ [] }
+    {
+        self.lines.clear();
+    }
+
     /// The lines in their order.
     pub fn items(&self) -> &[Line]
         ensures { result.now ≡ self.now }

@@ -25,6 +25,11 @@ frames-append xs ys have more = list_all-append has_frame xs ys ∙ rw (have, mo
 one_frame : (line : Line) → has_frame line ≡ true → HaveFrames (line ∷ [])
 one_frame line frame = rw frame refl
 
+-- one line more, told behind those that are kept
+told_lines : (gone lines lines' past : List Line) (line : Line) → gone ++ lines ≡ reverse past → lines' ≡ lines ++ line ∷ [] → gone ++ lines' ≡ reverse (line ∷ past)
+told_lines gone lines lines' past line behind put =
+    ap (λ ls. gone ++ ls) put ∙ sym (append_assoc gone lines (line ∷ [])) ∙ ap (λ ls. ls ++ line ∷ []) behind ∙ sym (reverse-append (line ∷ []) past)
+
 -- one line more, told behind some new lines
 pub behind_more : (new : List Line) (line : Line) (past : List Line) → reverse (line ∷ new) ++ past ≡ reverse new ++ (line ∷ past)
 behind_more new line past = ap (λ r. r ++ past) (reverse-append (line ∷ []) new) ∙ append_assoc (reverse new) (line ∷ []) past
@@ -48,15 +53,15 @@ one_arrived past losses ds i d inside is =
 pub known_at : (words : List ℕ) (value : ℕ) (past : List Line) (word : ℕ) → Holds words past → slice_get words word ≡ Some value → value ≡ last_write past word
 known_at words value past word holds at = grind (arith, common_steps, gets, holds word)
 
-pub read_behind : (world : World) (past : List Line) (losses : ℕ → ℕ) (s s' : Scene) (me word value : ℕ) → Behind world past losses s → slice_get s.region.words word ≡ Some value →
+pub read_behind : (world : World) (gone past : List Line) (losses : ℕ → ℕ) (s s' : Scene) (me word value : ℕ) → Behind world gone past losses s → slice_get s.region.words word ≡ Some value →
     s'.region ≡ s.region → s'.device ≡ s.device → s'.unspent ≡ s.unspent → s'.lines ≡ s.lines ++ line.Read me word value ∷ [] →
-    (value ≡ last_write past word) × Behind world (line.Read me word value ∷ past) losses s'
-read_behind world past losses s s' me word value behind at region device unspent lines = (
+    (value ≡ last_write past word) × Behind world gone (line.Read me word value ∷ past) losses s'
+read_behind world gone past losses s s' me word value behind at region device unspent lines = (
   known_at s.region.words value past word behind.words at,
   record {
     is_world = behind.is_world;
     shape = ap (λ r. r.shape) region ∙ behind.shape;
-    lines = ap reverse lines ∙ reverse-append s.lines (line.Read me word value ∷ []) ∙ ap (λ ls. line.Read me word value ∷ ls) behind.lines;
+    lines = told_lines gone s.lines s'.lines past (line.Read me word value) behind.lines lines;
     frames = rw lines (frames-append s.lines (line.Read me word value ∷ []) behind.frames refl);
     words = rw region behind.words;
     devices = rw device behind.devices;
@@ -66,13 +71,13 @@ read_behind world past losses s s' me word value behind at region device unspent
 )
 
 -- a line that tells the devices something, behind which the words and the devices stand
-pub told_behind : (world : World) (past : List Line) (losses : ℕ → ℕ) (s s' : Scene) (line : Line) (event : device.Event) → Behind world past losses s → told_by line ≡ Some event → ((p : ℕ) → lost_by line p ≡ 0) →
+pub told_behind : (world : World) (gone past : List Line) (losses : ℕ → ℕ) (s s' : Scene) (line : Line) (event : device.Event) → Behind world gone past losses s → told_by line ≡ Some event → ((p : ℕ) → lost_by line p ≡ 0) →
     has_frame line ≡ true → Holds s'.region.words (line ∷ past) → s'.region.shape ≡ s.region.shape → Stands (devices_of world) (event ∷ device_events past) s'.device → s'.unspent ≡ s.unspent →
-    s'.lines ≡ s.lines ++ line ∷ [] → Behind world (line ∷ past) losses s'
-told_behind world past losses s s' line event behind told lost frame words shape devices unspent lines = record {
+    s'.lines ≡ s.lines ++ line ∷ [] → Behind world gone (line ∷ past) losses s'
+told_behind world gone past losses s s' line event behind told lost frame words shape devices unspent lines = record {
   is_world = behind.is_world;
   shape = shape ∙ behind.shape;
-  lines = ap reverse lines ∙ reverse-append s.lines (line ∷ []) ∙ ap (λ ls. line ∷ ls) behind.lines;
+  lines = told_lines gone s.lines s'.lines past line behind.lines lines;
   frames = rw lines (frames-append s.lines (line ∷ []) behind.frames (one_frame line frame));
   words = words;
   devices = rw told devices;
@@ -100,12 +105,12 @@ come_behind P world past losses line (Some event) deliveries brings holds =
     subst P (ap (λ ds. reverse (arrived (line ∷ past) losses ds) ++ (line ∷ past)) brings ∙ sym (behind_more (arrived (line ∷ past) losses (effect_of (devices_of world) (device_events past) event).deliveries.items) line past)) holds
 
 -- a line that changes nothing, told behind the others
-pub remarked : (world : World) (past : List Line) (losses : ℕ → ℕ) (s s' : Scene) (line : Line) → Behind world past losses s → IsRemark line →
-    s'.region ≡ s.region → s'.device ≡ s.device → s'.unspent ≡ s.unspent → s'.lines ≡ s.lines ++ line ∷ [] → Behind world (line ∷ past) losses s'
-remarked world past losses s s' line behind remark region device unspent lines = record {
+pub remarked : (world : World) (gone past : List Line) (losses : ℕ → ℕ) (s s' : Scene) (line : Line) → Behind world gone past losses s → IsRemark line →
+    s'.region ≡ s.region → s'.device ≡ s.device → s'.unspent ≡ s.unspent → s'.lines ≡ s.lines ++ line ∷ [] → Behind world gone (line ∷ past) losses s'
+remarked world gone past losses s s' line behind remark region device unspent lines = record {
   is_world = behind.is_world;
   shape = ap (λ r. r.shape) region ∙ behind.shape;
-  lines = ap reverse lines ∙ reverse-append s.lines (line ∷ []) ∙ ap (λ ls. line ∷ ls) behind.lines;
+  lines = told_lines gone s.lines s'.lines past line behind.lines lines;
   frames = rw lines (frames-append s.lines (line ∷ []) behind.frames (one_frame line remark.frame));
   words = rw region (λ word inside. behind.words word inside ∙ ap (λ t. value_behind t word (last_write past word)) (sym remark.touch));
   devices = rw (device, remark.told) behind.devices;

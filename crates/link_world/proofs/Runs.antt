@@ -1,6 +1,6 @@
 -- One event more.
 use Rattle.std.proofs.Common.{◌≡◌, ◌≢◌, ℕ, zero, suc, ◌<◌, ◌≤◌, Bool, true, false, List, [], ◌∷◌, ◌++◌, length, get_or, take, replicate, ◌+◌, refl, sym, ◌∙◌, ap, subst, arith, length-set}
-use Rattle.std.specs.Prelude.{◌==◌, ◌&&◌, not, nat_lt, slice_index_or, if◌then◌else◌, Option, Some, None, reverse, slice_get, slice_set}
+use Rattle.std.specs.Prelude.{◌==◌, ◌&&◌, ◌/◌, ◌%◌, Result, Ok, Err, OnOk, not, nat_lt, slice_index_or, if◌then◌else◌, Option, Some, None, reverse, slice_get, slice_set}
 use Rattle.std.specs.List.{AllByRecursion}
 use Rattle.std.proofs.lemmas.Bool.Decides.{nat_tests}
 use Rattle.std.proofs.lemmas.Option.{slice_get-get_or, slice_get_within, same_Some}
@@ -27,7 +27,7 @@ use Rattle.lawful_history.proofs.There.{there_below, act_there}
 use Rattle.lawful_history.proofs.Exists.{IsFit, Good, good_on, good_at_first}
 use Rattle.link_world.specs.Scene.{Behind, IsSeated, told}
 use Rattle.link_world.specs.Seats.{SeatStands, SeatFits, is_honest}
-use Rattle.link_world.specs.Stage.{AreAtStart, IsLinked, moment_of, RunsTo, IsAct}
+use Rattle.link_world.specs.Stage.{AreAtStart, IsLinked, moment_of, RunsTo, IsAct, Happens, Plays}
 use Rattle.link_world.proofs.Openings.{link_fits}
 use Rattle.link_world.specs.declared.seat.Seat.{Seat}
 use Rattle.link_world.specs.declared.seat.Seat.TheVariants.{Honest, Storm, Idle}
@@ -92,8 +92,8 @@ one_seat world count seats seat start stands linked =
     }
 
 -- a stage at the start
-pub begun : (world : World) (s : Stage) → AreAtStart world world.geometry.peers s.seats.items → s.ground.geometry ≡ world.geometry → s.ground.queue ≡ world.queue → Behind world [] (λ p. 0) s.scene →
-    ((p : ℕ) → p < world.geometry.peers → IsSeated s.scene p) → RunsTo world [] s
+pub begun : (world : World) (s : Stage) → AreAtStart world world.geometry.peers s.seats.items → s.ground.geometry ≡ world.geometry → s.ground.queue ≡ world.queue → Behind world [] [] (λ p. 0) s.scene →
+    ((p : ℕ) → p < world.geometry.peers → IsSeated s.scene p) → RunsTo world [] [] s
 begun world s start geometry queue behind seated = record {
   there = tt;
   geometry = geometry;
@@ -115,18 +115,18 @@ abbrev pub past_behind : World → Moment → Event → List Line
 past_behind world moment event = (happens world moment event).past
 
 -- one event of a peer, behind which its seat and the scene stand
-pub record OneMore (world : World) (moment : Moment) (event : Event) (s s' : Stage) (seat : Seat) : Type 0 where
+pub record OneMore (world : World) (gone : List Line) (moment : Moment) (event : Event) (s s' : Stage) (seat : Seat) : Type 0 where
   pub items : s'.seats.items ≡ slice_set s.seats.items (event_peer event) seat
   pub ground : s'.ground ≡ s.ground
-  pub behind : Behind world (past_behind world moment event) (losses_with event moment.losses) s'.scene
+  pub behind : Behind world gone (past_behind world moment event) (losses_with event moment.losses) s'.scene
   pub seated : (p : ℕ) → IsSeated s.scene p → IsSeated s'.scene p
   pub stands : SeatStands (who_of world (event_peer event)) (peer_behind world moment event) seat
   pub linked : is_honest seat ≡ is_link world (event_peer event)
 
-stands_on : (world : World) (events : List Event) (event : Event) (s s' : Stage) (seat : Seat) → OneMore world (moment_of world events) event s s' seat → event_peer event < world.geometry.peers → RunsTo world events s →
+stands_on : (world : World) (gone : List Line) (events : List Event) (event : Event) (s s' : Stage) (seat : Seat) → OneMore world gone (moment_of world events) event s s' seat → event_peer event < world.geometry.peers → RunsTo world gone events s →
     (k : ℕ) (found : Seat) (b : Bool) → (event_peer event == k) ≡ b → slice_get (slice_set s.seats.items (event_peer event) seat) k ≡ Some found →
     SeatStands (who_of world k) (peer_at (happens world (moment_of world events) event) k) found × (is_honest found ≡ is_link world k)
-stands_on world events event s s' seat more inside runs k found true is at =
+stands_on world gone events event s s' seat more inside runs k found true is at =
     let moment = moment_of world events in
     let p = event_peer event in
     let same : p ≡ k = is_same p k is in
@@ -135,7 +135,7 @@ stands_on world events event s s' seat more inside runs k found true is at =
     let P : ℕ → Seat → Type 0 = λ q x. SeatStands (who_of world q) (peer_at (happens world moment event) q) x × (is_honest x ≡ is_link world q) in
     let now : P p seat = (subst (λ (x : Peer). SeatStands (who_of world p) x seat) (sym here) more.stands, more.linked) in
     subst (λ (q : ℕ). P q found) same (subst (λ (x : Seat). P p x) seat_is now)
-stands_on world events event s s' seat more inside runs k found false is at =
+stands_on world gone events event s s' seat more inside runs k found false is at =
     let moment = moment_of world events in
     let p = event_peer event in
     let other : k ≢ p = is_other p k is in
@@ -143,19 +143,19 @@ stands_on world events event s s' seat more inside runs k found false is at =
     let old : slice_get s.seats.items k ≡ Some found = sym (set_beside s.seats.items p k seat other) ∙ at in
     (subst (λ (x : Peer). SeatStands (who_of world k) x found) (sym here) (runs.stands k found old), runs.linked k found old)
 
-pub goes_on : (world : World) (events : List Event) (event : Event) (s s' : Stage) (seat : Seat) → IsThere world event → OneMore world (moment_of world events) event s s' seat →
-    RunsTo world events s → RunsTo world (events ++ event ∷ []) s'
-goes_on world events event s s' seat there more runs =
+pub goes_on : (world : World) (gone : List Line) (events : List Event) (event : Event) (s s' : Stage) (seat : Seat) → IsThere world event → OneMore world gone (moment_of world events) event s s' seat →
+    RunsTo world gone events s → RunsTo world gone (events ++ event ∷ []) s'
+goes_on world gone events event s s' seat there more runs =
     let moment = moment_of world events in
     let inside = there_below world event there in
     let next : moment_of world (events ++ event ∷ []) ≡ happens world moment event = run-snoc world events event (beginning world) in
     let at = λ (k : ℕ) (found : Seat) (is : slice_get s'.seats.items k ≡ Some found).
-    stands_on world events event s s' seat more inside runs k found (event_peer event == k) refl (subst (λ (xs : List Seat). slice_get xs k ≡ Some found) more.items is) in
+    stands_on world gone events event s s' seat more inside runs k found (event_peer event == k) refl (subst (λ (xs : List Seat). slice_get xs k ≡ Some found) more.items is) in
     record {
       there = there-snoc (IsThere world) events event runs.there there;
       geometry = ap (λ g. g.geometry) more.ground ∙ runs.geometry;
       queue = ap (λ g. g.queue) more.ground ∙ runs.queue;
-      behind = subst (λ (m : Moment). Behind world m.past m.losses s'.scene) (sym next) more.behind;
+      behind = subst (λ (m : Moment). Behind world gone m.past m.losses s'.scene) (sym next) more.behind;
       count = ap length more.items ∙ length-set s.seats.items (event_peer event) seat ∙ runs.count;
       seated = λ p below. more.seated p (runs.seated p below);
       stands = λ k found is. subst (λ (m : Moment). SeatStands (who_of world k) (peer_at m k) found) (sym next) (at k found is).0;
@@ -168,17 +168,17 @@ get_set [] p x is = absurd (cc)
 get_set (y ∷ xs) zero x is = ap (λ (z : Seat). z ∷ xs) (sym (same_Some y x is))
 get_set (y ∷ xs) (suc p) x is = ap (λ zs. y ∷ zs) (get_set xs p x is)
 
-pub scene_goes_on : (world : World) (events : List Event) (event : Event) (s s' : Stage) → IsThere world event → s'.seats ≡ s.seats → s'.ground ≡ s.ground →
+pub scene_goes_on : (world : World) (gone : List Line) (events : List Event) (event : Event) (s s' : Stage) → IsThere world event → s'.seats ≡ s.seats → s'.ground ≡ s.ground →
     peer_behind world (moment_of world events) event ≡ peer_at (moment_of world events) (event_peer event) →
-    Behind world (past_behind world (moment_of world events) event) (losses_with event (moment_of world events).losses) s'.scene →
-    ((p : ℕ) → IsSeated s.scene p → IsSeated s'.scene p) → RunsTo world events s → RunsTo world (events ++ event ∷ []) s'
-scene_goes_on world events event s s' there seats ground same behind seated runs =
+    Behind world gone (past_behind world (moment_of world events) event) (losses_with event (moment_of world events).losses) s'.scene →
+    ((p : ℕ) → IsSeated s.scene p → IsSeated s'.scene p) → RunsTo world gone events s → RunsTo world gone (events ++ event ∷ []) s'
+scene_goes_on world gone events event s s' there seats ground same behind seated runs =
     let p = event_peer event in
     let below = there_below world event there in
     let count = runs.count in
     let seat = get_or s.seats.items p Idle in
     let here : slice_get s.seats.items p ≡ Some seat = slice_get-get_or s.seats.items p Idle (omega arith) in
-    goes_on world events event s s' seat there (record {
+    goes_on world gone events event s s' seat there (record {
       items = ap (λ v. v.items) seats ∙ sym (get_set s.seats.items p seat here);
       ground = ground;
       behind = behind;
@@ -188,19 +188,19 @@ scene_goes_on world events event s s' there seats ground same behind seated runs
     }) runs
 
 -- an event of a seat alone, or of a seat and the scene
-pub seat_goes_on : (world : World) (events : List Event) (event : Event) (s s' : Stage) (old seat : Seat) → IsThere world event → old ≡ get_or s.seats.items (event_peer event) old →
+pub seat_goes_on : (world : World) (gone : List Line) (events : List Event) (event : Event) (s s' : Stage) (old seat : Seat) → IsThere world event → old ≡ get_or s.seats.items (event_peer event) old →
     s'.seats.items ≡ slice_set s.seats.items (event_peer event) seat → s'.ground ≡ s.ground →
     (SeatStands (who_of world (event_peer event)) (peer_at (moment_of world events) (event_peer event)) old →
     SeatStands (who_of world (event_peer event)) (peer_behind world (moment_of world events) event) seat) →
     (is_honest old ≡ is_link world (event_peer event) → is_honest seat ≡ is_link world (event_peer event)) →
-    Behind world (past_behind world (moment_of world events) event) (losses_with event (moment_of world events).losses) s'.scene →
-    ((p : ℕ) → IsSeated s.scene p → IsSeated s'.scene p) → RunsTo world events s → RunsTo world (events ++ event ∷ []) s'
-seat_goes_on world events event s s' old seat there is items ground stands kind behind seated runs =
+    Behind world gone (past_behind world (moment_of world events) event) (losses_with event (moment_of world events).losses) s'.scene →
+    ((p : ℕ) → IsSeated s.scene p → IsSeated s'.scene p) → RunsTo world gone events s → RunsTo world gone (events ++ event ∷ []) s'
+seat_goes_on world gone events event s s' old seat there is items ground stands kind behind seated runs =
     let p = event_peer event in
     let below = there_below world event there in
     let count = runs.count in
     let here : slice_get s.seats.items p ≡ Some old = slice_get-get_or s.seats.items p old (omega arith) ∙ ap Some (sym is) in
-    goes_on world events event s s' seat there (record {
+    goes_on world gone events event s s' seat there (record {
       items = items;
       ground = ground;
       behind = behind;
@@ -236,8 +236,8 @@ honest_link (Honest link) is = (link, refl)
 honest_link (Storm x) is = absurd (cc)
 honest_link Idle is = absurd (cc)
 
-pub linked_there : (world : World) (events : List Event) (s : Stage) (p : ℕ) → RunsTo world events s → p < world.geometry.peers → is_link world p ≡ true → IsLinked s.seats.items p
-linked_there world events s p runs below is =
+pub linked_there : (world : World) (gone : List Line) (events : List Event) (s : Stage) (p : ℕ) → RunsTo world gone events s → p < world.geometry.peers → is_link world p ≡ true → IsLinked s.seats.items p
+linked_there world gone events s p runs below is =
     let seat = get_or s.seats.items p Idle in
     let count = runs.count in
     let here : slice_get s.seats.items p ≡ Some seat = slice_get-get_or s.seats.items p Idle (omega arith) in
@@ -245,16 +245,43 @@ linked_there world events s p runs below is =
     (found.0, here ∙ ap Some found.1)
 
 -- the acts so far, and one more
-pub one_act : (world : World) (acts : List Act) (i : ℕ) (act : Act) (s : Stage) → i < length acts → act ≡ get_or acts i act → RunsTo world (schedule (take i acts) ++ events_of act) s → RunsTo world (schedule (take (i + 1) acts)) s
-one_act world acts i act s inside is runs =
+pub one_act : (world : World) (gone : List Line) (acts : List Act) (i : ℕ) (act : Act) (s : Stage) → i < length acts → act ≡ get_or acts i act → RunsTo world gone (schedule (take i acts) ++ events_of act) s → RunsTo world gone (schedule (take (i + 1) acts)) s
+one_act world gone acts i act s inside is runs =
     let whole : schedule (take (i + 1) acts) ≡ schedule (take i acts) ++ events_of act =
     ap (λ (xs : List Act). schedule xs) (take_more acts i act inside ∙ ap (λ (a : Act). take i acts ++ a ∷ []) (sym is)) ∙ flat_map-append events_of (take i acts) (act ∷ []) ∙ ap (λ es. schedule (take i acts) ++ es) (append-nil (events_of act)) in
-    subst (λ (es : List Event). RunsTo world es s) (sym whole) runs
+    subst (λ (es : List Event). RunsTo world gone es s) (sym whole) runs
 
 -- the lines of a stage that took all acts are the history
-pub whole_history : (world : World) (i : ℕ) (s : Stage) → length world.acts ≤ i → RunsTo world (schedule (take i world.acts)) s → s.scene.lines ≡ history world
+pub whole_history : (world : World) (i : ℕ) (s : Stage) → length world.acts ≤ i → RunsTo world [] (schedule (take i world.acts)) s → s.scene.lines ≡ history world
 whole_history world i s whole runs =
-    sym (reverse-reverse s.scene.lines) ∙ ap reverse runs.behind.lines ∙ ap (λ (xs : List Act). reverse (moment_of world (schedule xs)).past) (take_all i world.acts whole)
+    runs.behind.lines ∙ ap (λ (xs : List Act). reverse (moment_of world (schedule xs)).past) (take_all i world.acts whole)
+
+-- the lines that are kept so far are taken away
+pub forgotten : (world : World) (gone : List Line) (events : List Event) (s s' : Stage) → s'.ground ≡ s.ground → s'.seats.items ≡ s.seats.items → s'.scene.region ≡ s.scene.region → s'.scene.device ≡ s.scene.device →
+    s'.scene.unspent ≡ s.scene.unspent → s'.scene.lines ≡ [] → RunsTo world gone events s → RunsTo world (gone ++ s.scene.lines) events s'
+forgotten world gone events s s' ground seats region device unspent lines runs = record {
+  there = runs.there;
+  geometry = ap (λ g. g.geometry) ground ∙ runs.geometry;
+  queue = ap (λ g. g.queue) ground ∙ runs.queue;
+  behind = record {
+    is_world = runs.behind.is_world;
+    shape = ap (λ r. r.shape) region ∙ runs.behind.shape;
+    lines = ap (λ ls. (gone ++ s.scene.lines) ++ ls) lines ∙ append-nil (gone ++ s.scene.lines) ∙ runs.behind.lines;
+    frames = rw lines refl;
+    words = rw region runs.behind.words;
+    devices = rw device runs.behind.devices;
+    unspent = λ p. let u = runs.behind.unspent p in rw unspent u;
+    seats = rw unspent runs.behind.seats;
+  };
+  count = ap length seats ∙ runs.count;
+  seated = λ p below. let old = runs.seated p below in record {
+    in_region = rw region old.in_region;
+    in_devices = rw device old.in_devices;
+    few = rw unspent old.few;
+  };
+  stands = λ p seat at. runs.stands p seat (subst (λ (xs : List Seat). slice_get xs p ≡ Some seat) seats at);
+  linked = λ p seat at. runs.linked p seat (subst (λ (xs : List Seat). slice_get xs p ≡ Some seat) seats at);
+}
 
 -- a seat that isn't one of an honest end sits
 pub sits_down : (who : Who) (peer : Peer) (seat : Seat) → is_honest seat ≡ false → SeatStands who peer seat → (peer.left ≡ Ended) × (peer.waiting ≡ [])
@@ -269,9 +296,43 @@ not_same a b other = grind (arith, nat_tests)
 pub other_register : (p offset value : ℕ) → offset ≢ 0x10 → offset ≢ 0x0C → register_event p offset value ≡ Reached p (WritesRegister offset value)
 other_register p offset value state doorbell = rw (not_same offset 0x10 state, not_same offset 0x0C doorbell) refl
 
+pub state_register : (p offset value : ℕ) → offset ≡ 0x10 → register_event p offset value ≡ Acted p (access.State value)
+state_register p offset value is = rw is refl
+
+pub doorbell_register : (p offset value : ℕ) → offset ≡ 0x0C → register_event p offset value ≡ Acted p (access.Ring (value / 65536) (value % 65536))
+doorbell_register p offset value is = rw is refl
+
+below_peers : (p peers : ℕ) → nat_lt p peers ≡ true → p < peers
+below_peers p peers is = grind (arith, nat_tests)
+
 -- what an act that is allowed asks for
 pub act_fits : (world : World) (act : Act) → IsWorld world → IsAct world act → AllByRecursion (IsThere world) (events_of act ++ [])
 act_fits world act is allowed = act_there world act [] is.geometry.two_peers allowed.1.peer allowed.1.frame tt
+
+-- an act of one event is played where its event happens
+pub played_on : (a x : Act) (event : Event) (old new : Stage) → a ≡ x → events_of x ≡ event ∷ [] → Happens event old new → Plays a old new
+played_on a x event old new is one happens = λ world gone events allowed runs.
+    let fits = act_fits world x runs.behind.is_world (subst (λ (b : Act). IsAct world b) is allowed) in
+    let there : AllByRecursion (IsThere world) ((event ∷ []) ++ []) = subst (λ (es : List Event). AllByRecursion (IsThere world) (es ++ [])) one fits in
+    subst (λ (b : Act). RunsTo world gone (events ++ events_of b) new) (sym is)
+    (subst (λ (es : List Event). RunsTo world gone (events ++ es) new) (sym one) (happens world gone events there.0 runs))
+
+pub played : {T E : Type 0} (result : Result T E) (a x : Act) (event : Event) (old new : Stage) → a ≡ x → events_of x ≡ event ∷ [] → OnOk result (Happens event old new) → OnOk result (Plays a old new)
+played (Ok t) a x event old new is one happens = played_on a x event old new is one happens
+played (Err e) a x event old new is one happens = tt
+
+-- so are turns
+turns_on : (a : Act) (peer steps : ℕ) (old new : Stage) → a ≡ act.Turn peer steps →
+    ((world : World) (gone : List Line) (events : List Event) → IsThere world (Turned peer) → RunsTo world gone events old → RunsTo world gone (events ++ replicate steps (Turned peer)) new) → Plays a old new
+turns_on a peer steps old new is turns = λ world gone events allowed runs.
+    let here : IsAct world (act.Turn peer steps) = subst (λ (b : Act). IsAct world b) is allowed in
+    subst (λ (b : Act). RunsTo world gone (events ++ events_of b) new) (sym is) (turns world gone events (below_peers peer world.geometry.peers here.1.peer) runs)
+
+pub played_turns : {T E : Type 0} (result : Result T E) (a : Act) (peer steps : ℕ) (old new : Stage) → a ≡ act.Turn peer steps →
+    OnOk result ((world : World) (gone : List Line) (events : List Event) → IsThere world (Turned peer) → RunsTo world gone events old → RunsTo world gone (events ++ replicate steps (Turned peer)) new) →
+    OnOk result (Plays a old new)
+played_turns (Ok t) a peer steps old new is turns = turns_on a peer steps old new is turns
+played_turns (Err e) a peer steps old new is turns = tt
 
 -- how many losses acts ask for
 abbrev loses_by : Event → ℕ → ℕ
@@ -373,8 +434,8 @@ two_below : (p : ℕ) (flag : Bool) → (nat_lt p 2 && flag) ≡ true → p < 2
 two_below p flag is = grind (arith, nat_tests)
 
 -- an act of a call is for an honest end of the link, and a storm is for none
-pub call_linked : (world : World) (events : List Event) (s : Stage) (p : ℕ) → RunsTo world events s → (nat_lt p 2 && slice_index_or world.honest p false) ≡ true → IsLinked s.seats.items p
-call_linked world events s p runs is = let two = runs.behind.is_world.geometry.two_peers in let below = two_below p _ is in linked_there world events s p runs (omega arith) is
+pub call_linked : (world : World) (gone : List Line) (events : List Event) (s : Stage) (p : ℕ) → RunsTo world gone events s → (nat_lt p 2 && slice_index_or world.honest p false) ≡ true → IsLinked s.seats.items p
+call_linked world gone events s p runs is = let two = runs.behind.is_world.geometry.two_peers in let below = two_below p _ is in linked_there world gone events s p runs (omega arith) is
 
 pub hostile_below : (p peers : ℕ) (flag : Bool) → (nat_lt p peers && not flag) ≡ true → p < peers
 hostile_below p peers flag is = grind (arith, nat_tests)

@@ -20,12 +20,13 @@ use Rattle.link_world.specs.declared.scene.Scene.{Scene}
 abbrev pub Holds : List ℕ → List Line → Type 0
 Holds words past = (word : ℕ) → word < length words → slice_index words word ≡ last_write past word
 
--- behind these lines, of which the newest is the first, and where so many interrupts of each peer are to be lost: the region has the words that were
--- written last, the devices stand where the lines led them, and it is known how many losses are still to come
-pub record Behind (world : World) (past : List Line) (losses : ℕ → ℕ) (scene : Scene) : Type 0 where
+-- behind these lines, of which the newest is the first and of which the oldest ones, gone, were taken away, and where so many interrupts of each
+-- peer are to be lost: the region has the words that were written last, the devices stand where the lines led them, and it is known
+-- how many losses are still to come
+pub record Behind (world : World) (gone past : List Line) (losses : ℕ → ℕ) (scene : Scene) : Type 0 where
   pub is_world : IsWorld world
   pub shape : scene.region.shape ≡ world.geometry
-  pub lines : reverse scene.lines ≡ past
+  pub lines : gone ++ scene.lines ≡ reverse past
   pub frames : HaveFrames scene.lines
   pub words : Holds scene.region.words past
   pub devices : Stands (devices_of world) (device_events past) scene.device

@@ -19,9 +19,9 @@ ghost use Rattle.link_world.specs.Seats.{call_of, IsPlanOf, LinkStands, MayWait,
 
 use crate::scene::Scene;
 use ivs_base::{Frame, NoMemory};
+use lawful_history::Line;
 use link_endpoint::{Auto, Call, Choice, Endpoint};
 use link_laws::places_follow_trees;
-use lawful_history::Line;
 use split_ring::steps::Note;
 use std::alloc::Global;
 use std::collections::VecDeque;
@@ -136,8 +136,8 @@ fn tell_note(
     scene: &mut Scene,
 ) -> Result<(), NoMemory>
     requires { has_frame (mark_line me (mark_between (offered end.now) (delivered end.now) note.now)) ≡ true }
-    ensures behind { (world : World) (past : List Line) (losses : ℕ → ℕ) → Behind world past losses scene.old →
-        OnOk result (Behind world (mark_line me (mark_between (offered end.now) (delivered end.now) note.now) ∷ past) losses scene.new) }
+    ensures behind { (world : World) (gone past : List Line) (losses : ℕ → ℕ) → Behind world gone past losses scene.old →
+        OnOk result (Behind world gone (mark_line me (mark_between (offered end.now) (delivered end.now) note.now) ∷ past) losses scene.new) }
     ensures seated { (q : ℕ) → IsSeated scene.old q → IsSeated scene.new q }
 {
     let line = line_of(alloc, me, end, *note)?;
@@ -154,8 +154,8 @@ fn tell_notes(
     scene: &mut Scene,
 ) -> Result<(), NoMemory>
     requires { HaveFrames (map (mark_line me) (marks_between (offered end.now) (delivered end.now) notes.now)) }
-    ensures behind { (world : World) (past : List Line) (losses : ℕ → ℕ) → Behind world past losses scene.old →
-        OnOk result (Behind world (reverse (map (mark_line me) (marks_between (offered end.now) (delivered end.now) notes.now)) ++ past) losses scene.new) }
+    ensures behind { (world : World) (gone past : List Line) (losses : ℕ → ℕ) → Behind world gone past losses scene.old →
+        OnOk result (Behind world gone (reverse (map (mark_line me) (marks_between (offered end.now) (delivered end.now) notes.now)) ++ past) losses scene.new) }
     ensures seated { (q : ℕ) → IsSeated scene.old q → IsSeated scene.new q }
 {
     for note in notes {
@@ -202,8 +202,8 @@ fn carry_on(alloc: Global, me: u32, link: &mut Link, scene: &mut Scene) -> Resul
     requires seated { IsSeated scene.old me }
     requires placed { IsPlaced scene.old.region.shape me link.old.end.who }
     requires stands { (who : Who) × (peer : Peer) × LinkStands who peer link.old }
-    ensures steps { (world : World) (past : List Line) (losses : ℕ → ℕ) (peer : Peer) → Behind world past losses scene.old → LinkStands (who_of world me) peer link.old →
-        OnOk result (Behind world (reverse (turn_lines me (step_by world me peer.driver peer.left past) (step_interrupts world past losses me (step_by world me peer.driver peer.left past))) ++ past) losses scene.new
+    ensures steps { (world : World) (gone past : List Line) (losses : ℕ → ℕ) (peer : Peer) → Behind world gone past losses scene.old → LinkStands (who_of world me) peer link.old →
+        OnOk result (Behind world gone (reverse (turn_lines me (step_by world me peer.driver peer.left past) (step_interrupts world past losses me (step_by world me peer.driver peer.left past))) ++ past) losses scene.new
         × LinkStands (who_of world me) (moved peer past) link.new) }
     ensures seated { (q : ℕ) → IsSeated scene.old q → IsSeated scene.new q }
 {
@@ -224,8 +224,8 @@ pub fn take_turn(alloc: Global, me: u32, link: &mut Link, scene: &mut Scene) -> 
     requires seated { IsSeated scene.old me }
     requires placed { IsPlaced scene.old.region.shape me link.old.end.who }
     requires stands { (who : Who) × (peer : Peer) × LinkStands who peer link.old }
-    ensures turn { (world : World) (past : List Line) (losses : ℕ → ℕ) (peer : Peer) → Behind world past losses scene.old → LinkStands (who_of world me) peer link.old →
-        OnOk result (Behind world (reverse (turn_lines me (turn_step world me peer past) (step_interrupts world past losses me (turn_step world me peer past))) ++ past) losses scene.new
+    ensures turn { (world : World) (gone past : List Line) (losses : ℕ → ℕ) (peer : Peer) → Behind world gone past losses scene.old → LinkStands (who_of world me) peer link.old →
+        OnOk result (Behind world gone (reverse (turn_lines me (turn_step world me peer past) (step_interrupts world past losses me (turn_step world me peer past))) ++ past) losses scene.new
         × LinkStands (who_of world me) (turned world me peer past) link.new) }
     ensures seated { (q : ℕ) → IsSeated scene.old q → IsSeated scene.new q }
 {

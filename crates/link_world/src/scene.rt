@@ -33,7 +33,7 @@ impl Scene {
     /// Tells a line that changes no word and no device.
     pub fn remark(&mut self, line: Line) -> Result<(), NoMemory>
         requires { IsRemark line }
-        ensures behind { (world : World) (past : List Line) (losses : ℕ → ℕ) → Behind world past losses self.old → OnOk result (Behind world (line ∷ past) losses self.new) }
+        ensures behind { (world : World) (gone past : List Line) (losses : ℕ → ℕ) → Behind world gone past losses self.old → OnOk result (Behind world gone (line ∷ past) losses self.new) }
         ensures seated { (me : ℕ) → IsSeated self.old me → IsSeated self.new me }
     {
         self.lines.push(line)
@@ -41,7 +41,7 @@ impl Scene {
 
     /// One interrupt comes to its peer, or is lost on its way.
     fn arrive_at(&mut self, delivery: &Delivery) -> Result<(), NoMemory>
-        ensures behind { (world : World) (past : List Line) (losses : ℕ → ℕ) → Behind world past losses self.old → OnOk result (Behind world (arrival past losses delivery.now ∷ past) losses self.new) }
+        ensures behind { (world : World) (gone past : List Line) (losses : ℕ → ℕ) → Behind world gone past losses self.old → OnOk result (Behind world gone (arrival past losses delivery.now ∷ past) losses self.new) }
         ensures seated { (me : ℕ) → IsSeated self.old me → IsSeated self.new me }
     {
         let Delivery { peer, vector } = *delivery;
@@ -55,7 +55,7 @@ impl Scene {
 
     /// Interrupts come, one behind the other.
     fn arrive(&mut self, deliveries: &[Delivery]) -> Result<(), NoMemory>
-        ensures behind { (world : World) (past : List Line) (losses : ℕ → ℕ) → Behind world past losses self.old → OnOk result (Behind world (reverse (arrived past losses deliveries.now) ++ past) losses self.new) }
+        ensures behind { (world : World) (gone past : List Line) (losses : ℕ → ℕ) → Behind world gone past losses self.old → OnOk result (Behind world gone (reverse (arrived past losses deliveries.now) ++ past) losses self.new) }
         ensures seated { (me : ℕ) → IsSeated self.old me → IsSeated self.new me }
     {
         for delivery in deliveries {
@@ -68,8 +68,8 @@ impl Scene {
     pub fn read(&mut self, me: u32, word: u32) -> Result<u32, NoMemory>
         requires seated { IsSeated self.old me }
         requires inside { word < word_count self.old.region.shape }
-        ensures behind { (world : World) (past : List Line) (losses : ℕ → ℕ) → Behind world past losses self.old →
-            IfOk result (λ value. (value ≡ last_write past word) × Behind world (Line.Read me word value ∷ past) losses self.new) }
+        ensures behind { (world : World) (gone past : List Line) (losses : ℕ → ℕ) → Behind world gone past losses self.old →
+            IfOk result (λ value. (value ≡ last_write past word) × Behind world gone (Line.Read me word value ∷ past) losses self.new) }
         ensures seated { (q : ℕ) → IsSeated self.old q → IsSeated self.new q }
     {
         let value = match self.region.read(me, word) {
@@ -88,7 +88,7 @@ impl Scene {
     pub fn write(&mut self, me: u32, word: u32, value: u32) -> Result<(), NoMemory>
         requires seated { IsSeated self.old me }
         requires may { MayWrite self.old.region.shape me word }
-        ensures behind { (world : World) (past : List Line) (losses : ℕ → ℕ) → Behind world past losses self.old → OnOk result (Behind world (Line.Write me word value ∷ past) losses self.new) }
+        ensures behind { (world : World) (gone past : List Line) (losses : ℕ → ℕ) → Behind world gone past losses self.old → OnOk result (Behind world gone (Line.Write me word value ∷ past) losses self.new) }
         ensures seated { (q : ℕ) → IsSeated self.old q → IsSeated self.new q }
     {
         match self.region.write(me, word, value) {
@@ -104,8 +104,8 @@ impl Scene {
     /// A peer writes a word if it may, and is denied it else.
     pub fn poke(&mut self, me: u32, word: u32, value: u32) -> Result<(), NoMemory>
         requires { IsSeated self.old me }
-        ensures behind { (world : World) (past : List Line) (losses : ℕ → ℕ) → Behind world past losses self.old →
-            OnOk result (Behind world (reverse (acted_lines me (Access.Write word value) (acted_step world me (Access.Write word value) past) []) ++ past) losses self.new) }
+        ensures behind { (world : World) (gone past : List Line) (losses : ℕ → ℕ) → Behind world gone past losses self.old →
+            OnOk result (Behind world gone (reverse (acted_lines me (Access.Write word value) (acted_step world me (Access.Write word value) past) []) ++ past) losses self.new) }
         ensures seated { (q : ℕ) → IsSeated self.old q → IsSeated self.new q }
     {
         match self.region.write(me, word, value) {
@@ -121,8 +121,8 @@ impl Scene {
     /// Tells a write of State. The answer is whom it interrupts.
     fn tell_state(&mut self, me: u32, value: u32) -> Result<ArrayVec<Delivery, 8>, NoMemory>
         requires { IsSeated self.old me }
-        ensures behind { (world : World) (past : List Line) (losses : ℕ → ℕ) → Behind world past losses self.old →
-            IfOk result (λ deliveries. Brings world past (Line.State me value) deliveries.items × Behind world (Line.State me value ∷ past) losses self.new) }
+        ensures behind { (world : World) (gone past : List Line) (losses : ℕ → ℕ) → Behind world gone past losses self.old →
+            IfOk result (λ deliveries. Brings world past (Line.State me value) deliveries.items × Behind world gone (Line.State me value ∷ past) losses self.new) }
         ensures seated { (q : ℕ) → IsSeated self.old q → IsSeated self.new q }
     {
         let _ = self.region.set_state(me, value);
@@ -134,8 +134,8 @@ impl Scene {
     /// A peer writes its State.
     pub fn set_state(&mut self, me: u32, value: u32) -> Result<(), NoMemory>
         requires { IsSeated self.old me }
-        ensures behind { (world : World) (past : List Line) (losses : ℕ → ℕ) → Behind world past losses self.old →
-            OnOk result (Behind world (reverse (told world past losses (Line.State me value)) ++ past) losses self.new) }
+        ensures behind { (world : World) (gone past : List Line) (losses : ℕ → ℕ) → Behind world gone past losses self.old →
+            OnOk result (Behind world gone (reverse (told world past losses (Line.State me value)) ++ past) losses self.new) }
         ensures seated { (q : ℕ) → IsSeated self.old q → IsSeated self.new q }
     {
         let deliveries = self.tell_state(me, value)?;
@@ -152,8 +152,8 @@ impl Scene {
         requires seated { IsSeated self.old me }
         requires target { target < 2 ^ 16 }
         requires vector { vector < 2 ^ 16 }
-        ensures behind { (world : World) (past : List Line) (losses : ℕ → ℕ) → Behind world past losses self.old →
-            IfOk result (λ deliveries. Brings world past (Line.Doorbell me target vector) deliveries.items × Behind world (Line.Doorbell me target vector ∷ past) losses self.new) }
+        ensures behind { (world : World) (gone past : List Line) (losses : ℕ → ℕ) → Behind world gone past losses self.old →
+            IfOk result (λ deliveries. Brings world past (Line.Doorbell me target vector) deliveries.items × Behind world gone (Line.Doorbell me target vector ∷ past) losses self.new) }
         ensures seated { (q : ℕ) → IsSeated self.old q → IsSeated self.new q }
     {
         let effect = self
@@ -172,8 +172,8 @@ impl Scene {
         requires seated { IsSeated self.old me }
         requires target { target < 2 ^ 16 }
         requires vector { vector < 2 ^ 16 }
-        ensures behind { (world : World) (past : List Line) (losses : ℕ → ℕ) → Behind world past losses self.old →
-            OnOk result (Behind world (reverse (told world past losses (Line.Doorbell me target vector)) ++ past) losses self.new) }
+        ensures behind { (world : World) (gone past : List Line) (losses : ℕ → ℕ) → Behind world gone past losses self.old →
+            OnOk result (Behind world gone (reverse (told world past losses (Line.Doorbell me target vector)) ++ past) losses self.new) }
         ensures seated { (q : ℕ) → IsSeated self.old q → IsSeated self.new q }
     {
         let deliveries = self.tell_doorbell(me, target, vector)?;
@@ -183,8 +183,8 @@ impl Scene {
     /// Tells a device reset. The answer is whom it interrupts.
     fn tell_reset(&mut self, me: u32) -> Result<ArrayVec<Delivery, 8>, NoMemory>
         requires { IsSeated self.old me }
-        ensures behind { (world : World) (past : List Line) (losses : ℕ → ℕ) → Behind world past losses self.old →
-            IfOk result (λ deliveries. Brings world past (Reset me) deliveries.items × Behind world (Reset me ∷ past) losses self.new) }
+        ensures behind { (world : World) (gone past : List Line) (losses : ℕ → ℕ) → Behind world gone past losses self.old →
+            IfOk result (λ deliveries. Brings world past (Reset me) deliveries.items × Behind world gone (Reset me ∷ past) losses self.new) }
         ensures seated { (q : ℕ) → IsSeated self.old q → IsSeated self.new q }
     {
         let _ = self.region.set_state(me, 0);
@@ -196,8 +196,8 @@ impl Scene {
     /// The device of a peer is reset.
     pub fn reset(&mut self, me: u32) -> Result<(), NoMemory>
         requires { IsSeated self.old me }
-        ensures behind { (world : World) (past : List Line) (losses : ℕ → ℕ) → Behind world past losses self.old →
-            OnOk result (Behind world (reverse (told world past losses (Reset me)) ++ past) losses self.new) }
+        ensures behind { (world : World) (gone past : List Line) (losses : ℕ → ℕ) → Behind world gone past losses self.old →
+            OnOk result (Behind world gone (reverse (told world past losses (Reset me)) ++ past) losses self.new) }
         ensures seated { (q : ℕ) → IsSeated self.old q → IsSeated self.new q }
     {
         let deliveries = self.tell_reset(me)?;
@@ -208,8 +208,8 @@ impl Scene {
     pub fn perform(&mut self, me: u32, access: Access) -> Result<u32, NoMemory>
         requires seated { IsSeated self.old me }
         requires can { CanPerform self.old me access }
-        ensures behind { (world : World) (past : List Line) (losses : ℕ → ℕ) → Behind world past losses self.old →
-            IfOk result (λ value. GaveLast past access value × Behind world (reverse (accessed world past losses me access value) ++ past) losses self.new) }
+        ensures behind { (world : World) (gone past : List Line) (losses : ℕ → ℕ) → Behind world gone past losses self.old →
+            IfOk result (λ value. GaveLast past access value × Behind world gone (reverse (accessed world past losses me access value) ++ past) losses self.new) }
         ensures seated { (q : ℕ) → IsSeated self.old q → IsSeated self.new q }
     {
         match access {

@@ -74,8 +74,8 @@ fn access_of(ground: &Ground, me: u32, kind: u32, place: u32, value: u32) -> Acc
 fn storm(ground: &Ground, me: u32, x: u64, scene: &mut Scene) -> Result<u64, NoMemory>
     requires ground { (world : World) × IsGround world me ground.now × (scene.old.region.shape ≡ world.geometry) }
     requires seated { IsSeated scene.old me }
-    ensures turn { (world : World) (past : List Line) (losses : ℕ → ℕ) → IsGround world me ground.now → Behind world past losses scene.old →
-        IfOk result (λ next. (next ≡ storm_behind x) × Behind world (reverse (turn_lines me (Some (storm_step world me x)) (step_interrupts world past losses me (Some (storm_step world me x)))) ++ past) losses scene.new) }
+    ensures turn { (world : World) (gone past : List Line) (losses : ℕ → ℕ) → IsGround world me ground.now → Behind world gone past losses scene.old →
+        IfOk result (λ next. (next ≡ storm_behind x) × Behind world gone (reverse (turn_lines me (Some (storm_step world me x)) (step_interrupts world past losses me (Some (storm_step world me x)))) ++ past) losses scene.new) }
     ensures seated { (q : ℕ) → IsSeated scene.old q → IsSeated scene.new q }
 {
     let first = next(x);
@@ -96,8 +96,8 @@ pub fn turn(
 ) -> Result<(), NoMemory>
     requires ground { (world : World) × (peer : Peer) × IsGround world me ground.now × (scene.old.region.shape ≡ world.geometry) × SeatStands (who_of world me) peer seat.old × SeatFits (who_of world me) seat.old }
     requires seated { IsSeated scene.old me }
-    ensures turn { (world : World) (past : List Line) (losses : ℕ → ℕ) (peer : Peer) → IsGround world me ground.now → Behind world past losses scene.old → SeatStands (who_of world me) peer seat.old →
-        OnOk result (Behind world (reverse (turn_lines me (turn_step world me peer past) (step_interrupts world past losses me (turn_step world me peer past))) ++ past) losses scene.new
+    ensures turn { (world : World) (gone past : List Line) (losses : ℕ → ℕ) (peer : Peer) → IsGround world me ground.now → Behind world gone past losses scene.old → SeatStands (who_of world me) peer seat.old →
+        OnOk result (Behind world gone (reverse (turn_lines me (turn_step world me peer past) (step_interrupts world past losses me (turn_step world me peer past))) ++ past) losses scene.new
         × SeatStands (who_of world me) (turned world me peer past) seat.new) }
     ensures seated { (q : ℕ) → IsSeated scene.old q → IsSeated scene.new q }
     ensures kind { SameKind seat.old seat.new }

@@ -2,21 +2,22 @@
 ghost use Rattle.std.specs.Prelude.{◌≡◌, ℕ, ◌+◌, ◌-◌, ◌<◌, ◌^◌, List, [], ◌∷◌, ◌++◌, true, false, IfOk, OnOk, length, slice_get, replicate};
 ghost use Rattle.split_ring.specs.declared.steps.Access.TheVariants as access;
 ghost use Rattle.scenario_text.specs.Scenario.{World, is_link};
+ghost use Rattle.lawful_history.specs.declared.line.Line.{Line};
 ghost use Rattle.lawful_history.specs.Schedule.{Event, Asked, Automated, Stormed, Turned, Acted, WasReset, Reached, Loses, Repeated, DeviceAccess, register_event, events_of};
 ghost use Rattle.lawful_history.specs.Sides.{world_of, who_of, traffic_vector};
 ghost use Rattle.lawful_history.specs.Peers.{at_start};
 ghost use Rattle.lawful_history.specs.Given.{IsThere};
 ghost use Rattle.link_world.specs.Seats.{call_of, SeatStands, is_honest};
-ghost use Rattle.link_world.specs.Stage.{AreAtStart, IsLinked, RunsTo, Happens, IsRunning, IsAct, moment_of};
+ghost use Rattle.link_world.specs.Stage.{AreAtStart, IsLinked, RunsTo, Happens, IsRunning, IsAct, Plays, moment_of};
 
 use crate::link::{Link, Waiting};
 use crate::scene::Scene;
 use crate::seat::{Ground, Seat, reset, turn};
 use doorbell_irq::Device;
 use ivs_base::{Frame, NoMemory};
+use lawful_history::{Line, Lines};
 use link_endpoint::Endpoint;
 use link_laws::calls_stay_in_reach;
-use lawful_history::Lines;
 use pci_space::Wiring;
 use scenario_text::{Act, Scenario};
 use section_map::Region;
@@ -80,27 +81,13 @@ fn seats_of(alloc: Global, scenario: &Scenario) -> Result<Vec<Seat>, NoMemory>
     Ok(seats)
 }
 
-/// How many turns the acts ask for.
-fn turn_count(acts: &[Act]) -> usize {
-    let mut turns: usize = 0;
-    for act in acts {
-        if let Act::Turn { steps, .. } = act {
-            turns = turns.saturating_add(*steps as usize);
-        }
-    }
-    turns
-}
-
 impl Stage {
     /// The world in which nothing has happened.
     pub fn new(alloc: Global, scenario: &Scenario) -> Result<Stage, NoMemory>
-        ensures { IfOk result (λ stage. RunsTo (world_of scenario.now) [] stage) }
+        ensures { IfOk result (λ stage. RunsTo (world_of scenario.now) [] [] stage) }
     {
         let seats = seats_of(alloc, scenario)?;
         let region = Region::new(alloc, &scenario.geometry)?;
-        let mut lines = Lines::new(alloc);
-        // Each turn has a line at least, and most have just one.
-        lines.reserve(turn_count(scenario.acts.items()))?;
         Ok(Stage {
             alloc,
             ground: Ground {
@@ -111,7 +98,7 @@ impl Stage {
                 region,
                 device: Device::new(&scenario.geometry, scenario.wiring),
                 unspent: [0; 8],
-                lines,
+                lines: Lines::new(alloc),
             },
             seats,
         })
@@ -145,13 +132,13 @@ impl Stage {
     /// Tells a hostile peer to write at random from now on.
     fn storm(&mut self, peer: u32, seed: u64)
         requires { peer < length self.old.seats.items }
-        ensures { (world : World) (events : List Event) → IsThere world (Stormed peer seed) → is_link world peer ≡ false → RunsTo world events self.old → RunsTo world (events ++ Stormed peer seed ∷ []) self.new }
+        ensures { (world : World) (gone : List Line) (events : List Event) → IsThere world (Stormed peer seed) → is_link world peer ≡ false → RunsTo world gone events self.old → RunsTo world gone (events ++ Stormed peer seed ∷ []) self.new }
     {
         self.seats[peer as usize] = Seat::Storm(seed);
     }
 
     /// One turn of a peer.
-    fn turn(&mut self, peer: u32) -> Result<(), NoMemory>
+    pub fn turn(&mut self, peer: u32) -> Result<(), NoMemory>
         requires { IsRunning self.old peer }
         ensures { OnOk result (Happens (Turned peer) self.old self.new) }
     {
@@ -164,7 +151,7 @@ impl Stage {
     /// So many turns of a peer.
     fn turns(&mut self, peer: u32, steps: u32) -> Result<(), NoMemory>
         requires { IsRunning self.old peer }
-        ensures { OnOk result ((world : World) (events : List Event) → IsThere world (Turned peer) → RunsTo world events self.old → RunsTo world (events ++ replicate steps (Turned peer)) self.new) }
+        ensures { OnOk result ((world : World) (gone : List Line) (events : List Event) → IsThere world (Turned peer) → RunsTo world gone events self.old → RunsTo world gone (events ++ replicate steps (Turned peer)) self.new) }
     {
         for _k in 0..steps {
             self.turn(peer)?;
@@ -184,8 +171,8 @@ impl Stage {
 
     /// What one act asks for.
     pub fn act(&mut self, act: &Act) -> Result<(), NoMemory>
-        requires { (world : World) × (events : List Event) × RunsTo world events self.old × IsAct world act.now × ((p : ℕ) → (moment_of world events).losses p < 2 ^ 64 - 1) }
-        ensures { OnOk result ((world : World) (events : List Event) → IsAct world act.now → RunsTo world events self.old → RunsTo world (events ++ events_of act.now) self.new) }
+        requires { (world : World) × (gone : List Line) × (events : List Event) × RunsTo world gone events self.old × IsAct world act.now × ((p : ℕ) → (moment_of world events).losses p < 2 ^ 64 - 1) }
+        ensures { OnOk result (Plays act.now self.old self.new) }
     {
         match act {
             Act::Tick { peer } => self.ask(*peer, Waiting::Tick),
@@ -244,7 +231,29 @@ impl Stage {
         }
     }
 
-    /// The history so far.
+    /// Makes room for so many lines more. NoMemory comes only where memory ran out.
+    pub fn reserve(&mut self, more: usize) -> Result<(), NoMemory>
+        ensures { self.new ≡ self.old }
+    {
+        self.scene.lines.reserve(more)
+    }
+
+    /// The lines that were told and not taken away, in their order.
+    pub fn lines(&self) -> &[Line]
+        ensures { result.now ≡ self.now.scene.lines }
+    {
+        self.scene.lines.items()
+    }
+
+    /// Takes away the lines that were told.
+    pub fn forget(&mut self)
+        ensures on { (world : World) (gone : List Line) (events : List Event) → RunsTo world gone events self.old → RunsTo world (gone ++ self.old.scene.lines) events self.new }
+        ensures lines { self.new.scene.lines ≡ [] }
+    {
+        self.scene.lines.clear();
+    }
+
+    /// The lines that were told and not taken away.
     pub fn into_lines(self) -> Lines
         ensures { result ≡ self.scene.lines }
     {

@@ -15,8 +15,19 @@ use ivs_base::NoMemory;
 use lawful_history::history_is_lawful;
 use link_world::Stage;
 use record_text::Trace;
-use scenario_text::Scenario;
+use scenario_text::{Act, Scenario};
 use std::alloc::Global;
+
+/// How many turns the acts ask for. Each has a line at least, and most have just one.
+fn turn_count(acts: &[Act]) -> usize {
+    let mut turns: usize = 0;
+    for act in acts {
+        if let Act::Turn { steps, .. } = act {
+            turns = turns.saturating_add(*steps as usize);
+        }
+    }
+    turns
+}
 
 /// The scenario with its one lawful history. NoMemory comes only where memory ran out.
 pub fn simulate(alloc: Global, scenario: Scenario) -> Result<Trace, NoMemory>
@@ -26,6 +37,7 @@ pub fn simulate(alloc: Global, scenario: Scenario) -> Result<Trace, NoMemory>
 {
     history_is_lawful();
     let mut stage = Stage::new(alloc, &scenario)?;
+    stage.reserve(turn_count(scenario.acts.items()))?;
     for act in scenario.acts.items() {
         stage.act(act)?;
     }

@@ -8,5 +8,5 @@ pub remark-requires : goal.remark-requires
 remark-requires c = rw c.in_ok-line.ensures (mark_remark c.args.me _ c.requires)
 
 pub returns-clause-behind : goal.returns-clause-behind
-returns-clause-behind c = λ world past losses behind.
-    subst (λ (l : Line). Behind world (l ∷ past) losses c.remark.new.self) c.in_ok-line.ensures (c.in_ok-remark.ensures.behind world past losses behind)
+returns-clause-behind c = λ world gone past losses behind.
+    subst (λ (l : Line). Behind world gone (l ∷ past) losses c.remark.new.self) c.in_ok-line.ensures (c.in_ok-remark.ensures.behind world gone past losses behind)

@@ -15,16 +15,16 @@ tell_note-requires c = frame_at c.args.me (offered c.args.end.now) (delivered c.
 
 pub loop-note-preserved : goal.loop-note-preserved
 loop-note-preserved c = (
-  λ world past losses behind.
+  λ world gone past losses behind.
       let i = c.loop-note.note-index in
       let older = reverse (map (mark_line c.args.me) (marks_between (offered c.args.end.now) (delivered c.args.end.now) (take i c.args.notes.now))) ++ past in
-      subst (λ (ls : List Line). Behind world ls losses c.tell_note.new.scene)
+      subst (λ (ls : List Line). Behind world gone ls losses c.tell_note.new.scene)
       (sym (one_note c.args.me (offered c.args.end.now) (delivered c.args.end.now) c.args.notes.now i _ past c.loop-note-test.true (search rules)))
-      (c.in_ok-tell_note.ensures.behind world older losses (c.loop-note.invariant.0 world past losses behind)),
+      (c.in_ok-tell_note.ensures.behind world gone older losses (c.loop-note.invariant.0 world gone past losses behind)),
   λ q seated. c.in_ok-tell_note.ensures.seated q (c.loop-note.invariant.1 q seated),
 )
 
 pub returns-clause-behind : goal.returns-clause-behind
-returns-clause-behind c = λ world past losses behind.
-    subst (λ (ns : List Note). Behind world (reverse (map (mark_line c.args.me) (marks_between (offered c.args.end.now) (delivered c.args.end.now) ns)) ++ past) losses c.loop-note.scene)
-    (take_all c.loop-note.note-index c.args.notes.now (omega arith)) (c.loop-note.invariant.0 world past losses behind)
+returns-clause-behind c = λ world gone past losses behind.
+    subst (λ (ns : List Note). Behind world gone (reverse (map (mark_line c.args.me) (marks_between (offered c.args.end.now) (delivered c.args.end.now) ns)) ++ past) losses c.loop-note.scene)
+    (take_all c.loop-note.note-index c.args.notes.now (omega arith)) (c.loop-note.invariant.0 world gone past losses behind)

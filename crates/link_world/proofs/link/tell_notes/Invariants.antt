@@ -10,6 +10,6 @@ use Rattle.link_world.proofs.link.tell_notes.Given as goal
 
 abbrev pub invariant-loop-note : goal.invariant-loop-note
 invariant-loop-note l =
-    ((world : World) (past : List Line) (losses : ℕ → ℕ) → Behind world past losses l.initial.scene →
-    Behind world (reverse (map (mark_line l.me) (marks_between (offered l.end) (delivered l.end) (take l.note-index l.notes))) ++ past) losses l.scene)
+    ((world : World) (gone past : List Line) (losses : ℕ → ℕ) → Behind world gone past losses l.initial.scene →
+    Behind world gone (reverse (map (mark_line l.me) (marks_between (offered l.end) (delivered l.end) (take l.note-index l.notes))) ++ past) losses l.scene)
     × ((q : ℕ) → IsSeated l.initial.scene q → IsSeated l.scene q)

@@ -10,14 +10,14 @@ use Rattle.link_world.proofs.scene.Scene.arrive.Goals as goal
 
 pub loop-delivery-preserved : goal.loop-delivery-preserved
 loop-delivery-preserved c = (
-  λ world past losses behind.
+  λ world gone past losses behind.
       let l = c.loop-delivery in
-      subst (λ (ls : List Line). Behind world ls losses c.arrive_at.new.self)
+      subst (λ (ls : List Line). Behind world gone ls losses c.arrive_at.new.self)
       (sym (one_arrived past losses c.args.deliveries.now l.delivery-index _ c.loop-delivery-test.true (search rules)))
-      (c.in_ok-arrive_at.ensures.behind world (reverse (arrived past losses (take l.delivery-index c.args.deliveries.now)) ++ past) losses (l.invariant.0 world past losses behind)),
+      (c.in_ok-arrive_at.ensures.behind world gone (reverse (arrived past losses (take l.delivery-index c.args.deliveries.now)) ++ past) losses (l.invariant.0 world gone past losses behind)),
   λ me seated. c.in_ok-arrive_at.ensures.seated me (c.loop-delivery.invariant.1 me seated),
 )
 
 pub returns-clause-behind : goal.returns-clause-behind
-returns-clause-behind c = λ world past losses behind.
-    subst (λ (ds : List Delivery). Behind world (reverse (arrived past losses ds) ++ past) losses c.loop-delivery.self) (take_all c.loop-delivery.delivery-index c.args.deliveries.now (omega arith)) (c.loop-delivery.invariant.0 world past losses behind)
+returns-clause-behind c = λ world gone past losses behind.
+    subst (λ (ds : List Delivery). Behind world gone (reverse (arrived past losses ds) ++ past) losses c.loop-delivery.self) (take_all c.loop-delivery.delivery-index c.args.deliveries.now (omega arith)) (c.loop-delivery.invariant.0 world gone past losses behind)

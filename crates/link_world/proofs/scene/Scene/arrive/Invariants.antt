@@ -8,5 +8,5 @@ use Rattle.link_world.proofs.scene.Scene.arrive.Given as goal
 
 abbrev pub invariant-loop-delivery : goal.invariant-loop-delivery
 invariant-loop-delivery l =
-    ((world : World) (past : List Line) (losses : ℕ → ℕ) → Behind world past losses l.initial.self → Behind world (reverse (arrived past losses (take l.delivery-index l.deliveries)) ++ past) losses l.self)
+    ((world : World) (gone past : List Line) (losses : ℕ → ℕ) → Behind world gone past losses l.initial.self → Behind world gone (reverse (arrived past losses (take l.delivery-index l.deliveries)) ++ past) losses l.self)
     × ((me : ℕ) → IsSeated l.initial.self me → IsSeated l.self me)

@@ -9,24 +9,24 @@ use Rattle.link_world.specs.declared.scene.Scene.{Scene}
 use Rattle.link_world.proofs.scene.Scene.perform.Goals as goal
 
 -- what an access gave and left
-abbrev Left : World → List Line → (ℕ → ℕ) → ℕ → Scene → Access → ℕ → Type 0
-Left world past losses me scene a value = GaveLast past a value × Behind world (reverse (accessed world past losses me a value) ++ past) losses scene
+abbrev Left : World → List Line → List Line → (ℕ → ℕ) → ℕ → Scene → Access → ℕ → Type 0
+Left world gone past losses me scene a value = GaveLast past a value × Behind world gone (reverse (accessed world past losses me a value) ++ past) losses scene
 
-to : (world : World) (past : List Line) (losses : ℕ → ℕ) (me : ℕ) (scene : Scene) (a b : Access) (value : ℕ) → a ≡ b → Left world past losses me scene b value → Left world past losses me scene a value
-to world past losses me scene a b value is left = subst (λ (x : Access). Left world past losses me scene x value) (sym is) left
+to : (world : World) (gone past : List Line) (losses : ℕ → ℕ) (me : ℕ) (scene : Scene) (a b : Access) (value : ℕ) → a ≡ b → Left world gone past losses me scene b value → Left world gone past losses me scene a value
+to world gone past losses me scene a b value is left = subst (λ (x : Access). Left world gone past losses me scene x value) (sym is) left
 
 pub returns-in-Read-clause-behind : goal.returns-in-Read-clause-behind
-returns-in-Read-clause-behind c = λ world past losses behind.
-    subst (λ (x : Access). IfOk c.read.result (Left world past losses c.args.me c.read.new.self x)) (sym c.in-Read.is) (c.read.ensures.behind world past losses behind)
+returns-in-Read-clause-behind c = λ world gone past losses behind.
+    subst (λ (x : Access). IfOk c.read.result (Left world gone past losses c.args.me c.read.new.self x)) (sym c.in-Read.is) (c.read.ensures.behind world gone past losses behind)
 
 pub returns-in_ok-write-in-Write-clause-behind : goal.returns-in_ok-write-in-Write-clause-behind
-returns-in_ok-write-in-Write-clause-behind c = λ world past losses behind.
-    to world past losses c.args.me c.write.new.self c.args.access (access.Write c.in-Write.word c.in-Write.value) 0 c.in-Write.is (tt, c.in_ok-write-in-Write.ensures.behind world past losses behind)
+returns-in_ok-write-in-Write-clause-behind c = λ world gone past losses behind.
+    to world gone past losses c.args.me c.write.new.self c.args.access (access.Write c.in-Write.word c.in-Write.value) 0 c.in-Write.is (tt, c.in_ok-write-in-Write.ensures.behind world gone past losses behind)
 
 pub returns-in_ok-set_state-in-State-clause-behind : goal.returns-in_ok-set_state-in-State-clause-behind
-returns-in_ok-set_state-in-State-clause-behind c = λ world past losses behind.
-    to world past losses c.args.me c.set_state.new.self c.args.access (access.State c.in-State.state) 0 c.in-State.is (tt, c.in_ok-set_state-in-State.ensures.behind world past losses behind)
+returns-in_ok-set_state-in-State-clause-behind c = λ world gone past losses behind.
+    to world gone past losses c.args.me c.set_state.new.self c.args.access (access.State c.in-State.state) 0 c.in-State.is (tt, c.in_ok-set_state-in-State.ensures.behind world gone past losses behind)
 
 pub returns-in_ok-ring-in-Ring-clause-behind : goal.returns-in_ok-ring-in-Ring-clause-behind
-returns-in_ok-ring-in-Ring-clause-behind c = λ world past losses behind.
-    to world past losses c.args.me c.ring.new.self c.args.access (access.Ring c.in-Ring.target c.in-Ring.vector) 0 c.in-Ring.is (tt, c.in_ok-ring-in-Ring.ensures.behind world past losses behind)
+returns-in_ok-ring-in-Ring-clause-behind c = λ world gone past losses behind.
+    to world gone past losses c.args.me c.ring.new.self c.args.access (access.Ring c.in-Ring.target c.in-Ring.vector) 0 c.in-Ring.is (tt, c.in_ok-ring-in-Ring.ensures.behind world gone past losses behind)

@@ -7,7 +7,7 @@ use Rattle.link_world.proofs.Arriving.{remarked}
 use Rattle.link_world.proofs.scene.Scene.read_config.Goals as goal
 
 pub returns-clause-behind : goal.returns-clause-behind
-returns-clause-behind c = λ world past losses behind.
+returns-clause-behind c = λ world gone past losses behind.
     let now : Scene = record { region = c.args.self.now.region; device = c.args.self.now.device; unspent = c.args.self.now.unspent; lines = c.push.new.self } in
-    subst (λ (v : ℕ). Behind world (ConfigRead c.args.me c.args.offset c.args.width v ∷ past) losses now) (c.in-Ok.ensures.value (devices_of world) (device_events past) behind.devices)
-    (remarked world past losses c.args.self.now now (ConfigRead c.args.me c.args.offset c.args.width c.in-Ok.value) behind (record { touch = refl; told = refl; lost = λ p. refl; frame = refl }) refl refl refl c.in_ok-push-in-Ok.ensures.put)
+    subst (λ (v : ℕ). Behind world gone (ConfigRead c.args.me c.args.offset c.args.width v ∷ past) losses now) (c.in-Ok.ensures.value (devices_of world) (device_events past) behind.devices)
+    (remarked world gone past losses c.args.self.now now (ConfigRead c.args.me c.args.offset c.args.width c.in-Ok.value) behind (record { touch = refl; told = refl; lost = λ p. refl; frame = refl }) refl refl refl c.in_ok-push-in-Ok.ensures.put)

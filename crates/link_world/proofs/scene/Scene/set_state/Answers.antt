@@ -8,9 +8,9 @@ use Rattle.link_world.proofs.Arriving.{come_behind}
 use Rattle.link_world.proofs.scene.Scene.set_state.Goals as goal
 
 pub returns-clause-behind : goal.returns-clause-behind
-returns-clause-behind c = λ world past losses behind.
+returns-clause-behind c = λ world gone past losses behind.
     let line = State c.args.me c.args.value in
-    let told = c.in_ok-deliveries.ensures.behind world past losses behind in
+    let told = c.in_ok-deliveries.ensures.behind world gone past losses behind in
     let brings : BringsBy world past (told_by line) c.as_slice.result.now = rw c.as_slice.ensures.value told.0 in
-    come_behind (λ (ls : List Line). OnOk c.arrive.result (Behind world ls losses c.arrive.new.self)) world past losses line (told_by line) c.as_slice.result.now brings
-    (c.arrive.ensures.behind world (line ∷ past) losses told.1)
+    come_behind (λ (ls : List Line). OnOk c.arrive.result (Behind world gone ls losses c.arrive.new.self)) world past losses line (told_by line) c.as_slice.result.now brings
+    (c.arrive.ensures.behind world gone (line ∷ past) losses told.1)

@@ -5,9 +5,9 @@ use Rattle.link_world.proofs.Arriving.{told_behind, state_words}
 use Rattle.link_world.proofs.scene.Scene.tell_state.Goals as goal
 
 pub returns-clause-behind : goal.returns-clause-behind
-returns-clause-behind c = λ world past losses behind. (
+returns-clause-behind c = λ world gone past losses behind. (
   ap (λ e. e.deliveries.items) (c.register_write-effect.ensures.effect (devices_of world) (device_events past) behind.devices),
-  told_behind world past losses c.args.self.now _ (State c.args.me c.args.value) _ behind refl (λ p. refl) refl
+  told_behind world gone past losses c.args.self.now _ (State c.args.me c.args.value) _ behind refl (λ p. refl) refl
       (rw c.set_state.ensures.written (state_words c.args.self.now.region.words past c.args.me c.args.value behind.words))
       (ap (λ r. r.shape) c.set_state.ensures.written) (c.register_write-effect.ensures.stands (devices_of world) (device_events past) behind.devices) refl c.in_ok-push.ensures.put,
 )

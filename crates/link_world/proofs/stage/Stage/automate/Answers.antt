@@ -10,8 +10,8 @@ use Rattle.link_world.proofs.Runs.{seat_goes_on}
 use Rattle.link_world.proofs.stage.Stage.automate.Goals as goal
 
 pub returns : goal.returns
-returns c = λ world events there runs.
+returns c = λ world gone events there runs.
     let m = moment_of world events in
     let p = c.args.peer in
-    seat_goes_on world events (Automated p c.args.expect) c.args.self.now _ _ (Honest c.automate.new.self) there c.index_mut.ensures.value refl refl
+    seat_goes_on world gone events (Automated p c.args.expect) c.args.self.now _ _ (Honest c.automate.new.self) there c.index_mut.ensures.value refl refl
     (λ stands. c.automate.ensures (who_of world p) (peer_at m p) (subst (λ (s : Seat). SeatStands (who_of world p) (peer_at m p) s) c.in-Honest.is stands)) (λ kind. sym (ap is_honest c.in-Honest.is) ∙ kind) runs.behind (λ q seated. seated) runs

@@ -7,6 +7,6 @@ use Rattle.link_world.proofs.Runs.{scene_goes_on, poked}
 use Rattle.link_world.proofs.stage.Stage.poke.Goals as goal
 
 pub returns : goal.returns
-returns c = λ world events there runs.
+returns c = λ world gone events there runs.
     let m = moment_of world events in
-    scene_goes_on world events (Acted c.args.peer (access.Write c.args.word c.args.value)) c.args.self.now _ there refl refl refl (poked world m.past m.losses c.args.peer c.args.word c.args.value (λ ls. Behind world ls m.losses c.poke.new.self) (c.in_ok-poke.ensures.behind world m.past m.losses runs.behind)) c.in_ok-poke.ensures.seated runs
+    scene_goes_on world gone events (Acted c.args.peer (access.Write c.args.word c.args.value)) c.args.self.now _ there refl refl refl (poked world m.past m.losses c.args.peer c.args.word c.args.value (λ ls. Behind world gone ls m.losses c.poke.new.self) (c.in_ok-poke.ensures.behind world gone m.past m.losses runs.behind)) c.in_ok-poke.ensures.seated runs

@@ -5,6 +5,6 @@ use Rattle.link_world.proofs.Runs.{scene_goes_on}
 use Rattle.link_world.proofs.stage.Stage.repeat.Goals as goal
 
 pub returns : goal.returns
-returns c = λ world events there runs.
+returns c = λ world gone events there runs.
     let m = moment_of world events in
-    scene_goes_on world events (Repeated c.args.peer c.args.vector) c.args.self.now _ there refl refl refl (c.in_ok-repeat.ensures.behind world m.past m.losses runs.behind) c.in_ok-repeat.ensures.seated runs
+    scene_goes_on world gone events (Repeated c.args.peer c.args.vector) c.args.self.now _ there refl refl refl (c.in_ok-repeat.ensures.behind world gone m.past m.losses runs.behind) c.in_ok-repeat.ensures.seated runs

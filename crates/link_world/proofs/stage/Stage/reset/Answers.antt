@@ -7,8 +7,8 @@ use Rattle.link_world.proofs.Runs.{seat_goes_on}
 use Rattle.link_world.proofs.stage.Stage.reset.Goals as goal
 
 pub returns : goal.returns
-returns c = λ world events there runs.
+returns c = λ world gone events there runs.
     let m = moment_of world events in
     let p = c.args.peer in
-    seat_goes_on world events (WasReset p) c.args.self.now _ _ c.reset.new.seat there c.index_mut.ensures.value refl refl
-    (λ stands. c.reset.ensures.reset (who_of world p) (peer_at m p) stands) (λ kind. c.reset.ensures.kind ∙ kind) (c.in_ok-reset.ensures.behind world m.past m.losses runs.behind) c.in_ok-reset.ensures.seated runs
+    seat_goes_on world gone events (WasReset p) c.args.self.now _ _ c.reset.new.seat there c.index_mut.ensures.value refl refl
+    (λ stands. c.reset.ensures.reset (who_of world p) (peer_at m p) stands) (λ kind. c.reset.ensures.kind ∙ kind) (c.in_ok-reset.ensures.behind world gone m.past m.losses runs.behind) c.in_ok-reset.ensures.seated runs

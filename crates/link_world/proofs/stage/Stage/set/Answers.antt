@@ -8,6 +8,6 @@ use Rattle.link_world.proofs.Runs.{scene_goes_on, told_alone}
 use Rattle.link_world.proofs.stage.Stage.set.Goals as goal
 
 pub returns : goal.returns
-returns c = λ world events there runs.
+returns c = λ world gone events there runs.
     let m = moment_of world events in
-    scene_goes_on world events (Acted c.args.peer (access.State c.args.value)) c.args.self.now _ there refl refl refl (told_alone world m.past m.losses (line.State c.args.peer c.args.value) (λ ls. Behind world ls m.losses c.set_state.new.self) (c.in_ok-set_state.ensures.behind world m.past m.losses runs.behind)) c.in_ok-set_state.ensures.seated runs
+    scene_goes_on world gone events (Acted c.args.peer (access.State c.args.value)) c.args.self.now _ there refl refl refl (told_alone world m.past m.losses (line.State c.args.peer c.args.value) (λ ls. Behind world gone ls m.losses c.set_state.new.self) (c.in_ok-set_state.ensures.behind world gone m.past m.losses runs.behind)) c.in_ok-set_state.ensures.seated runs

@@ -11,9 +11,9 @@ use Rattle.link_world.proofs.stage.Stage.turn.Goals as goal
 pub turn-requires-clause-ground : goal.turn-requires-clause-ground
 turn-requires-clause-ground c =
     let world = c.requires.0 in
-    let events = c.requires.1 in
-    let runs = c.requires.2 in
-    let below = c.requires.3 in
+    let events = c.requires.2 in
+    let runs = c.requires.3 in
+    let below = c.requires.4 in
     let count = runs.count in
     let p = c.args.peer in
     let here = slice_get-get_or c.args.self.now.seats.items p _ (omega arith) ∙ ap Some (sym c.index_mut-seat.ensures.value) in
@@ -27,11 +27,11 @@ turn-requires-clause-ground c =
     )
 
 pub returns : goal.returns
-returns c = λ world events there runs.
+returns c = λ world gone events there runs.
     let m = moment_of world events in
     let p = c.args.peer in
     let count = runs.count in
     let here = slice_get-get_or c.args.self.now.seats.items p _ (omega arith) ∙ ap Some (sym c.index_mut-seat.ensures.value) in
-    let turned = c.in_ok-turn.ensures.turn world m.past m.losses (peer_at m p) (record { is_world = runs.behind.is_world; there = there; geometry = runs.geometry; queue = runs.queue }) runs.behind (runs.stands p _ here) in
-    seat_goes_on world events (Turned p) c.args.self.now _ _ c.turn.new.seat there c.index_mut-seat.ensures.value refl refl
+    let turned = c.in_ok-turn.ensures.turn world gone m.past m.losses (peer_at m p) (record { is_world = runs.behind.is_world; there = there; geometry = runs.geometry; queue = runs.queue }) runs.behind (runs.stands p _ here) in
+    seat_goes_on world gone events (Turned p) c.args.self.now _ _ c.turn.new.seat there c.index_mut-seat.ensures.value refl refl
     (λ stands. turned.1) (λ kind. c.in_ok-turn.ensures.kind ∙ kind) turned.0 c.in_ok-turn.ensures.seated runs

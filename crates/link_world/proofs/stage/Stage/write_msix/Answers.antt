@@ -5,6 +5,6 @@ use Rattle.link_world.proofs.Runs.{scene_goes_on}
 use Rattle.link_world.proofs.stage.Stage.write_msix.Goals as goal
 
 pub returns : goal.returns
-returns c = λ world events there runs.
+returns c = λ world gone events there runs.
     let m = moment_of world events in
-    scene_goes_on world events (Reached c.args.peer (WritesMsix c.args.offset c.args.value)) c.args.self.now _ there refl refl refl (c.in_ok-write_msix.ensures.behind world m.past m.losses runs.behind) c.in_ok-write_msix.ensures.seated runs
+    scene_goes_on world gone events (Reached c.args.peer (WritesMsix c.args.offset c.args.value)) c.args.self.now _ there refl refl refl (c.in_ok-write_msix.ensures.behind world gone m.past m.losses runs.behind) c.in_ok-write_msix.ensures.seated runs

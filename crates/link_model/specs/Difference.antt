@@ -1,0 +1,42 @@
+-- Where a list of lines leaves the lawful history of a scenario.
+use Rattle.std.specs.Prelude.{ℕ, ◌≡◌, ◌≢◌, ◌+◌, ◌≤◌, Option, Some, None, List, [], ◌∷◌, ◌++◌, length}
+use Rattle.scenario_text.specs.Scenario.{World}
+use Rattle.lawful_history.specs.declared.line.Line.{Line}
+use Rattle.lawful_history.specs.Lawful.{IsLawful}
+use Rattle.link_model.specs.declared.fault.Unlawful.{Unlawful}
+use Rattle.link_model.specs.BrokenLaw.{law_between}
+
+-- the first of these lines, if there is one
+abbrev pub head_of : List Line → Option Line
+head_of [] = None
+head_of (line ∷ lines) = Some line
+
+-- the lawful history and the lines found are the same up to a place, and differ there, or one of them has ended there; the fault
+-- has the number of that line, from 1, and the law that is broken between the two
+pub record DiffersAt (lawful found : List Line) (fault : Unlawful) : Type 0 where
+  pub before : List Line
+  pub due : List Line
+  pub given : List Line
+  pub lawful_is : lawful ≡ before ++ due
+  pub found_is : found ≡ before ++ given
+  pub differ : head_of due ≢ head_of given
+  pub line : fault.line ≡ length before + 1
+  pub law : fault.law ≡ law_between (head_of due) (head_of given)
+
+-- each lawful history of the scenario begins with these lines
+abbrev pub Begins : World → List Line → Type 0
+Begins world lines = (lawful : List Line) → IsLawful world lawful → (rest : List Line) × (lawful ≡ lines ++ rest)
+
+-- no lawful history of the scenario begins with these lines
+abbrev pub BeginsNone : World → List Line → Type 0
+BeginsNone world lines = (lawful rest : List Line) → IsLawful world lawful → lawful ≢ lines ++ rest
+
+-- the lines differ from each lawful history of the scenario there
+abbrev pub Differs : World → List Line → Unlawful → Type 0
+Differs world lines fault = (lawful : List Line) → IsLawful world lawful → DiffersAt lawful lines fault
+
+-- one of these lines is the first that isn't lawful, and no lawful history begins with them
+pub record Leaves (world : World) (lines : List Line) (fault : Unlawful) : Type 0 where
+  pub none : BeginsNone world lines
+  pub differs : Differs world lines fault
+  pub within : fault.line ≤ length lines

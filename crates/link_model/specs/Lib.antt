@@ -1,0 +1,3 @@
+pub mod BrokenLaw
+pub mod Difference
+pub mod Taken

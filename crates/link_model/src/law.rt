@@ -1,0 +1,131 @@
+//! The law that a line breaks where the lawful history has another one, or none.
+ghost use Rattle.std.specs.Prelude.{◌≡◌, ◌==◌, Some};
+ghost use Rattle.std.specs.Option.{option_copied};
+ghost use Rattle.link_model.specs.BrokenLaw.{kind_of, peer_of, law_by, law_between};
+ghost use Rattle.link_model.specs.BrokenLaw as broken;
+
+use crate::fault::Law;
+use lawful_history::Line;
+
+/// What a line is, for the question which law it breaks.
+#[derive(Clone, Copy, Debug, PartialEq, Eq)]
+pub enum Kind {
+    /// A turn without a step, or a device reset: the schedule alone says where it stands.
+    Scheduled,
+    /// An interrupt, or an access to a part of the device.
+    OfDevice,
+    /// A write that was denied.
+    WasDenied,
+    /// A read of this word.
+    WasRead(u32),
+    /// A mark of the link.
+    Marked,
+    /// Another access: a write, a State write or a doorbell.
+    Accessed,
+}
+
+impl Kind {
+    fn is_scheduled(self) -> bool
+        ensures { result ≡ broken.is_scheduled self }
+    {
+        matches!(self, Kind::Scheduled)
+    }
+
+    fn is_of_device(self) -> bool
+        ensures { result ≡ broken.is_of_device self }
+    {
+        matches!(self, Kind::OfDevice)
+    }
+
+    fn is_denied(self) -> bool
+        ensures { result ≡ broken.is_denied self }
+    {
+        matches!(self, Kind::WasDenied)
+    }
+
+    fn is_mark(self) -> bool
+        ensures { result ≡ broken.is_mark self }
+    {
+        matches!(self, Kind::Marked)
+    }
+
+    /// Are both reads of one word?
+    fn reads_with(self, other: Kind) -> bool
+        ensures { result ≡ broken.are_reads_of_one self other }
+    {
+        match self {
+            Kind::WasRead(word) => match other {
+                Kind::WasRead(another) => word == another,
+                _ => false,
+            },
+            _ => false,
+        }
+    }
+}
+
+/// What this line is, and whose it is.
+fn kind_and_peer(line: &Line) -> (Kind, u32)
+    ensures kind { result.0 ≡ kind_of line.now }
+    ensures peer { result.1 ≡ peer_of line.now }
+{
+    match line {
+        Line::Reset { peer } | Line::Idle { peer } => (Kind::Scheduled, *peer),
+        Line::Interrupt { peer, .. }
+        | Line::Lost { peer, .. }
+        | Line::ConfigRead { peer, .. }
+        | Line::ConfigWrite { peer, .. }
+        | Line::RegisterRead { peer, .. }
+        | Line::RegisterWrite { peer, .. }
+        | Line::MsixRead { peer, .. }
+        | Line::MsixWrite { peer, .. } => (Kind::OfDevice, *peer),
+        Line::Denied { peer, .. } => (Kind::WasDenied, *peer),
+        Line::Read { peer, word, .. } => (Kind::WasRead(*word), *peer),
+        Line::Saw { peer, .. }
+        | Line::Reclaim { peer, .. }
+        | Line::Look { peer, .. }
+        | Line::Full { peer }
+        | Line::Done { peer }
+        | Line::Over { peer }
+        | Line::Down { peer }
+        | Line::Accept { peer, .. }
+        | Line::Deliver { peer, .. }
+        | Line::Return { peer }
+        | Line::Refuse { peer, .. } => (Kind::Marked, *peer),
+        Line::Write { peer, .. } | Line::State { peer, .. } | Line::Doorbell { peer, .. } => {
+            (Kind::Accessed, *peer)
+        }
+    }
+}
+
+/// The law by what both lines are, and by whether they are of one peer: the first rule that applies.
+fn law_of(due: Kind, found: Kind, one_peer: bool) -> Law
+    ensures { result ≡ law_by due found one_peer }
+{
+    if due.is_scheduled() || found.is_scheduled() {
+        Law::Order
+    } else if due.is_of_device() || found.is_of_device() {
+        Law::Device
+    } else if !one_peer {
+        Law::Order
+    } else if due.is_denied() || found.is_denied() {
+        Law::Touch
+    } else if due.reads_with(found) {
+        Law::Memory
+    } else if due.is_mark() || found.is_mark() {
+        Law::Link
+    } else {
+        Law::Call
+    }
+}
+
+/// The law that the line found breaks, where the lawful history has this line, or has ended.
+pub fn broken_law(due: Option<&Line>, found: &Line) -> Law
+    ensures { result ≡ law_between (option_copied due.entry) (Some found.now) }
+{
+    let Some(due) = due else {
+        return Law::Order;
+    };
+    let (due_kind, due_peer) = kind_and_peer(due);
+    let (found_kind, found_peer) = kind_and_peer(found);
+    law_of(due_kind, found_kind, due_peer == found_peer)
+}

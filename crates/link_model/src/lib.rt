@@ -1,0 +1,15 @@
+//! A history of a scenario, taken line by line and checked on the way. It stands on `lawful_history` for what a history and the law is, and
+//! on `link_world` for the stage on which the lawful history is played beside the lines taken. The contract of `Run` promises that a
+//! step is taken exactly where the lines so far begin the lawful history, and else the first line that differs and the law that it
+//! breaks.
+#![tactic(auto)]
+
+mod fault;
+mod law;
+mod run;
+
+pub use fault::{Law, StepFault, Unlawful};
+pub use lawful_history::{
+    Line, Lines, cut_histories_begin, history_is_lawful, memory_is_kept, one_history,
+};
+pub use run::Run;

@@ -1,29 +1,42 @@
 //! A history that is taken line by line.
-ghost use Rattle.std.specs.Prelude.{◌≡◌, ◌≢◌, List, [], ◌∷◌, ◌++◌, IfOk, OnOk, IfErr, MatchResult, Some, None};
-ghost use Rattle.scenario_text.specs.Scenario.{World};
+ghost use Rattle.std.specs.Prelude.{◌≡◌, ◌≢◌, ◌-◌, List, [], ◌∷◌, ◌++◌, IfOk, OnOk, IfErr, None, Some, Err, take};
 ghost use Rattle.lawful_history.specs.Sides.{world_of};
 ghost use Rattle.lawful_history.specs.Lawful.{IsLawful};
 ghost use Rattle.link_model.specs.Difference.{Begins, Differs};
-ghost use Rattle.link_model.specs.Taken.{HasTaken, LeavesBy};
+ghost use Rattle.link_model.specs.Taken.{IsCause};
 
 use crate::fault::{StepFault, Unlawful};
 use ivs_base::NoMemory;
 use lawful_history::Line;
-use scenario_text::{Act, Scenario};
+use scenario_text::Scenario;
 use std::alloc::Global;
+use std::marker::Model;
 
 /// A history of a scenario on its way, checked line by line.
 #[derive(Drop)]
 pub struct Run<'a> {
-    acts: &'a [Act],
+    scenario: &'a Scenario,
+    next: u64,
     fault: Option<StepFault>,
+}
+
+impl<'a> Model for Run<'a> {
+    ghost use Rattle.std.specs.Prelude.{◌-◌, take, IsSome};
+    ghost use Rattle.lawful_history.specs.Sides.{world_of};
+    ghost use Rattle.lawful_history.specs.History.{history};
+    ghost use Rattle.link_model.specs.Taken.{Taking};
+
+    ghost Value = { Taking };
+
+    ghost view = { λ run. record { world = world_of run.scenario.now; lines = take (run.next - 1) (history (world_of run.scenario.now)); fault = run.fault } };
+
+    ghost invariant = { λ run. IsSome run.fault };
 }
 
 impl<'a> Run<'a> {
     /// A run that has taken no line. NoMemory comes only where memory ran out.
     pub fn new(alloc: Global, scenario: &'a Scenario) -> Result<Run<'a>, NoMemory>
-        ensures taken { IfOk result (λ run. HasTaken (world_of scenario.now) [] run) }
-        ensures going { IfOk result (λ run. run.fault ≡ None) }
+        ensures { IfOk result (λ run. run ≡ record { world = world_of scenario.now; lines = []; fault = None }) }
     {
         let _ = alloc;
         let _ = scenario;
@@ -33,11 +46,11 @@ impl<'a> Run<'a> {
     /// Takes the next line of the history. Unlawful comes exactly where no lawful history of the scenario goes on with this line, with
     /// its number and the law that it breaks. NoMemory comes only where memory ran out. Behind a fault each step answers that fault.
     pub fn step(&mut self, line: &Line) -> Result<(), StepFault>
-        ensures taken { (world : World) (lines : List Line) → HasTaken world lines self.old → HasTaken world (lines ++ line.now ∷ []) self.new }
-        ensures lawful { (world : World) (lines : List Line) → HasTaken world lines self.old → OnOk result (Begins world (lines ++ line.now ∷ [])) }
-        ensures unlawful { (world : World) (lines : List Line) → HasTaken world lines self.old → IfErr result (LeavesBy world (lines ++ line.now ∷ [])) }
+        ensures taken { OnOk result (self.new ≡ record self.old { lines = self.old.lines ++ line.now ∷ [] }) }
+        ensures lawful { OnOk result (Begins self.new.world self.new.lines) }
+        ensures ended { IfErr result (λ fault. self.new ≡ record self.old { fault = Some fault }) }
+        ensures cause { self.old.fault ≡ None → IfErr result (IsCause self.old.world (self.old.lines ++ line.now ∷ [])) }
         ensures again { (fault : StepFault) → self.old.fault ≡ Some fault → result ≡ Err fault }
-        ensures kept { MatchResult result (λ _. self.new.fault ≡ None) (λ fault. self.new.fault ≡ Some fault) }
     {
         let _ = line;
         if let Some(fault) = self.fault {
@@ -51,11 +64,13 @@ impl<'a> Run<'a> {
     /// missing.
     pub fn close(&self) -> Result<(), Unlawful>
         requires { self.now.fault ≢ Some StepFault.NoMemory }
-        ensures { (world : World) (lines : List Line) → HasTaken world lines self.now → MatchResult result (λ _. IsLawful world lines) (Differs world lines) }
+        ensures whole { OnOk result (IsLawful self.now.world self.now.lines) }
+        ensures missing { self.now.fault ≡ None → IfErr result (Differs self.now.world self.now.lines) }
+        ensures again { (fault : Unlawful) → self.now.fault ≡ Some (StepFault.Unlawful fault) → result ≡ Err fault }
     {
         match self.fault {
             Some(StepFault::Unlawful(fault)) => Err(fault),
-            _ => Ok(()),
+            _ => unreachable!(),
         }
     }
 }

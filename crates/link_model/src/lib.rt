@@ -8,6 +8,8 @@ mod course;
 mod fault;
 mod law;
 mod run;
+#[cfg(test)]
+mod tests;
 
 pub use fault::{Law, StepFault, Unlawful};
 pub use lawful_history::{

@@ -15,12 +15,12 @@ run_same : (world : World) (acts : List Act) (events : List Event) (moment : Mom
 run_same world acts [] moment = refl
 run_same world acts (event ∷ events) moment = run_same world acts events (happens world moment event)
 
-run_on : (world : World) (events more : List Event) (moment : Moment) → run world (events ++ more) moment ≡ run world more (run world events moment)
+pub run_on : (world : World) (events more : List Event) (moment : Moment) → run world (events ++ more) moment ≡ run world more (run world events moment)
 run_on world [] more moment = refl
 run_on world (event ∷ events) more moment = run_on world events more (happens world moment event)
 
 -- the lines only grow
-grows : (world : World) (events : List Event) (moment : Moment) → (new : List Line) × ((run world events moment).past ≡ new ++ moment.past)
+pub grows : (world : World) (events : List Event) (moment : Moment) → (new : List Line) × ((run world events moment).past ≡ new ++ moment.past)
 grows world [] moment = ([], refl)
 grows world (event ∷ events) moment =
     let rest = grows world events (happens world moment event) in

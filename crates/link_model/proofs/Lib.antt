@@ -1,1 +1,4 @@
 pub mod Differing
+pub mod Playing
+pub mod Expecting
+pub mod Viewing

@@ -4,6 +4,7 @@
 //! breaks.
 #![tactic(auto)]
 
+mod course;
 mod fault;
 mod law;
 mod run;

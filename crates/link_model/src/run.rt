@@ -1,36 +1,38 @@
 //! A history that is taken line by line.
-ghost use Rattle.std.specs.Prelude.{◌≡◌, ◌≢◌, ◌-◌, List, [], ◌∷◌, ◌++◌, IfOk, OnOk, IfErr, None, Some, Err, take};
+ghost use Rattle.std.specs.Prelude.{◌≡◌, ◌≢◌, List, [], ◌∷◌, ◌++◌, IfOk, OnOk, IfErr, None, Some, Err};
 ghost use Rattle.lawful_history.specs.Sides.{world_of};
 ghost use Rattle.lawful_history.specs.Lawful.{IsLawful};
 ghost use Rattle.link_model.specs.Difference.{Begins, Differs};
 ghost use Rattle.link_model.specs.Taken.{IsCause};
 
+use crate::course::Course;
 use crate::fault::{StepFault, Unlawful};
 use ivs_base::NoMemory;
-use lawful_history::Line;
+use lawful_history::{Line, history_is_lawful, one_history};
 use scenario_text::Scenario;
 use std::alloc::Global;
 use std::marker::Model;
 
-/// A history of a scenario on its way, checked line by line.
+/// A history of a scenario on its way, checked line by line. It keeps the words, the devices and the ends behind the lines that it
+/// took, and none of these lines.
 #[derive(Drop)]
 pub struct Run<'a> {
-    scenario: &'a Scenario,
+    course: Course<'a>,
     next: u64,
     fault: Option<StepFault>,
 }
 
 impl<'a> Model for Run<'a> {
-    ghost use Rattle.std.specs.Prelude.{◌-◌, take, IsSome};
-    ghost use Rattle.lawful_history.specs.Sides.{world_of};
+    ghost use Rattle.std.specs.Prelude.{◌-◌, take};
     ghost use Rattle.lawful_history.specs.History.{history};
     ghost use Rattle.link_model.specs.Taken.{Taking};
+    ghost use Rattle.link_model.specs.Course.{world_in, IsGoing};
 
     ghost Value = { Taking };
 
-    ghost view = { λ run. record { world = world_of run.scenario.now; lines = take (run.next - 1) (history (world_of run.scenario.now)); fault = run.fault } };
+    ghost view = { λ run. record { world = world_in run.course; lines = take (run.next - 1) (history (world_in run.course)); fault = run.fault } };
 
-    ghost invariant = { λ run. IsSome run.fault };
+    ghost invariant = { λ run. IsGoing run.fault run.next run.course };
 }
 
 impl<'a> Run<'a> {
@@ -38,9 +40,11 @@ impl<'a> Run<'a> {
     pub fn new(alloc: Global, scenario: &'a Scenario) -> Result<Run<'a>, NoMemory>
         ensures { IfOk result (λ run. run ≡ record { world = world_of scenario.now; lines = []; fault = None }) }
     {
-        let _ = alloc;
-        let _ = scenario;
-        Err(NoMemory)
+        Ok(Run {
+            course: Course::new(alloc, scenario)?,
+            next: 1,
+            fault: None,
+        })
     }
 
     /// Takes the next line of the history. Unlawful comes exactly where no lawful history of the scenario goes on with this line, with
@@ -52,12 +56,26 @@ impl<'a> Run<'a> {
         ensures cause { self.old.fault ≡ None → IfErr result (IsCause self.old.world (self.old.lines ++ line.now ∷ [])) }
         ensures again { (fault : StepFault) → self.old.fault ≡ Some fault → result ≡ Err fault }
     {
-        let _ = line;
+        one_history();
+        history_is_lawful();
         if let Some(fault) = self.fault {
             return Err(fault);
         }
-        self.fault = Some(StepFault::NoMemory);
-        Err(StepFault::NoMemory)
+        // A history of more lines than a u64 counts can't be held.
+        let Some(behind) = self.next.checked_add(1) else {
+            self.fault = Some(StepFault::NoMemory);
+            return Err(StepFault::NoMemory);
+        };
+        match self.course.take(self.next, line) {
+            Ok(()) => {
+                self.next = behind;
+                Ok(())
+            }
+            Err(fault) => {
+                self.fault = Some(fault);
+                Err(fault)
+            }
+        }
     }
 
     /// Is the history whole? Ok exactly where the lines taken are a lawful history; else the first line that isn't lawful, or that is
@@ -68,9 +86,12 @@ impl<'a> Run<'a> {
         ensures missing { self.now.fault ≡ None → IfErr result (Differs self.now.world self.now.lines) }
         ensures again { (fault : Unlawful) → self.now.fault ≡ Some (StepFault.Unlawful fault) → result ≡ Err fault }
     {
+        one_history();
+        history_is_lawful();
         match self.fault {
+            None => self.course.close(self.next),
             Some(StepFault::Unlawful(fault)) => Err(fault),
-            _ => unreachable!(),
+            Some(StepFault::NoMemory) => unreachable!(),
         }
     }
 }

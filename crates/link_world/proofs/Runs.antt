@@ -244,12 +244,13 @@ linked_there world gone events s p runs below is =
     let found = honest_link seat (runs.linked p seat here ∙ is) in
     (found.0, here ∙ ap Some found.1)
 
--- the acts so far, and one more
+-- the events of the acts so far, and of one more
+pub schedule_more : (acts : List Act) (i : ℕ) (act : Act) → i < length acts → act ≡ get_or acts i act → schedule (take (i + 1) acts) ≡ schedule (take i acts) ++ events_of act
+schedule_more acts i act inside is =
+    ap (λ (xs : List Act). schedule xs) (take_more acts i act inside ∙ ap (λ (a : Act). take i acts ++ a ∷ []) (sym is)) ∙ flat_map-append events_of (take i acts) (act ∷ []) ∙ ap (λ es. schedule (take i acts) ++ es) (append-nil (events_of act))
+
 pub one_act : (world : World) (gone : List Line) (acts : List Act) (i : ℕ) (act : Act) (s : Stage) → i < length acts → act ≡ get_or acts i act → RunsTo world gone (schedule (take i acts) ++ events_of act) s → RunsTo world gone (schedule (take (i + 1) acts)) s
-one_act world gone acts i act s inside is runs =
-    let whole : schedule (take (i + 1) acts) ≡ schedule (take i acts) ++ events_of act =
-    ap (λ (xs : List Act). schedule xs) (take_more acts i act inside ∙ ap (λ (a : Act). take i acts ++ a ∷ []) (sym is)) ∙ flat_map-append events_of (take i acts) (act ∷ []) ∙ ap (λ es. schedule (take i acts) ++ es) (append-nil (events_of act)) in
-    subst (λ (es : List Event). RunsTo world gone es s) (sym whole) runs
+one_act world gone acts i act s inside is runs = subst (λ (es : List Event). RunsTo world gone es s) (sym (schedule_more acts i act inside is)) runs
 
 -- the lines of a stage that took all acts are the history
 pub whole_history : (world : World) (i : ℕ) (s : Stage) → length world.acts ≤ i → RunsTo world [] (schedule (take i world.acts)) s → s.scene.lines ≡ history world
@@ -302,7 +303,7 @@ state_register p offset value is = rw is refl
 pub doorbell_register : (p offset value : ℕ) → offset ≡ 0x0C → register_event p offset value ≡ Acted p (access.Ring (value / 65536) (value % 65536))
 doorbell_register p offset value is = rw is refl
 
-below_peers : (p peers : ℕ) → nat_lt p peers ≡ true → p < peers
+pub below_peers : (p peers : ℕ) → nat_lt p peers ≡ true → p < peers
 below_peers p peers is = grind (arith, nat_tests)
 
 -- what an act that is allowed asks for

@@ -1,0 +1,92 @@
+-- What is played on a course, turn by turn and act by act.
+use Rattle.std.proofs.Common.{◌≡◌, ℕ, zero, suc, ◌<◌, ◌+◌, ◌-◌, List, [], ◌∷◌, ◌++◌, length, get_or, take, drop, replicate, sym, ◌∙◌, ap, subst, arith, append_assoc}
+use Rattle.std.proofs.lemmas.Grind.{common_steps}
+use Rattle.std.proofs.lemmas.List.{append-nil, length-append}
+use Rattle.std.proofs.Math.Seq.{drop-cons}
+use Rattle.scenario_text.specs.declared.acts.Act.{Act}
+use Rattle.scenario_text.specs.declared.acts.Act.TheVariants as act
+use Rattle.lawful_history.specs.declared.line.Line.{Line}
+use Rattle.lawful_history.specs.Schedule.{Event, Turned, events_of, schedule}
+use Rattle.link_world.specs.Stage.{Happens, Plays, RunsTo}
+use Rattle.link_world.specs.declared.stage.Stage.{Stage}
+use Rattle.link_world.proofs.Runs.{schedule_more, one_act, act_at, below_peers}
+use Rattle.link_model.specs.declared.course.Course.{Course}
+use Rattle.link_model.specs.Course.{world_in, IsPlayed, IsAlong}
+
+one_turn : (events : List Event) (turn : Event) (left : ℕ) → 0 < left → (events ++ turn ∷ []) ++ replicate (left - 1) turn ≡ events ++ replicate left turn
+one_turn events turn zero some = absurd (omega arith)
+one_turn events turn (suc n) some = let less : suc n - 1 ≡ n = omega arith in rw less (append_assoc events (turn ∷ []) (replicate n turn))
+
+-- a turn is played
+pub turn_played : (gone : List Line) (c : Course) (s : Stage) → 0 < c.left → Happens (Turned c.peer) c.stage s → IsPlayed gone c → IsPlayed gone (record c { stage = s; left = c.left - 1 })
+turn_played gone c s some happens played = record {
+  events = played.events ++ Turned c.peer ∷ [];
+  runs = happens (world_in c) gone played.events (played.peer some) played.runs;
+  at = played.at;
+  scheduled = one_turn played.events (Turned c.peer) c.left some ∙ played.scheduled;
+  peer = λ more. played.peer some;
+}
+
+-- where no turn is left, the events are those of the acts so far
+pub no_turns : (events acts : List Event) (turn : Event) (left : ℕ) → left ≡ 0 → events ++ replicate left turn ≡ acts → events ≡ acts
+no_turns events acts turn left none scheduled = sym (append-nil events) ∙ ap (λ n. events ++ replicate n turn) (sym none) ∙ scheduled
+
+-- an act is played
+pub act_played : (gone : List Line) (c : Course) (a : Act) (s : Stage) → c.left ≡ 0 → c.at < length (world_in c).acts → a ≡ get_or (world_in c).acts c.at a → Plays a c.stage s → IsPlayed gone c →
+    IsPlayed gone (record c { stage = s; at = c.at + 1 })
+act_played gone c a s none inside is plays played =
+    let world = world_in c in
+    let before = no_turns played.events _ (Turned c.peer) c.left none played.scheduled in
+    let allowed = act_at world c.at a played.runs.behind.is_world inside is in
+    record {
+      events = schedule (take (c.at + 1) world.acts);
+      runs = one_act world gone world.acts c.at a s inside is (plays world gone (schedule (take c.at world.acts)) allowed (subst (λ (es : List Event). RunsTo world gone es c.stage) before played.runs));
+      at = omega arith;
+      scheduled = ap (λ n. schedule (take (c.at + 1) world.acts) ++ replicate n (Turned c.peer)) none ∙ append-nil (schedule (take (c.at + 1) world.acts));
+      peer = λ some. absurd (omega arith);
+    }
+
+-- turns are noted
+pub turns_noted : (gone : List Line) (c : Course) (p k : ℕ) → c.left ≡ 0 → c.at < length (world_in c).acts → act.Turn p k ≡ get_or (world_in c).acts c.at (act.Turn p k) → IsPlayed gone c →
+    IsPlayed gone (record c { at = c.at + 1; peer = p; left = k })
+turns_noted gone c p k none inside is played =
+    let world = world_in c in
+    let before = no_turns played.events _ (Turned c.peer) c.left none played.scheduled in
+    let allowed = act_at world c.at (act.Turn p k) played.runs.behind.is_world inside is in
+    record {
+      events = played.events;
+      runs = played.runs;
+      at = omega arith;
+      scheduled = ap (λ es. es ++ replicate k (Turned p)) before ∙ sym (schedule_more world.acts c.at (act.Turn p k) inside is);
+      peer = λ some. below_peers p world.geometry.peers allowed.1.peer;
+    }
+
+-- the events of the acts from here on
+pub one_act_less : (acts : List Act) (at : ℕ) (a : Act) → at < length acts → a ≡ get_or acts at a → length (schedule (drop at acts)) ≡ length (events_of a) + length (schedule (drop (at + 1) acts))
+one_act_less acts at a inside is =
+    let here : drop at acts ≡ a ∷ drop (at + 1) acts = grind (arith, common_steps, drop-cons acts at a inside, is) in
+    ap (λ (xs : List Act). length (schedule xs)) here ∙ length-append (events_of a) (schedule (drop (at + 1) acts))
+
+-- a course at its start
+pub at_first : (c : Course) → RunsTo (world_in c) [] [] c.stage → c.at ≡ 0 → c.left ≡ 0 → c.passed ≡ 0 → IsAlong [] c
+at_first c runs at left passed = record {
+  gone = [];
+  played = record {
+    events = [];
+    runs = runs;
+    at = omega arith;
+    scheduled = ap (λ n. replicate n (Turned c.peer)) left ∙ ap (λ n. schedule (take n (world_in c).acts)) (sym at);
+    peer = λ some. absurd (omega arith);
+  };
+  passed = omega arith;
+  taken = ap (λ n. take n c.stage.scene.lines) passed;
+}
+
+-- where none of the lines that the stage keeps was taken, more of them may come
+pub played_on : (lines : List Line) (c c' : Course) (along : IsAlong lines c) → c.passed ≡ 0 → c'.passed ≡ c.passed → IsPlayed along.gone c' → IsAlong lines c'
+played_on lines c c' along none same played = record {
+  gone = along.gone;
+  played = played;
+  passed = omega arith;
+  taken = ap (λ n. along.gone ++ take n c'.stage.scene.lines) (same ∙ none) ∙ ap (λ n. along.gone ++ take n c.stage.scene.lines) (sym none) ∙ along.taken;
+}

@@ -1,0 +1,173 @@
+//! The lawful history on its course: a stage that is played only as far as the lines that are taken.
+ghost use Rattle.std.specs.Prelude.{◌≡◌, ◌≢◌, ◌+◌, ◌-◌, ◌^◌, ◌<◌, Some, IsTrue, List, [], ◌∷◌, ◌++◌, IfOk, OnOk, IfErr, MatchResult, true, false, length, slice_get, slice_index_or};
+ghost use Rattle.std.specs.Option.{option_copied};
+ghost use Rattle.lawful_history.specs.Lawful.{IsLawful};
+ghost use Rattle.link_model.specs.Difference.{Differs};
+ghost use Rattle.link_model.specs.Taken.{IsCause};
+ghost use Rattle.link_model.specs.Course.{world_in, IsPlayed, IsAlong, IsOver, GoesOn, remains};
+
+use crate::fault::{Law, StepFault, Unlawful};
+use crate::law::broken_law;
+use ivs_base::NoMemory;
+use lawful_history::{Line, history_is_lawful, one_history};
+use link_world::Stage;
+use scenario_text::{Act, Scenario};
+use std::alloc::Global;
+
+/// The stage of a scenario, the number of the act that comes next on it, how many turns of which peer come before that, and how many of
+/// the lines that the stage keeps were taken.
+#[derive(Drop)]
+pub struct Course<'a> {
+    pub scenario: &'a Scenario,
+    pub stage: Stage,
+    pub at: usize,
+    pub peer: u32,
+    pub left: u32,
+    pub passed: usize,
+}
+
+impl<'a> Course<'a> {
+    /// A course of which no line was taken.
+    pub fn new(alloc: Global, scenario: &'a Scenario) -> Result<Course<'a>, NoMemory>
+        ensures { IfOk result (λ course. GoesOn [] course × (course.scenario.now ≡ scenario.now)) }
+    {
+        let mut course = Course {
+            scenario,
+            stage: Stage::new(alloc, scenario)?,
+            at: 0,
+            peer: 0,
+            left: 0,
+            passed: 0,
+        };
+        course.settle()?;
+        Ok(course)
+    }
+
+    /// Plays an act, or notes the turns that it asks for.
+    fn play_act(&mut self, act: &Act) -> Result<(), NoMemory>
+        requires played { (gone : List Line) × IsPlayed gone self.old }
+        requires left { self.old.left ≡ 0 }
+        requires inside { self.old.at < length (world_in self.old).acts }
+        requires at { act.now ≡ slice_index_or (world_in self.old).acts self.old.at act.now }
+        requires room { self.old.at < 2 ^ 64 - 1 }
+        ensures played { (gone : List Line) → IsPlayed gone self.old → OnOk result (IsPlayed gone self.new) }
+        ensures fewer { OnOk result (remains self.new < remains self.old) }
+        ensures passed { self.new.passed ≡ self.old.passed }
+        ensures scenario { self.new.scenario.now ≡ self.old.scenario.now }
+    {
+        match act {
+            Act::Turn { peer, steps } => {
+                self.peer = *peer;
+                self.left = *steps;
+                self.at += 1;
+                Ok(())
+            }
+            _ => {
+                self.stage.act(act)?;
+                self.at += 1;
+                Ok(())
+            }
+        }
+    }
+
+    /// Plays the next turn or act. The answer is whether there was one.
+    fn play_next(&mut self) -> Result<bool, NoMemory>
+        requires { (gone : List Line) × IsPlayed gone self.old }
+        ensures played { (gone : List Line) → IsPlayed gone self.old → OnOk result (IsPlayed gone self.new) }
+        ensures fewer { IfOk result (λ more. more ≡ true → remains self.new < remains self.old) }
+        ensures over { IfOk result (λ more. more ≡ false → IsOver self.new) }
+        ensures passed { self.new.passed ≡ self.old.passed }
+        ensures scenario { self.new.scenario.now ≡ self.old.scenario.now }
+    {
+        if self.left > 0 {
+            self.stage.turn(self.peer)?;
+            self.left -= 1;
+            return Ok(true);
+        }
+        let acts = self.scenario.acts.items();
+        if self.at >= acts.len() {
+            return Ok(false);
+        }
+        self.play_act(&acts[self.at])?;
+        Ok(true)
+    }
+
+    /// Takes the lines that were taken off the stage.
+    fn forget(&mut self)
+        requires { self.old.passed ≡ length self.old.stage.scene.lines }
+        ensures along { (lines : List Line) → IsAlong lines self.old → IsAlong lines self.new }
+        ensures remains { remains self.new ≡ remains self.old }
+        ensures passed { self.new.passed ≡ 0 }
+        ensures scenario { self.new.scenario.now ≡ self.old.scenario.now }
+    {
+        self.stage.forget();
+        self.passed = 0;
+    }
+
+    /// Plays on until a line waits, or the schedule is over.
+    fn settle(&mut self) -> Result<(), NoMemory>
+        requires { (lines : List Line) × IsAlong lines self.old }
+        ensures on { (lines : List Line) → IsAlong lines self.old → OnOk result (GoesOn lines self.new) }
+        ensures scenario { self.new.scenario.now ≡ self.old.scenario.now }
+    {
+        while self.passed == self.stage.lines().len() {
+            self.forget();
+            if !self.play_next()? {
+                return Ok(());
+            }
+        }
+        Ok(())
+    }
+
+    /// The line by which the lawful history goes on, if it does.
+    fn due(&self) -> Option<&Line>
+        ensures { option_copied result ≡ slice_get self.now.stage.scene.lines self.now.passed }
+    {
+        self.stage.lines().get(self.passed)
+    }
+
+    /// Is this the line by which the lawful history goes on?
+    fn is_due(&self, line: &Line) -> bool
+        ensures due { IsTrue result → slice_get self.now.stage.scene.lines self.now.passed ≡ Some line.now }
+        ensures other { result ≡ false → slice_get self.now.stage.scene.lines self.now.passed ≢ Some line.now }
+        ensures room { IsTrue result → self.now.passed < 2 ^ 64 - 1 }
+    {
+        let lines = self.stage.lines();
+        self.passed < lines.len() && lines[self.passed].same(line)
+    }
+
+    /// Takes a line, which has this number.
+    pub fn take(&mut self, number: u64, line: &Line) -> Result<(), StepFault>
+        requires { (lines : List Line) × GoesOn lines self.old }
+        ensures on { (lines : List Line) → GoesOn lines self.old → OnOk result (GoesOn (lines ++ line.now ∷ []) self.new) }
+        ensures cause { (lines : List Line) → GoesOn lines self.old → number ≡ length lines + 1 → IfErr result (IsCause (world_in self.old) (lines ++ line.now ∷ [])) }
+        ensures scenario { self.new.scenario.now ≡ self.old.scenario.now }
+    {
+        one_history();
+        history_is_lawful();
+        if !self.is_due(line) {
+            let law = broken_law(self.due(), line);
+            return Err(StepFault::Unlawful(Unlawful { line: number, law }));
+        }
+        self.passed += 1;
+        match self.settle() {
+            Ok(()) => Ok(()),
+            Err(NoMemory) => Err(StepFault::NoMemory),
+        }
+    }
+
+    /// Were all lines taken? Else the next line, which has this number, is missing.
+    pub fn close(&self, number: u64) -> Result<(), Unlawful>
+        ensures { (lines : List Line) → GoesOn lines self.now → number ≡ length lines + 1 → MatchResult result (λ _. IsLawful (world_in self.now) lines) (Differs (world_in self.now) lines) }
+    {
+        one_history();
+        history_is_lawful();
+        match self.due() {
+            None => Ok(()),
+            Some(_) => Err(Unlawful {
+                line: number,
+                law: Law::Order,
+            }),
+        }
+    }
+}

@@ -2,5 +2,6 @@ pub mod Exit
 pub mod Headline
 pub mod Configuration
 pub mod Load
+pub mod Replay
 pub mod Forms
 pub mod Due

@@ -9,6 +9,7 @@ ghost use Rattle.scenario_text.specs.Spelling.{IsSpelling, world_of};
 ghost use Rattle.scenario_text.specs.Judge.{answer as judged};
 ghost use Rattle.section_dump.specs.Listing.{IsListing};
 ghost use Rattle.ivshm_cli.specs.Headline.{IsRecordOf};
+ghost use Rattle.ivshm_cli.specs.Replay.{Spells, status_of};
 ghost use Rattle.ivshm_cli.specs.Configuration.{IsConfigurationOf};
 ghost use Rattle.ivshm_cli.specs.Load.{IsLoadOf};
 ghost use Rattle.ivshm_cli.specs.declared.refusals.Fault.{Fault};
@@ -17,13 +18,15 @@ use crate::configuration::configuration;
 use crate::exit::Status;
 use crate::refusals::{Fault, refusal_line};
 use crate::summary::summary;
+use crate::verdicts::verdict_text;
 use crate::words::{Form, limit};
 use ivs_base::{NoMemory, ReadEnd, Source, read_all};
-use record_text::print;
+use record_text::{RecordFault, Trace, parse as parse_record, print};
 use scenario_text::{Scenario, ScenarioFault, load, parse};
 use section_dump::{DumpFault, dump};
 use sim_world::simulate;
 use std::alloc::Global;
+use trace_replay::{Verdict, replay};
 
 /// A status and the text that is due with it.
 #[derive(Drop)]
@@ -91,6 +94,48 @@ fn simulated(alloc: Global, bytes: &[u8]) -> Result<Vec<u8>, Failure>
     }
 }
 
+/// The record that the bytes spell.
+fn record_in(alloc: Global, bytes: &[u8]) -> Result<Trace, Failure>
+    ensures accepted { OnOk result (IsTextVerdict Form.Replay bytes.now None) }
+    ensures spelled { IfOk result (λ trace. Spells bytes.now (world_of trace.scenario) trace.lines) }
+    ensures refused { (fault : Fault) → IsErrOf result (Failure.Refused fault) → IsTextVerdict Form.Replay bytes.now (Some fault) }
+{
+    match parse_record(alloc, bytes) {
+        Ok(trace) => Ok(trace),
+        Err(RecordFault::NoMemory) => Err(Failure::NoMemory),
+        Err(fault) => Err(Failure::Refused(Fault::Trace(fault))),
+    }
+}
+
+/// The status of a verdict.
+fn verdict_status(verdict: Verdict) -> Status
+    ensures { result ≡ status_of verdict }
+{
+    match verdict {
+        Verdict::Same => Status::Done,
+        Verdict::Differs(_) => Status::Differs,
+    }
+}
+
+/// Whether the history of the record that the bytes spell is the lawful one, or where it differs.
+fn replayed(alloc: Global, bytes: &[u8]) -> Result<Reply, Failure>
+    ensures accepted { OnOk result (IsTextVerdict Form.Replay bytes.now None) }
+    ensures verdict { IfOk result (λ r. Answers Form.Replay bytes.now r.status r.text.items) }
+    ensures refused { (fault : Fault) → IsErrOf result (Failure.Refused fault) → IsTextVerdict Form.Replay bytes.now (Some fault) }
+{
+    let trace = record_in(alloc, bytes)?;
+    let Ok(verdict) = replay(alloc, &trace) else {
+        return Err(Failure::NoMemory);
+    };
+    match verdict_text(alloc, verdict) {
+        Ok(text) => Ok(Reply {
+            status: verdict_status(verdict),
+            text,
+        }),
+        Err(_) => Err(Failure::NoMemory),
+    }
+}
+
 /// The listing of the image that the bytes are.
 fn listed(alloc: Global, bytes: &[u8]) -> Result<Vec<u8>, Failure>
     ensures accepted { OnOk result (IsTextVerdict Form.Dump bytes.now None) }
@@ -134,19 +179,30 @@ fn loaded(alloc: Global, count: u32) -> Result<Vec<u8>, NoMemory>
     }
 }
 
-/// The text that a form answers to the bytes that it read.
-fn text_for(alloc: Global, form: Form, bytes: &[u8]) -> Result<Vec<u8>, Failure>
+/// The answer Done with this text.
+fn done(text: Vec<u8>) -> Reply
+    ensures { result ≡ record { status = Status.Done; text = text } }
+{
+    Reply {
+        status: Status::Done,
+        text,
+    }
+}
+
+/// What a form answers to the bytes that it read.
+fn answer_for(alloc: Global, form: Form, bytes: &[u8]) -> Result<Reply, Failure>
     requires { IsInRange form }
     ensures accepted { OnOk result (IsTextVerdict form bytes.now None) }
-    ensures answers { IfOk result (λ text. Answers form bytes.now Status.Done text.items) }
+    ensures answers { IfOk result (λ r. Answers form bytes.now r.status r.text.items) }
     ensures refused { (fault : Fault) → IsErrOf result (Failure.Refused fault) → IsTextVerdict form bytes.now (Some fault) }
 {
     match form {
-        Form::Sim => simulated(alloc, bytes),
-        Form::Dump => listed(alloc, bytes),
-        Form::Config(peer) => configured(alloc, peer, bytes),
+        Form::Sim => Ok(done(simulated(alloc, bytes)?)),
+        Form::Replay => replayed(alloc, bytes),
+        Form::Dump => Ok(done(listed(alloc, bytes)?)),
+        Form::Config(peer) => Ok(done(configured(alloc, peer, bytes)?)),
         Form::Load(count) => match loaded(alloc, count) {
-            Ok(text) => Ok(text),
+            Ok(text) => Ok(done(text)),
             Err(_) => Err(Failure::NoMemory),
         },
     }
@@ -159,11 +215,8 @@ pub(crate) fn reply_to(alloc: Global, form: Form, bytes: &[u8]) -> Result<Reply,
     ensures due { IfOk result (λ r. IsDue (Some form) bytes.now r.status r.text.items) }
     ensures answer { IfOk result (λ r. IsTrue (is_answer r.status)) }
 {
-    match text_for(alloc, form, bytes) {
-        Ok(text) => Ok(Reply {
-            status: Status::Done,
-            text,
-        }),
+    match answer_for(alloc, form, bytes) {
+        Ok(reply) => Ok(reply),
         Err(Failure::Refused(fault)) => match refusal_line(alloc, fault) {
             Ok(text) => Ok(Reply {
                 status: Status::Refused,

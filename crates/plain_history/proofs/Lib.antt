@@ -1,0 +1,4 @@
+pub mod Reading
+pub mod Telling
+pub mod Arriving
+pub mod Acting

@@ -1,0 +1,28 @@
+-- A moment of the history, as the lines tell it.
+use Rattle.std.specs.Prelude.{ℕ, ◌≡◌, ◌+◌, ◌*◌, ◌≤◌, Bool, true, false, Some, None, List, length, slice_get}
+use Rattle.scenario_text.specs.Scenario.{World}
+use Rattle.lawful_history.specs.declared.line.Line.{Line}
+use Rattle.lawful_history.specs.Sides.{who_of}
+use Rattle.lawful_history.specs.History as history
+use Rattle.lawful_history.specs.History.{peer_at}
+use Rattle.plain_history.specs.Reading.{Reads, HasLosses}
+use Rattle.plain_history.specs.Told.{AreTold}
+use Rattle.plain_history.specs.Peers.{IsPeer}
+use Rattle.plain_history.specs.declared.peers.Peer.{Peer}
+use Rattle.plain_history.specs.declared.moments.Moment.{Moment}
+
+-- behind so many events: the lines tell the past of the moment, and the losses and the peers are its own
+pub record IsMoment (world : World) (lines : List Line) (count : ℕ) (moment : history.Moment) (seen : Moment) : Type 0 where
+  pub reads : Reads lines moment.past (Some seen.read)
+  pub told : AreTold world.geometry.peers moment.past
+  pub losses : HasLosses seen.losses moment.losses
+  pub seats : length seen.losses ≡ 8
+  pub few : (peer : ℕ) → moment.losses peer ≤ count
+  pub same : length seen.peers.items ≡ length moment.peers
+  pub all : length moment.peers ≡ world.geometry.peers
+  pub peers : (p : ℕ) (peer : Peer) → slice_get seen.peers.items p ≡ Some peer → IsPeer (who_of world p) (2 * count) peer (peer_at moment p)
+
+-- the lines go on to the moment, or they don't begin with its past
+abbrev pub GoesOn : World → List Line → ℕ → history.Moment → Moment → Bool → Type 0
+GoesOn world lines count moment seen true = IsMoment world lines count moment seen
+GoesOn world lines count moment seen false = Reads lines moment.past None

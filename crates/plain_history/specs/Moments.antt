@@ -1,8 +1,10 @@
 -- A moment of the history, as the lines tell it.
-use Rattle.std.specs.Prelude.{ℕ, ◌≡◌, ◌+◌, ◌*◌, ◌≤◌, Bool, true, false, Some, None, List, length, slice_get}
+use Rattle.std.specs.Prelude.{ℕ, ◌≡◌, ◌+◌, ◌*◌, ◌≤◌, Bool, true, false, Option, Some, None, List, length, slice_get}
 use Rattle.scenario_text.specs.Scenario.{World}
 use Rattle.lawful_history.specs.declared.line.Line.{Line}
 use Rattle.lawful_history.specs.Sides.{who_of}
+use Rattle.link_laws.specs.Calls.{Who}
+use Rattle.lawful_history.specs.Peers as history_peers
 use Rattle.lawful_history.specs.History as history
 use Rattle.lawful_history.specs.History.{peer_at}
 use Rattle.plain_history.specs.Reading.{Reads, HasLosses}
@@ -10,6 +12,11 @@ use Rattle.plain_history.specs.Told.{AreTold}
 use Rattle.plain_history.specs.Peers.{IsPeer}
 use Rattle.plain_history.specs.declared.peers.Peer.{Peer}
 use Rattle.plain_history.specs.declared.moments.Moment.{Moment}
+
+-- the lines go on to this past, and the peer goes on to this one; or the lines don't begin with the past
+abbrev pub GoesTo : World → List Line → List Line → Who → ℕ → history_peers.Peer → Peer → Option ℕ → Type 0
+GoesTo world lines past who most peer seen None = Reads lines past None
+GoesTo world lines past who most peer seen (Some read) = Reads lines past (Some read) × AreTold world.geometry.peers past × IsPeer who most seen peer
 
 -- behind so many events: the lines tell the past of the moment, and the losses and the peers are its own
 pub record IsMoment (world : World) (lines : List Line) (count : ℕ) (moment : history.Moment) (seen : Moment) : Type 0 where

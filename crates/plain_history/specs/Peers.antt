@@ -8,6 +8,8 @@ use Rattle.link_plain.specs.Seen.{call_seen, IsSeenAs}
 use Rattle.lawful_history.specs.Peers as history
 use Rattle.plain_history.specs.declared.peers.Round.{Round}
 use Rattle.plain_history.specs.declared.peers.Round.TheVariants.{Anew, BehindOffer, BehindPoll}
+use Rattle.plain_history.specs.declared.peers.Choice.{Choice}
+use Rattle.plain_history.specs.declared.peers.Choice.TheVariants.{Tick, Offer, Poll, Finished}
 use Rattle.plain_history.specs.declared.peers.Auto.{Auto}
 use Rattle.plain_history.specs.declared.peers.Driver.{Driver}
 use Rattle.plain_history.specs.declared.peers.Driver.TheVariants.{Waits, Chooses, Storms}
@@ -17,6 +19,12 @@ abbrev pub round_seen : Round → laws.Round
 round_seen Anew = laws.Anew
 round_seen BehindOffer = laws.BehindOffer
 round_seen BehindPoll = laws.BehindPoll
+
+abbrev pub choice_seen : Choice → laws.Choice
+choice_seen Tick = laws.ChoosesTick
+choice_seen (Offer frame) = laws.ChoosesOffer frame
+choice_seen Poll = laws.ChoosesPoll
+choice_seen Finished = laws.IsFinished
 
 abbrev pub auto_seen : Auto → history.Auto
 auto_seen auto = record { frames = auto.frames.items; expected = auto.expected; delivered = auto.delivered; round = round_seen auto.round }

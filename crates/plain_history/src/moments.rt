@@ -1,4 +1,12 @@
 //! A moment of the history: how many of its lines were read, and where its peers are.
+ghost use Rattle.std.specs.Prelude.{◌≡◌, ℕ, ◌+◌, ◌<◌, IfOk, List};
+ghost use Rattle.lawful_history.specs.declared.line.Line as lines;
+ghost use Rattle.lawful_history.specs.Sides.{world_of};
+ghost use Rattle.lawful_history.specs.History as history;
+ghost use Rattle.lawful_history.specs.History.{happens, beginning};
+ghost use Rattle.plain_history.specs.Events.{event_seen, CanHappen};
+ghost use Rattle.plain_history.specs.Moments.{IsMoment, GoesOn};
+
 use crate::events::Event;
 use crate::peers::Peer;
 use crate::turns::read_event;
@@ -17,7 +25,9 @@ pub struct Moment {
 
 impl Moment {
     /// The beginning of the history.
-    pub fn beginning(alloc: Global, scenario: &Scenario) -> Result<Moment, NoMemory> {
+    pub fn beginning(alloc: Global, scenario: &Scenario) -> Result<Moment, NoMemory>
+        ensures { IfOk result (λ moment. (lines : List lines.Line) → IsMoment (world_of scenario.now) lines 0 (beginning (world_of scenario.now)) moment) }
+    {
         let mut peers = Vec::new(alloc);
         for _p in 0..scenario.geometry.peers() {
             match peers.push(Peer::at_start(alloc)) {
@@ -39,7 +49,12 @@ impl Moment {
         scenario: &Scenario,
         lines: &[Line],
         event: Event,
-    ) -> Result<bool, NoMemory> {
+    ) -> Result<bool, NoMemory>
+        requires can { CanHappen (world_of scenario.now) (event_seen event) }
+        requires here { (count : ℕ) × (moment : history.Moment) × IsMoment (world_of scenario.now) lines.now count moment self.old × (count < 4000000) }
+        ensures { IfOk result (λ yes. (count : ℕ) (moment : history.Moment) → IsMoment (world_of scenario.now) lines.now count moment self.old →
+            GoesOn (world_of scenario.now) lines.now (count + 1) (happens (world_of scenario.now) moment (event_seen event)) self.new yes) }
+    {
         let me = event.peer() as usize;
         let loses = matches!(&event, Event::Loses { .. });
         let peer = &mut self.peers[me];

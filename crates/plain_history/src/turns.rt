@@ -1,4 +1,21 @@
 //! The lines of an event of a peer, and where the peer is behind it.
+ghost use Rattle.std.specs.Prelude.{◌≡◌, ℕ, ◌+◌, ◌<◌, ◌≤◌, ◌^◌, ◌∷◌, ◌++◌, true, Some, IfOk, List, length, reverse};
+ghost use Rattle.lawful_history.specs.declared.line.Line.TheVariants.{Reset};
+ghost use Rattle.link_laws.specs.Calls as laws;
+ghost use Rattle.link_laws.specs.Places.{is_open};
+ghost use Rattle.link_plain.specs.Seen.{who_seen, access_seen};
+ghost use Rattle.lawful_history.specs.Schedule.{event_peer};
+ghost use Rattle.lawful_history.specs.Sides.{world_of, who_of};
+ghost use Rattle.lawful_history.specs.Entries.{turn_lines, acted_lines, lines_by};
+ghost use Rattle.lawful_history.specs.Peers as history;
+ghost use Rattle.lawful_history.specs.Device.{arrivals, step_interrupts, reached_line, device_lines};
+ghost use Rattle.lawful_history.specs.History.{driven_step, driven, step_by, moved, turn_step, turned, acted_step, step_in, peer_in};
+ghost use Rattle.plain_history.specs.Reading.{Reads, HasLosses};
+ghost use Rattle.plain_history.specs.Told.{AreTold, FitsDoorbell};
+ghost use Rattle.plain_history.specs.Peers.{IsPeer};
+ghost use Rattle.plain_history.specs.Events.{event_seen, device_access_seen, HasWord, IsPlaced, CanHappen};
+ghost use Rattle.plain_history.specs.Moments.{GoesTo};
+
 use crate::devices::{devices_behind, interrupted_by_reset};
 use crate::events::{DeviceAccess, Event};
 use crate::interrupts::read_arrivals;
@@ -23,7 +40,18 @@ fn read_call(
     peer: &mut Peer,
     lines: &[Line],
     read: usize,
-) -> Result<Option<usize>, NoMemory> {
+) -> Result<Option<usize>, NoMemory>
+    requires there { who.now.me < scenario.now.geometry.peers }
+    requires fits { (who.now.other < 2 ^ 16) × (who.now.vector < 2 ^ 16) }
+    requires open { is_open peer.old.call ≡ true }
+    requires few { (most : ℕ) × (it : history.Peer) × IsPeer (who_seen who.now) most peer.old it × (most + 2 < 2 ^ 32) }
+    requires told { (past : List Line) × Reads lines.now past (Some read) × AreTold scenario.now.geometry.peers past }
+    ensures { let world = world_of scenario.now in let me = who.now.me in
+        IfOk result (λ at. (past : List Line) (lost : ℕ → ℕ) (most : ℕ) (it : history.Peer) → Reads lines.now past (Some read) → AreTold world.geometry.peers past → HasLosses losses.now lost →
+            IsPeer (who_seen who.now) most peer.old it → GoesTo world lines.now (reverse (turn_lines me (step_by world me it.driver it.left past) (step_interrupts world past lost me (step_by world me it.driver it.left past))) ++ past)
+            (who_seen who.now) (most + 2) (moved it past) peer.new at) }
+{
+    places_follow_trees();
     let met = met_by(peer.call.access(who), &lines[..read]);
     let step = peer.call.step(alloc, who, met)?;
     let Some(at) = read_step(scenario, losses, who.me, &step, lines, read) else {
@@ -39,11 +67,18 @@ fn read_driver(
     scenario: &Scenario,
     losses: &[u64; 8],
     me: u32,
-    driver: &mut Driver,
+    peer: &mut Peer,
     lines: &[Line],
     read: usize,
-) -> Option<usize> {
-    match driver {
+) -> Option<usize>
+    requires there { me < scenario.now.geometry.peers }
+    requires told { (past : List Line) × Reads lines.now past (Some read) × AreTold scenario.now.geometry.peers past }
+    ensures { let world = world_of scenario.now in
+        (past : List Line) (lost : ℕ → ℕ) (who : laws.Who) (most : ℕ) (it : history.Peer) → Reads lines.now past (Some read) → AreTold world.geometry.peers past → HasLosses losses.now lost →
+            IsPeer who most peer.old it → GoesTo world lines.now (reverse (turn_lines me (driven_step world me it.driver) (step_interrupts world past lost me (driven_step world me it.driver))) ++ past)
+            who most (driven it it.driver) peer.new result }
+{
+    match &mut peer.driver {
         Driver::Storms(x) => {
             let step = storm_step(alloc, scenario, me, *x);
             *x = storm_behind(*x);
@@ -62,22 +97,22 @@ fn read_turn(
     peer: &mut Peer,
     lines: &[Line],
     read: usize,
-) -> Result<Option<usize>, NoMemory> {
+) -> Result<Option<usize>, NoMemory>
+    requires there { me < scenario.now.geometry.peers }
+    requires few { (most : ℕ) × (it : history.Peer) × IsPeer (who_of (world_of scenario.now) me) most peer.old it × (most + 2 < 2 ^ 32) }
+    requires told { (past : List Line) × Reads lines.now past (Some read) × AreTold scenario.now.geometry.peers past }
+    ensures { let world = world_of scenario.now in
+        IfOk result (λ at. (past : List Line) (lost : ℕ → ℕ) (most : ℕ) (it : history.Peer) → Reads lines.now past (Some read) → AreTold world.geometry.peers past → HasLosses losses.now lost →
+            IsPeer (who_of world me) most peer.old it → GoesTo world lines.now (reverse (turn_lines me (turn_step world me it past) (step_interrupts world past lost me (turn_step world me it past))) ++ past)
+            (who_of world me) (most + 2) (turned world me it past) peer.new at) }
+{
     let who = who_of(scenario, me);
     peer.open_next(alloc, &who)?;
     if peer.call.is_open() {
-        read_call(alloc, scenario, losses, &who, peer, lines, read)
-    } else {
-        Ok(read_driver(
-            alloc,
-            scenario,
-            losses,
-            me,
-            &mut peer.driver,
-            lines,
-            read,
-        ))
+        let at = read_call(alloc, scenario, losses, &who, peer, lines, read)?;
+        return Ok(at);
     }
+    Ok(read_driver(alloc, scenario, losses, me, peer, lines, read))
 }
 
 /// Reads the lines of an access of the peer's own accord. A forbidden write is denied.
@@ -89,7 +124,14 @@ fn read_access_of(
     access: Access,
     lines: &[Line],
     read: usize,
-) -> Option<usize> {
+) -> Option<usize>
+    requires there { me < scenario.now.geometry.peers }
+    requires fits { FitsDoorbell (access_seen access) × HasWord (access_seen access) }
+    requires told { (past : List Line) × Reads lines.now past (Some read) × AreTold scenario.now.geometry.peers past }
+    ensures { let world = world_of scenario.now in let a = access_seen access in
+        (past : List Line) (lost : ℕ → ℕ) → Reads lines.now past (Some read) → HasLosses losses.now lost →
+            Reads lines.now (reverse (acted_lines me a (acted_step world me a past) (step_interrupts world past lost me (acted_step world me a past))) ++ past) result }
+{
     if let Access::Write(word, _) = access
         && !scenario.geometry.may_write(me, word as u32)
     {
@@ -117,7 +159,12 @@ fn read_reset(
     me: u32,
     lines: &[Line],
     read: usize,
-) -> Option<usize> {
+) -> Option<usize>
+    requires there { me < scenario.now.geometry.peers }
+    requires told { (past : List Line) × Reads lines.now past (Some read) × AreTold scenario.now.geometry.peers past }
+    ensures { let world = world_of scenario.now in
+        (past : List Line) (lost : ℕ → ℕ) → Reads lines.now past (Some read) → HasLosses losses.now lost → Reads lines.now (reverse (Reset me ∷ arrivals world past lost (Reset me)) ++ past) result }
+{
     let Some(at) = read_line(lines, read, &Line::Reset { peer: me }) else {
         return None;
     };
@@ -126,7 +173,12 @@ fn read_reset(
 }
 
 /// The line of an access to the device behind these lines.
-fn reached_line(scenario: &Scenario, me: u32, access: DeviceAccess, lines: &[Line]) -> Line {
+fn reached_line(scenario: &Scenario, me: u32, access: DeviceAccess, lines: &[Line]) -> Line
+    requires there { me < scenario.now.geometry.peers }
+    requires placed { IsPlaced (device_access_seen access) }
+    requires told { AreTold scenario.now.geometry.peers (reverse lines.now) }
+    ensures { result ≡ reached_line (world_of scenario.now) (reverse lines.now) me (device_access_seen access) }
+{
     let device = devices_behind(scenario, lines);
     match access {
         DeviceAccess::ReadsConfig { offset, width } => Line::ConfigRead {
@@ -180,7 +232,15 @@ pub fn read_event(
     event: Event,
     lines: &[Line],
     read: usize,
-) -> Result<Option<usize>, NoMemory> {
+) -> Result<Option<usize>, NoMemory>
+    requires can { CanHappen (world_of scenario.now) (event_seen event) }
+    requires few { (most : ℕ) × (it : history.Peer) × IsPeer (who_of (world_of scenario.now) (event_peer (event_seen event))) most peer.old it × (most + 2 < 2 ^ 32) }
+    requires told { (past : List Line) × Reads lines.now past (Some read) × AreTold scenario.now.geometry.peers past }
+    ensures { let world = world_of scenario.now in let e = event_seen event in
+        IfOk result (λ at. (past : List Line) (lost : ℕ → ℕ) (most : ℕ) (it : history.Peer) → Reads lines.now past (Some read) → AreTold world.geometry.peers past → HasLosses losses.now lost →
+            IsPeer (who_of world (event_peer e)) most peer.old it → GoesTo world lines.now (reverse (lines_by e (step_in world it past e) (device_lines world past lost e (step_in world it past e))) ++ past)
+            (who_of world (event_peer e)) (most + 2) (peer_in world it past e) peer.new at) }
+{
     match event {
         Event::Asked { call, .. } => {
             peer.ask(call)?;

@@ -13,8 +13,8 @@ returns c =
       | in-Storm w ↦ rw (w.in-Storm.is, w.result-is) refl
       | in-Turn w ↦ rw (w.in-Turn.is, w.result-is) refl
       | in-Reset w ↦ rw (w.in-Reset.is, w.result-is) refl
-      | in-Poke w ↦ rw (w.in-Poke.is, w.result-is, w.acted.ensures) refl
-      | in-Peek w ↦ rw (w.in-Peek.is, w.result-is, w.acted-in-Peek.ensures) refl
+      | in-Poke w ↦ rw (w.in-Poke.is, w.result-is, w.acted.ensures, w.from.ensures, w.from-in-Poke.ensures) refl
+      | in-Peek w ↦ rw (w.in-Peek.is, w.result-is, w.acted-in-Peek.ensures, w.from-in-Peek.ensures) refl
       | in-Set w ↦ rw (w.in-Set.is, w.result-is, w.acted-in-Set.ensures) refl
       | in-Ring w ↦ rw (w.in-Ring.is, w.result-is, w.acted-in-Ring.ensures) refl
       | in-MmioWrite w ↦ rw (w.in-MmioWrite.is, w.result-is, w.register_event.ensures) refl

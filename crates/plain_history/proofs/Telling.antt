@@ -13,6 +13,16 @@ use Rattle.lawful_history.specs.declared.line.Line.{Line}
 use Rattle.lawful_history.specs.declared.line.Line.TheVariants as line
 use Rattle.lawful_history.specs.Entries.{access_lines, mark_line, step_lines}
 use Rattle.lawful_history.specs.Device.{devices_of, device_events, told_by, lost_count, arrival, arrived, arrivals_by, arrivals, brought_by, step_interrupts}
+use Rattle.std.specs.Prelude.{◌==◌, ◌&&◌, ◌||◌, ◌%◌, ◌^◌, nat_le}
+use Rattle.std.proofs.lemmas.Bool.Decides.{nat_tests}
+use Rattle.pci_space.specs.Fields.{is_access}
+use Rattle.link_laws.specs.Steps.{step_of}
+use Rattle.lawful_history.specs.Memory.{last_write}
+use Rattle.lawful_history.specs.Entries.{acted_lines}
+use Rattle.lawful_history.specs.Schedule.{DeviceAccess, ReadsConfig, WritesConfig, ReadsRegister, WritesRegister, ReadsMsix, WritesMsix}
+use Rattle.lawful_history.specs.Device.{reached_line}
+use Rattle.lawful_history.specs.History.{may_write, acted_step}
+use Rattle.plain_history.specs.Events.{IsPlaced}
 use Rattle.plain_history.specs.Told.{IsTold, AreTold, FitsDoorbell}
 use Rattle.std.proofs.lemmas.List.{reverse-append, take-append-drop}
 use Rattle.plain_history.proofs.Reading.{behind, newest}
@@ -86,3 +96,35 @@ told_at peers lines i line inside is all =
     let whole : reverse lines ≡ reverse (drop (i + 1) lines) ++ (line ∷ reverse (take i lines)) =
     ap (λ (ls : List Line). reverse ls) (sym (take-append-drop (i + 1) lines)) ∙ reverse-append (take (i + 1) lines) (drop (i + 1) lines) ∙ ap (λ ls. reverse (drop (i + 1) lines) ++ ls) (newest lines i line inside is) in
     (told_last peers (reverse (drop (i + 1) lines)) (line ∷ reverse (take i lines)) (subst (λ (ls : List Line). AreTold peers ls) whole all)).0
+
+write_told : (world : World) (p word value : ℕ) (past : List Line) (losses : ℕ → ℕ) (b : Bool) → p < world.geometry.peers → AreTold world.geometry.peers past →
+    AreTold world.geometry.peers (reverse (acted_lines p (access.Write word value) (if b then Some (step_of (access.Write word value) 0 []) else None) (step_interrupts world past losses p (if b then Some (step_of (access.Write word value) 0 []) else None))) ++ past)
+write_told world p word value past losses true there told = step_told world world.geometry.peers p past losses (step_of (access.Write word value) 0 []) there tt told
+write_told world p word value past losses false there told = (tt, told)
+
+-- the lines of an access of its own accord
+pub acted_told : (world : World) (p : ℕ) (past : List Line) (losses : ℕ → ℕ) (a : Access) → p < world.geometry.peers → FitsDoorbell a → AreTold world.geometry.peers past →
+    AreTold world.geometry.peers (reverse (acted_lines p a (acted_step world p a past) (step_interrupts world past losses p (acted_step world p a past))) ++ past)
+acted_told world p past losses (access.Read word) there fits told = step_told world world.geometry.peers p past losses (step_of (access.Read word) (last_write past word) []) there tt told
+acted_told world p past losses (access.Write word value) there fits told = write_told world p word value past losses (may_write world.geometry p word) there told
+acted_told world p past losses (access.State state) there fits told = step_told world world.geometry.peers p past losses (step_of (access.State state) 0 []) there tt told
+acted_told world p past losses (access.Ring target vector) there fits told = step_told world world.geometry.peers p past losses (step_of (access.Ring target vector) 0 []) there fits told
+acted_told world p past losses access.Nothing there fits told = step_told world world.geometry.peers p past losses (step_of access.Nothing 0 []) there tt told
+
+-- those of a device reset
+pub reset_told : (world : World) (p : ℕ) (past : List Line) (losses : ℕ → ℕ) → p < world.geometry.peers → AreTold world.geometry.peers past →
+    AreTold world.geometry.peers (reverse (line.Reset p ∷ arrivals world past losses (line.Reset p)) ++ past)
+reset_told world p past losses there told =
+    told-behind world.geometry.peers (line.Reset p ∷ arrivals world past losses (line.Reset p)) past (there, arrivals_told world world.geometry.peers past losses (line.Reset p) (told_by (line.Reset p))) told
+
+within : (offset width : ℕ) → is_access 256 offset width ≡ true → offset + width ≤ 256
+within offset width is = grind (arith, nat_tests)
+
+-- the line of an access to a part of the device
+pub reached_told : (world : World) (p : ℕ) (past : List Line) (a : DeviceAccess) → p < world.geometry.peers → IsPlaced a → IsTold world.geometry.peers (reached_line world past p a)
+reached_told world p past (ReadsConfig offset width) there placed = tt
+reached_told world p past (WritesConfig offset width value) there placed = let small = within offset width placed in (there, omega arith, omega arith, placed)
+reached_told world p past (ReadsRegister offset) there placed = tt
+reached_told world p past (WritesRegister offset value) there placed = there
+reached_told world p past (ReadsMsix offset) there placed = tt
+reached_told world p past (WritesMsix offset value) there placed = there

@@ -1,10 +1,16 @@
 -- How the events of this crate are seen: as those of a schedule.
-use Rattle.std.specs.Prelude.{ℕ, ◌≡◌, ◌<◌, ◌^◌, true, List}
+use Rattle.std.specs.Prelude.{ℕ, ◌≡◌, ◌<◌, ◌^◌, true, Option, Some, None, List, [], ◌∷◌}
 use Rattle.pci_space.specs.Fields.{is_access}
 use Rattle.split_ring.specs.declared.steps.Access.{Access}
 use Rattle.split_ring.specs.declared.steps.Access.TheVariants as access
 use Rattle.scenario_text.specs.declared.acts.Act.{Act}
 use Rattle.scenario_text.specs.Scenario.{World, IsAllowed}
+use Rattle.link_laws.specs.Steps.{step_of}
+use Rattle.lawful_history.specs.declared.line.Line.{Line}
+use Rattle.lawful_history.specs.declared.line.Line.TheVariants.{Denied}
+use Rattle.lawful_history.specs.Entries.{denied_lines}
+use Rattle.lawful_history.specs.History.{acted_step}
+use Rattle.plain_history.specs.Reading.{Meets}
 use Rattle.lawful_history.specs.Schedule as schedule
 use Rattle.lawful_history.specs.Schedule.{event_peer}
 use Rattle.link_plain.specs.Seen.{call_seen, access_seen}
@@ -40,6 +46,11 @@ HasWord (access.Write word value) = word < 2 ^ 32
 HasWord (access.State state) = Unit {0}
 HasWord (access.Ring target vector) = Unit {0}
 HasWord access.Nothing = Unit {0}
+
+-- the write of this word is denied to the peer; or the access is not denied, and its step is made, whatever it meets
+abbrev pub IsDenied : World → ℕ → Access → Option ℕ → Type 0
+IsDenied world me a None = (past : List Line) (met : ℕ) → Meets past a met → acted_step world me a past ≡ Some (step_of a met [])
+IsDenied world me a (Some word) = ((past : List Line) → acted_step world me a past ≡ None) × (denied_lines me a ≡ Denied me word ∷ [])
 
 -- an access to the configuration space is one of its places
 abbrev pub IsPlaced : schedule.DeviceAccess → Type 0

@@ -6,15 +6,15 @@ ghost use Rattle.link_laws.specs.Places.{is_open};
 ghost use Rattle.link_plain.specs.Seen.{who_seen, access_seen};
 ghost use Rattle.lawful_history.specs.Schedule.{event_peer};
 ghost use Rattle.lawful_history.specs.Sides.{world_of, who_of};
-ghost use Rattle.lawful_history.specs.Entries.{turn_lines, acted_lines, lines_by};
+ghost use Rattle.lawful_history.specs.Entries.{turn_lines, acted_lines};
 ghost use Rattle.lawful_history.specs.Peers as history;
-ghost use Rattle.lawful_history.specs.Device.{arrivals, step_interrupts, reached_line, device_lines};
-ghost use Rattle.lawful_history.specs.History.{driven_step, driven, step_by, moved, turn_step, turned, acted_step, step_in, peer_in};
+ghost use Rattle.lawful_history.specs.Device.{arrivals, step_interrupts, reached_line};
+ghost use Rattle.lawful_history.specs.History.{driven_step, driven, step_by, moved, turn_step, turned, acted_step};
 ghost use Rattle.plain_history.specs.Reading.{Reads, HasLosses};
 ghost use Rattle.plain_history.specs.Told.{AreTold, FitsDoorbell};
 ghost use Rattle.plain_history.specs.Peers.{IsPeer};
-ghost use Rattle.plain_history.specs.Events.{event_seen, device_access_seen, HasWord, IsPlaced, CanHappen};
-ghost use Rattle.plain_history.specs.Moments.{GoesTo};
+ghost use Rattle.plain_history.specs.Events.{event_seen, device_access_seen, HasWord, IsPlaced, IsDenied, CanHappen};
+ghost use Rattle.plain_history.specs.Moments.{GoesTo, GoesBy};
 
 use crate::devices::{devices_behind, interrupted_by_reset};
 use crate::events::{DeviceAccess, Event};
@@ -36,17 +36,18 @@ fn read_call(
     alloc: Global,
     scenario: &Scenario,
     losses: &[u64; 8],
+    me: u32,
     who: &Who,
     peer: &mut Peer,
     lines: &[Line],
     read: usize,
 ) -> Result<Option<usize>, NoMemory>
-    requires there { who.now.me < scenario.now.geometry.peers }
+    requires there { me < scenario.now.geometry.peers }
     requires fits { (who.now.other < 2 ^ 16) × (who.now.vector < 2 ^ 16) }
     requires open { is_open peer.old.call ≡ true }
     requires few { (most : ℕ) × (it : history.Peer) × IsPeer (who_seen who.now) most peer.old it × (most + 2 < 2 ^ 32) }
     requires told { (past : List Line) × Reads lines.now past (Some read) × AreTold scenario.now.geometry.peers past }
-    ensures { let world = world_of scenario.now in let me = who.now.me in
+    ensures { let world = world_of scenario.now in
         IfOk result (λ at. (past : List Line) (lost : ℕ → ℕ) (most : ℕ) (it : history.Peer) → Reads lines.now past (Some read) → AreTold world.geometry.peers past → HasLosses losses.now lost →
             IsPeer (who_seen who.now) most peer.old it → GoesTo world lines.now (reverse (turn_lines me (step_by world me it.driver it.left past) (step_interrupts world past lost me (step_by world me it.driver it.left past))) ++ past)
             (who_seen who.now) (most + 2) (moved it past) peer.new at) }
@@ -54,7 +55,7 @@ fn read_call(
     places_follow_trees();
     let met = met_by(peer.call.access(who), &lines[..read]);
     let step = peer.call.step(alloc, who, met)?;
-    let Some(at) = read_step(scenario, losses, who.me, &step, lines, read) else {
+    let Some(at) = read_step(scenario, losses, me, &step, lines, read) else {
         return Ok(None);
     };
     peer.follow(alloc, who, &step, met)?;
@@ -109,10 +110,29 @@ fn read_turn(
     let who = who_of(scenario, me);
     peer.open_next(alloc, &who)?;
     if peer.call.is_open() {
-        let at = read_call(alloc, scenario, losses, &who, peer, lines, read)?;
+        let at = read_call(alloc, scenario, losses, me, &who, peer, lines, read)?;
         return Ok(at);
     }
     Ok(read_driver(alloc, scenario, losses, me, peer, lines, read))
+}
+
+/// The word of an access that is denied to the peer: one that it writes and may not.
+fn denied_word(scenario: &Scenario, me: u32, access: Access) -> Option<u32>
+    requires there { me < scenario.now.geometry.peers }
+    requires fits { HasWord (access_seen access) }
+    ensures { IsDenied (world_of scenario.now) me (access_seen access) result }
+{
+    match access {
+        Access::Write(word, _) => {
+            let word = word as u32;
+            if scenario.geometry.may_write(me, word) {
+                None
+            } else {
+                Some(word)
+            }
+        }
+        Access::Read(_) | Access::State(_) | Access::Ring { .. } | Access::Nothing => None,
+    }
 }
 
 /// Reads the lines of an access of the peer's own accord. A forbidden write is denied.
@@ -132,17 +152,8 @@ fn read_access_of(
         (past : List Line) (lost : ℕ → ℕ) → Reads lines.now past (Some read) → HasLosses losses.now lost →
             Reads lines.now (reverse (acted_lines me a (acted_step world me a past) (step_interrupts world past lost me (acted_step world me a past))) ++ past) result }
 {
-    if let Access::Write(word, _) = access
-        && !scenario.geometry.may_write(me, word as u32)
-    {
-        return read_line(
-            lines,
-            read,
-            &Line::Denied {
-                peer: me,
-                word: word as u32,
-            },
-        );
+    if let Some(word) = denied_word(scenario, me, access) {
+        return read_line(lines, read, &Line::Denied { peer: me, word });
     }
     let step = Step {
         access,
@@ -236,10 +247,7 @@ pub fn read_event(
     requires can { CanHappen (world_of scenario.now) (event_seen event) }
     requires few { (most : ℕ) × (it : history.Peer) × IsPeer (who_of (world_of scenario.now) (event_peer (event_seen event))) most peer.old it × (most + 2 < 2 ^ 32) }
     requires told { (past : List Line) × Reads lines.now past (Some read) × AreTold scenario.now.geometry.peers past }
-    ensures { let world = world_of scenario.now in let e = event_seen event in
-        IfOk result (λ at. (past : List Line) (lost : ℕ → ℕ) (most : ℕ) (it : history.Peer) → Reads lines.now past (Some read) → AreTold world.geometry.peers past → HasLosses losses.now lost →
-            IsPeer (who_of world (event_peer e)) most peer.old it → GoesTo world lines.now (reverse (lines_by e (step_in world it past e) (device_lines world past lost e (step_in world it past e))) ++ past)
-            (who_of world (event_peer e)) (most + 2) (peer_in world it past e) peer.new at) }
+    ensures { IfOk result (λ at. GoesBy (world_of scenario.now) lines.now losses.now (event_seen event) read peer.old peer.new at) }
 {
     match event {
         Event::Asked { call, .. } => {

@@ -5,3 +5,4 @@ pub mod Acting
 pub mod Counting
 pub mod Opening
 pub mod Turning
+pub mod Running

@@ -5,12 +5,15 @@
 //! engine or a stage. Its contract promises an answer of yes exactly where the history is lawful.
 #![tactic(auto)]
 
-ghost use Rattle.std.specs.Prelude.{◌≡◌, ◌↔◌, true, IsTrue, IfOk};
-ghost use Rattle.scenario_text.specs.Scenario.{World};
+ghost use Rattle.std.specs.Prelude.{◌≡◌, ◌↔◌, ℕ, ◌+◌, ◌≤◌, IsTrue, IfOk};
+ghost use Rattle.scenario_text.specs.Acts.{cost};
+ghost use Rattle.lawful_history.specs.Schedule.{events_of};
 ghost use Rattle.lawful_history.specs.History as history;
-ghost use Rattle.lawful_history.specs.History.{happens};
+ghost use Rattle.lawful_history.specs.History.{run};
 ghost use Rattle.lawful_history.specs.Sides.{world_of};
 ghost use Rattle.lawful_history.specs.Lawful.{IsLawful};
+ghost use Rattle.plain_history.specs.Events.{IsAct};
+ghost use Rattle.plain_history.specs.Moments.{IsMoment, GoesOn};
 
 mod devices;
 mod events;
@@ -41,10 +44,16 @@ fn read_act(
     lines: &[Line],
     moment: &mut Moment,
     act: &Act,
-) -> Result<bool, NoMemory> {
+) -> Result<bool, NoMemory>
+    requires act { IsAct (world_of scenario.now) act.now }
+    requires here { (count : ℕ) × (at : history.Moment) × IsMoment (world_of scenario.now) lines.now count at moment.old × (count + cost act.now ≤ 4000000) }
+    ensures { let world = world_of scenario.now in
+        IfOk result (λ yes. (count : ℕ) (at : history.Moment) → IsMoment world lines.now count at moment.old → GoesOn world lines.now (count + cost act.now) (run world (events_of act.now) at) moment.new yes) }
+{
     for _k in 0..act.cost() {
         let event = event_of(alloc, act)?;
-        if !moment.read(alloc, scenario, lines, event)? {
+        let goes_on = moment.read(alloc, scenario, lines, event)?;
+        if !goes_on {
             return Ok(false);
         }
     }
@@ -59,7 +68,8 @@ pub fn is_lawful(alloc: Global, scenario: Scenario, lines: &[Line]) -> Result<bo
     history_is_lawful();
     let mut moment = Moment::beginning(alloc, &scenario)?;
     for act in scenario.acts.items() {
-        if !read_act(alloc, &scenario, lines, &mut moment, act)? {
+        let goes_on = read_act(alloc, &scenario, lines, &mut moment, act)?;
+        if !goes_on {
             return Ok(false);
         }
     }

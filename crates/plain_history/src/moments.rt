@@ -1,9 +1,12 @@
 //! A moment of the history: how many of its lines were read, and where its peers are.
-ghost use Rattle.std.specs.Prelude.{◌≡◌, ℕ, ◌+◌, ◌<◌, IfOk, List};
+ghost use Rattle.std.specs.Prelude.{◌≡◌, ℕ, ◌+◌, ◌-◌, ◌<◌, ◌^◌, IfOk, List, length, slice_index_or};
 ghost use Rattle.lawful_history.specs.declared.line.Line as lines;
 ghost use Rattle.lawful_history.specs.Sides.{world_of};
 ghost use Rattle.lawful_history.specs.History as history;
 ghost use Rattle.lawful_history.specs.History.{happens, beginning};
+ghost use Rattle.lawful_history.specs.Schedule.{event_peer};
+ghost use Rattle.lawful_history.specs.Device.{losses_with};
+ghost use Rattle.plain_history.specs.Reading.{HasLosses};
 ghost use Rattle.plain_history.specs.Events.{event_seen, CanHappen};
 ghost use Rattle.plain_history.specs.Moments.{IsMoment, GoesOn};
 
@@ -21,6 +24,18 @@ pub struct Moment {
     pub read: usize,
     pub losses: [u64; 8],
     pub peers: Vec<Peer>,
+}
+
+/// One more interrupt is to be lost, where the event says so.
+fn count_loss(losses: &mut [u64; 8], event: &Event)
+    requires there { event_peer (event_seen event.now) < 8 }
+    requires few { (peer : ℕ) → slice_index_or losses.old peer 0 < 2 ^ 64 - 1 }
+    ensures losses { (lost : ℕ → ℕ) → HasLosses losses.old lost → HasLosses losses.new (losses_with (event_seen event.now) lost) }
+    ensures seats { length losses.new ≡ 8 }
+{
+    if let Event::Loses { peer } = event {
+        losses[*peer as usize] += 1;
+    }
 }
 
 impl Moment {
@@ -55,16 +70,15 @@ impl Moment {
         ensures { IfOk result (λ yes. (count : ℕ) (moment : history.Moment) → IsMoment (world_of scenario.now) lines.now count moment self.old →
             GoesOn (world_of scenario.now) lines.now (count + 1) (happens (world_of scenario.now) moment (event_seen event)) self.new yes) }
     {
-        let me = event.peer() as usize;
-        let loses = matches!(&event, Event::Loses { .. });
-        let peer = &mut self.peers[me];
-        let Some(read) = read_event(alloc, scenario, &self.losses, peer, event, lines, self.read)? else {
-            return Ok(false);
-        };
-        self.read = read;
-        if loses {
-            self.losses[me] += 1;
+        let losses = self.losses;
+        count_loss(&mut self.losses, &event);
+        let peer = &mut self.peers[event.peer() as usize];
+        match read_event(alloc, scenario, &losses, peer, event, lines, self.read)? {
+            Some(read) => {
+                self.read = read;
+                Ok(true)
+            }
+            None => Ok(false),
         }
-        Ok(true)
     }
 }

@@ -1,5 +1,5 @@
 use Rattle.std.proofs.Common.{◌≡◌, ℕ, ◌+◌, ◌∷◌, ◌++◌, arith, ap, sym, ◌∙◌, subst}
-use Rattle.std.specs.Prelude.{Option, Some, reverse}
+use Rattle.std.specs.Prelude.{Option, Some, IfOk, reverse}
 use Rattle.link_plain.specs.Seen.{access_seen}
 use Rattle.lawful_history.specs.declared.line.Line.{Line}
 use Rattle.lawful_history.specs.declared.line.Line.TheVariants as line
@@ -38,7 +38,9 @@ returns-in-Stormed c =
     (λ past lost most it reads told has stands. (reads, told, peer_wider (who_of world c.in-Stormed.peer) most (most + 2) c.storm.new.self (stormed it c.in-Stormed.seed) (omega arith) (c.storm.ensures (who_of world c.in-Stormed.peer) most it stands)))
 
 pub returns-in-Turned : goal.returns-in-Turned
-returns-in-Turned c = ?
+returns-in-Turned c =
+    let world = world_of c.args.scenario.now in
+    subst (λ (e : Event). IfOk c.read_turn.result (λ to. GoesBy world c.args.lines.now c.args.losses.now (event_seen e) c.args.read c.args.peer.now c.read_turn.new.peer to)) (sym c.in-Turned.is) c.read_turn.ensures
 
 pub returns-in-Acted : goal.returns-in-Acted
 returns-in-Acted c =

@@ -1,9 +1,7 @@
 -- The marks and the lines of a step, one behind the other.
-use Rattle.std.proofs.Common.{◌≡◌, ℕ, zero, suc, ◌+◌, ◌<◌, ◌≤◌, List, [], ◌∷◌, ◌++◌, length, take, drop, get_or, refl, sym, ap, ◌∙◌, arith, append_assoc, subst}
-use Rattle.std.specs.Prelude.{Option, Some, None, reverse, map}
+use Rattle.std.proofs.Common.{◌≡◌, ℕ, ◌+◌, ◌<◌, List, [], ◌∷◌, ◌++◌, length, take, drop, get_or, refl, sym, ap, ◌∙◌, subst}
+use Rattle.std.specs.Prelude.{Some, None, reverse, map}
 use Rattle.std.proofs.lemmas.List.{reverse-append, take_more, take-append-drop, map-append}
-use Rattle.doorbell_irq.specs.declared.effect.Delivery.{Delivery}
-use Rattle.doorbell_irq.specs.Events as device
 use Rattle.split_ring.specs.declared.steps.Access.{Access}
 use Rattle.split_ring.specs.declared.steps.Access.TheVariants as access
 use Rattle.scenario_text.specs.Scenario.{World}

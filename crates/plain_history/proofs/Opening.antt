@@ -1,6 +1,6 @@
 -- A call is opened, and its next step is taken.
-use Rattle.std.proofs.Common.{◌≡◌, ℕ, ◌+◌, ◌<◌, ◌≤◌, ◌^◌, Bool, true, false, List, [], ◌∷◌, length, get_or, remove, refl, sym, ap, ◌∙◌, arith, subst}
-use Rattle.std.specs.Prelude.{◌==◌, map}
+use Rattle.std.proofs.Common.{◌≡◌, ℕ, ◌+◌, ◌<◌, ◌≤◌, true, false, List, [], ◌∷◌, length, get_or, remove, refl, sym, ap, ◌∙◌, arith, subst}
+use Rattle.std.specs.Prelude.{map}
 use Rattle.link_handshake.specs.declared.Phase.{Phase}
 use Rattle.link_laws.specs.Automatic as laws
 use Rattle.link_laws.specs.Automatic.{choice_of}
@@ -17,11 +17,10 @@ use Rattle.link_plain.specs.Seen.{call_seen, IsSeenAs}
 use Rattle.link_plain.specs.Following.{HasCounted}
 use Rattle.lawful_history.specs.Peers as history
 use Rattle.lawful_history.specs.Peers.{with_choice, chosen, opened_by, opened, driver_behind, stepped}
-use Rattle.plain_history.specs.declared.peers.Auto.{Auto}
 use Rattle.plain_history.specs.declared.peers.Driver.{Driver}
 use Rattle.plain_history.specs.declared.peers.Driver.TheVariants.{Waits, Chooses, Storms}
 use Rattle.plain_history.specs.declared.peers.Peer.{Peer}
-use Rattle.plain_history.specs.Peers.{AreFew, IsFresh, HasFew, IsPeer, driver_seen, auto_seen}
+use Rattle.plain_history.specs.Peers.{AreFew, IsFresh, HasFew, IsPeer, driver_seen}
 use Rattle.plain_history.proofs.Counting.{marks_few, fresh_next, fresh_first, still_few}
 
 -- no more, where the bound is wider

@@ -1,6 +1,6 @@
 -- One line more, and lines that don't stand there.
-use Rattle.std.proofs.Common.{◌≡◌, ℕ, zero, suc, ◌+◌, ◌<◌, ◌≤◌, List, [], ◌∷◌, ◌++◌, length, take, drop, get_or, refl, sym, ap, ◌∙◌, arith, append_assoc, subst}
-use Rattle.std.specs.Prelude.{Option, Some, None, reverse}
+use Rattle.std.proofs.Common.{◌≡◌, ℕ, ◌+◌, ◌<◌, List, [], ◌∷◌, ◌++◌, length, take, get_or, sym, ap, ◌∙◌, append_assoc}
+use Rattle.std.specs.Prelude.{Some, None, reverse}
 use Rattle.std.proofs.lemmas.List.{reverse-append, reverse-reverse, take_more}
 use Rattle.lawful_history.specs.declared.line.Line.{Line}
 use Rattle.plain_history.specs.Reading.{Reads}

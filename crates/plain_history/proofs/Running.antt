@@ -1,22 +1,20 @@
 -- One event more, one act more, and the whole schedule.
-use Rattle.std.proofs.Common.{◌≡◌, ◌≢◌, ℕ, zero, suc, ◌+◌, ◌*◌, ◌/◌, ◌%◌, ◌<◌, ◌≤◌, ◌^◌, Bool, true, false, List, [], ◌∷◌, ◌++◌, length, get_or, take, drop, replicate, refl, sym, ◌∙◌, ap, subst, arith, length-set, append_assoc}
-use Rattle.std.specs.Prelude.{◌==◌, ◌&&◌, ◌||◌, nat_le, nat_lt, if◌then◌else◌, Option, Some, None, reverse, slice_get, slice_set, slice_index_or, sum_by}
+use Rattle.std.proofs.Common.{◌≡◌, ◌≢◌, ℕ, zero, suc, ◌+◌, ◌*◌, ◌<◌, ◌≤◌, ◌^◌, Bool, true, false, List, [], ◌∷◌, ◌++◌, length, get_or, take, drop, replicate, refl, sym, ◌∙◌, ap, subst, arith, length-set}
+use Rattle.std.specs.Prelude.{◌==◌, nat_lt, if◌then◌else◌, Some, None, slice_get, slice_set}
 use Rattle.std.specs.List.{AllByRecursion}
 use Rattle.std.proofs.lemmas.Bool.Decides.{nat_tests}
 use Rattle.std.proofs.lemmas.Option.{slice_get-get_or, slice_get_within, same_Some}
-use Rattle.std.proofs.lemmas.List.{reverse-append, reverse-reverse, append-nil, take_more, take_all, take-append-drop, get_or-set_same, get_or-set_other, get_or-replicate, length-append, length-replicate, length-take}
+use Rattle.std.proofs.lemmas.List.{append-nil, take_more, take_all, take-append-drop, get_or-set_same, get_or-set_other, get_or-replicate, length-replicate, length-take}
 use Rattle.std.proofs.lemmas.List.Concat.{flat_map-append}
 use Rattle.std.proofs.lemmas.List.Sums.{sum_by_push, sum_by-take-le}
 use Rattle.pci_space.specs.Fields.{is_access}
-use Rattle.split_ring.specs.declared.steps.Access.TheVariants as access
 use Rattle.scenario_text.specs.declared.acts.Act.{Act}
 use Rattle.scenario_text.specs.declared.acts.Act.TheVariants as act
 use Rattle.scenario_text.specs.Acts.{cost, turns_of}
-use Rattle.scenario_text.specs.ActRows.{row_of_act}
-use Rattle.scenario_text.specs.Scenario.{World, IsWorld, IsAllowed, is_aligned}
+use Rattle.scenario_text.specs.Scenario.{World, IsWorld, is_aligned}
 use Rattle.link_laws.specs.Calls.{Who}
 use Rattle.lawful_history.specs.declared.line.Line.{Line}
-use Rattle.lawful_history.specs.Schedule.{Event, Asked, Automated, Stormed, Turned, Acted, WasReset, Reached, Loses, Repeated, WritesRegister, event_peer, register_event, events_of, schedule}
+use Rattle.lawful_history.specs.Schedule.{Event, Asked, Automated, Stormed, Turned, Acted, WasReset, Reached, Loses, Repeated, event_peer, register_event, events_of, schedule}
 use Rattle.lawful_history.specs.Given.{IsThere}
 use Rattle.lawful_history.specs.Sides.{who_of}
 use Rattle.lawful_history.specs.Device.{losses_with}
@@ -31,7 +29,7 @@ use Rattle.plain_history.specs.declared.moments.Moment as plain
 use Rattle.plain_history.specs.Reading.{Reads, HasLosses}
 use Rattle.plain_history.specs.Told.{AreTold}
 use Rattle.plain_history.specs.Peers.{IsPeer}
-use Rattle.plain_history.specs.Events.{IsAct, Fits, CanHappen}
+use Rattle.plain_history.specs.Events.{IsAct, CanHappen}
 use Rattle.plain_history.specs.Moments.{IsMoment}
 use Rattle.plain_history.proofs.Reading.{none_more}
 use Rattle.plain_history.proofs.Opening.{peer_wider}

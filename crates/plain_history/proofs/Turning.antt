@@ -1,14 +1,14 @@
 -- A step of an open call, or of its own accord, is that of the history.
 use Rattle.std.proofs.Common.{◌≡◌, ℕ, ◌+◌, ◌<◌, ◌≤◌, ◌^◌, Bool, true, false, List, [], ◌∷◌, ◌++◌, refl, sym, ap, ◌∙◌, subst, arith}
-use Rattle.std.specs.Prelude.{Option, Some, None, reverse, map, if◌then◌else◌}
+use Rattle.std.specs.Prelude.{Option, Some, None, reverse}
 use Rattle.split_ring.specs.declared.steps.Access.{Access}
 use Rattle.split_ring.specs.declared.steps.Access.TheVariants as access
 use Rattle.scenario_text.specs.Scenario.{World}
-use Rattle.link_laws.specs.Steps.{Mark, Step, value_given, step_of}
+use Rattle.link_laws.specs.Steps.{Step, value_given, step_of}
 use Rattle.link_laws.specs.Trees.{CallTree, Ended, Does, Goes}
 use Rattle.link_laws.specs.Trees as trees
 use Rattle.link_laws.specs.Calls.{Who}
-use Rattle.link_laws.specs.Places.{Place, Closed, AtState, Clearing, Setting, Refusing, Downed, AtUsedIndex, AtUsedId, Filling, WritingLow, WritingHigh, WritingLength, WritingFlags, WritingEntry, WritingIndex, RingingOffer, AtAvailIndex, AtEntry, AtLow, AtHigh, AtLength, AtFlags, AtWord, GivingId, GivingLength, GivingIndex, RingingPoll, remaining, access_at, marks_at, next_place, step_at, is_open, PlacesFollowTrees}
+use Rattle.link_laws.specs.Places.{Place, Closed, AtState, Clearing, Setting, Refusing, Downed, AtUsedIndex, AtUsedId, Filling, WritingLow, WritingHigh, WritingLength, WritingFlags, WritingEntry, WritingIndex, RingingOffer, AtAvailIndex, AtEntry, AtLow, AtHigh, AtLength, AtFlags, AtWord, GivingId, GivingLength, GivingIndex, RingingPoll, remaining, access_at, next_place, step_at, is_open, PlacesFollowTrees}
 use Rattle.lawful_history.specs.declared.line.Line.{Line}
 use Rattle.lawful_history.specs.Memory.{last_write}
 use Rattle.lawful_history.specs.Peers.{Driver, Peer, stepped}
@@ -20,9 +20,8 @@ use Rattle.std.proofs.Common.{inl, inr, ◌⊎◌}
 use Rattle.std.proofs.lemmas.Bool.Decides.{nat_tests}
 use Rattle.lawful_history.specs.declared.line.Line.TheVariants as line
 use Rattle.lawful_history.specs.Storm.{storm_step, storm_behind}
-use Rattle.lawful_history.specs.Sides.{who_of}
 use Rattle.lawful_history.specs.Entries.{denied_lines, acted_lines, step_lines, turn_lines}
-use Rattle.lawful_history.specs.Peers.{Waits, Chooses, Storms}
+use Rattle.lawful_history.specs.Peers.{Storms}
 use Rattle.lawful_history.specs.Device.{step_interrupts}
 use Rattle.lawful_history.specs.History.{driven_step, driven, moved, may_write, acted_step}
 use Rattle.plain_history.specs.declared.peers.Peer as plain

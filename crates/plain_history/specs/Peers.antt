@@ -1,5 +1,5 @@
 -- How the peers of this crate are seen: as the peers of a history.
-use Rattle.std.specs.Prelude.{ℕ, ◌≡◌, ◌+◌, ◌≤◌, ◌<◌, ◌^◌, List, [], ◌∷◌, map}
+use Rattle.std.specs.Prelude.{ℕ, ◌≡◌, ◌≤◌, map}
 use Rattle.link_laws.specs.Automatic as laws
 use Rattle.link_laws.specs.Calls.{Who}
 use Rattle.link_laws.specs.Places.{Place, AtUsedIndex, remaining}

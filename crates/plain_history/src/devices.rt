@@ -73,7 +73,12 @@ pub fn devices_behind(scenario: &Scenario, lines: &[Line]) -> Device
 }
 
 /// Whom an access of a peer interrupts behind these lines.
-pub fn interrupted_by(scenario: &Scenario, me: u32, access: Access, lines: &[Line]) -> ArrayVec<Delivery, 8>
+pub fn interrupted_by(
+    scenario: &Scenario,
+    me: u32,
+    access: Access,
+    lines: &[Line],
+) -> ArrayVec<Delivery, 8>
     requires peer { me < scenario.now.geometry.peers }
     requires fits { FitsDoorbell (access_seen access) }
     requires told { AreTold scenario.now.geometry.peers (reverse lines.now) }

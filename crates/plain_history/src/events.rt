@@ -149,7 +149,10 @@ pub fn event_of(alloc: Global, act: &Act) -> Result<Event, NoMemory>
             *peer,
             DeviceAccess::ReadsRegister { offset: *offset },
         ),
-        Act::MsixRead { peer, offset } => reached(*peer, DeviceAccess::ReadsMsix { offset: *offset }),
+        Act::MsixRead { peer, offset } => reached(
+            *peer,
+            DeviceAccess::ReadsMsix { offset: *offset },
+        ),
         Act::MsixWrite {
             peer,
             offset,

@@ -30,7 +30,12 @@ fn lost_count(lines: &[Line], peer: u32) -> u64
 }
 
 /// Reads the line of one interrupt, which is lost on its way where fewer were lost at its peer than are to be.
-fn read_arrival(losses: &[u64; 8], lines: &[Line], read: usize, delivery: &Delivery) -> Option<usize>
+fn read_arrival(
+    losses: &[u64; 8],
+    lines: &[Line],
+    read: usize,
+    delivery: &Delivery,
+) -> Option<usize>
     requires { read ≤ length lines.now }
     ensures reads { (past : List Line) (lost : ℕ → ℕ) → Reads lines.now past (Some read) → HasLosses losses.now lost → Reads lines.now (arrival past lost delivery.now ∷ past) result }
     ensures within { IfSome result (λ at. at ≤ length lines.now) }
@@ -46,7 +51,12 @@ fn read_arrival(losses: &[u64; 8], lines: &[Line], read: usize, delivery: &Deliv
 }
 
 /// Reads the lines of interrupts, one behind the other.
-pub fn read_arrivals(losses: &[u64; 8], lines: &[Line], read: usize, deliveries: &[Delivery]) -> Option<usize>
+pub fn read_arrivals(
+    losses: &[u64; 8],
+    lines: &[Line],
+    read: usize,
+    deliveries: &[Delivery],
+) -> Option<usize>
     requires { read ≤ length lines.now }
     ensures { (past : List Line) (lost : ℕ → ℕ) → Reads lines.now past (Some read) → HasLosses losses.now lost → Reads lines.now (reverse (arrived past lost deliveries.now) ++ past) result }
 {

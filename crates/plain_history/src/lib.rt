@@ -36,6 +36,8 @@ use std::alloc::Global;
 
 #[cfg(test)]
 mod tests;
+#[cfg(test)]
+mod worked;
 
 /// Reads the lines of an act. False where they don't stand there.
 fn read_act(

@@ -199,7 +199,13 @@ impl Peer {
     }
 
     /// Opens a call of a round.
-    fn begin_in(&mut self, alloc: Global, who: &Who, call: &Call, round: Round) -> Result<(), NoMemory>
+    fn begin_in(
+        &mut self,
+        alloc: Global,
+        who: &Who,
+        call: &Call,
+        round: Round,
+    ) -> Result<(), NoMemory>
         ensures { OnOk result ((most : ℕ) (peer : history.Peer) (auto : history.Auto) → peer.driver ≡ history.Chooses auto → IsPeer (who_seen who.now) most self.old peer →
             IsPeer (who_seen who.now) most self.new (record peer { left = tree_of (who_seen who.now) peer.end (call_seen call.now); driver = history.Chooses (record auto { round = round_seen round }) })) }
     {
@@ -257,7 +263,13 @@ impl Peer {
     }
 
     /// The peer takes the next step of its open call.
-    pub fn follow(&mut self, alloc: Global, who: &Who, step: &Step, met: u32) -> Result<(), NoMemory>
+    pub fn follow(
+        &mut self,
+        alloc: Global,
+        who: &Who,
+        step: &Step,
+        met: u32,
+    ) -> Result<(), NoMemory>
         requires next { step_seen step.now ≡ step_at (who_seen who.now) self.old.call met }
         requires storable { IsStorable (step_seen step.now).access }
         requires few { (most : ℕ) × (peer : history.Peer) × IsPeer (who_seen who.now) most self.old peer × (most + 2 < 2 ^ 32) }

@@ -86,9 +86,7 @@ fn is_marked(me: u32, mark: &Mark, line: &Line) -> bool
             Mark::Deliver(delivered) => *peer == me && frame == delivered,
             _ => false,
         },
-        Line::Refuse { peer, refused } => {
-            *peer == me && mark.is(&Mark::Refuse(*refused))
-        }
+        Line::Refuse { peer, refused } => { *peer == me && mark.is(&Mark::Refuse(*refused)) }
         _ => false,
     }
 }

@@ -49,8 +49,8 @@ fn read_call(
     requires told { (past : List Line) × Reads lines.now past (Some read) × AreTold scenario.now.geometry.peers past }
     ensures { let world = world_of scenario.now in
         IfOk result (λ at. (past : List Line) (lost : ℕ → ℕ) (most : ℕ) (it : history.Peer) → Reads lines.now past (Some read) → AreTold world.geometry.peers past → HasLosses losses.now lost →
-            IsPeer (who_seen who.now) most peer.old it → GoesTo world lines.now (reverse (turn_lines me (step_by world me it.driver it.left past) (step_interrupts world past lost me (step_by world me it.driver it.left past))) ++ past)
-            (who_seen who.now) (most + 2) (moved it past) peer.new at) }
+        IsPeer (who_seen who.now) most peer.old it → GoesTo world lines.now (reverse (turn_lines me (step_by world me it.driver it.left past) (step_interrupts world past lost me (step_by world me it.driver it.left past))) ++ past)
+        (who_seen who.now) (most + 2) (moved it past) peer.new at) }
 {
     places_follow_trees();
     let met = met_by(peer.call.access(who), &lines[..read]);
@@ -76,8 +76,8 @@ fn read_driver(
     requires told { (past : List Line) × Reads lines.now past (Some read) × AreTold scenario.now.geometry.peers past }
     ensures { let world = world_of scenario.now in
         (past : List Line) (lost : ℕ → ℕ) (who : laws.Who) (most : ℕ) (it : history.Peer) → Reads lines.now past (Some read) → AreTold world.geometry.peers past → HasLosses losses.now lost →
-            IsPeer who most peer.old it → GoesTo world lines.now (reverse (turn_lines me (driven_step world me it.driver) (step_interrupts world past lost me (driven_step world me it.driver))) ++ past)
-            who most (driven it it.driver) peer.new result }
+        IsPeer who most peer.old it → GoesTo world lines.now (reverse (turn_lines me (driven_step world me it.driver) (step_interrupts world past lost me (driven_step world me it.driver))) ++ past)
+        who most (driven it it.driver) peer.new result }
 {
     match &mut peer.driver {
         Driver::Storms(x) => {
@@ -104,8 +104,8 @@ fn read_turn(
     requires told { (past : List Line) × Reads lines.now past (Some read) × AreTold scenario.now.geometry.peers past }
     ensures { let world = world_of scenario.now in
         IfOk result (λ at. (past : List Line) (lost : ℕ → ℕ) (most : ℕ) (it : history.Peer) → Reads lines.now past (Some read) → AreTold world.geometry.peers past → HasLosses losses.now lost →
-            IsPeer (who_of world me) most peer.old it → GoesTo world lines.now (reverse (turn_lines me (turn_step world me it past) (step_interrupts world past lost me (turn_step world me it past))) ++ past)
-            (who_of world me) (most + 2) (turned world me it past) peer.new at) }
+        IsPeer (who_of world me) most peer.old it → GoesTo world lines.now (reverse (turn_lines me (turn_step world me it past) (step_interrupts world past lost me (turn_step world me it past))) ++ past)
+        (who_of world me) (most + 2) (turned world me it past) peer.new at) }
 {
     let who = who_of(scenario, me);
     peer.open_next(alloc, &who)?;
@@ -150,7 +150,7 @@ fn read_access_of(
     requires told { (past : List Line) × Reads lines.now past (Some read) × AreTold scenario.now.geometry.peers past }
     ensures { let world = world_of scenario.now in let a = access_seen access in
         (past : List Line) (lost : ℕ → ℕ) → Reads lines.now past (Some read) → HasLosses losses.now lost →
-            Reads lines.now (reverse (acted_lines me a (acted_step world me a past) (step_interrupts world past lost me (acted_step world me a past))) ++ past) result }
+        Reads lines.now (reverse (acted_lines me a (acted_step world me a past) (step_interrupts world past lost me (acted_step world me a past))) ++ past) result }
 {
     if let Some(word) = denied_word(scenario, me, access) {
         return read_line(lines, read, &Line::Denied { peer: me, word });

@@ -1,4 +1,4 @@
-use Rattle.std.proofs.Common.{rules, ◌≡◌, ℕ, ◌+◌, ◌≤◌, Bool, true, false, List, length, take, arith, sym, ap, ◌∙◌, subst}
+use Rattle.std.proofs.Common.{rules, ◌≡◌, ◌+◌, Bool, true, false, List, length, take, arith, sym, ap, subst}
 use Rattle.std.specs.Prelude.{None, IsTrue, ◌==◌}
 use Rattle.lawful_history.proofs.Owners.{is_same, same_test}
 use Rattle.scenario_text.specs.Acts.{cost, turns_of}

@@ -1,7 +1,7 @@
-use Rattle.std.proofs.Common.{rules, ◌≡◌, ℕ, ◌+◌, ◌<◌, ◌≤◌, Bool, true, false, take, arith, sym, subst}
+use Rattle.std.proofs.Common.{rules, ◌≡◌, ◌+◌, ◌<◌, Bool, true, false, take, arith, sym, subst}
 use Rattle.std.specs.Prelude.{None}
 use Rattle.scenario_text.specs.Acts.{cost}
-use Rattle.lawful_history.specs.Schedule.{Event, events_of}
+use Rattle.lawful_history.specs.Schedule.{events_of}
 use Rattle.lawful_history.specs.Sides.{world_of}
 use Rattle.lawful_history.specs.History as history
 use Rattle.lawful_history.specs.History.{run, happens}
@@ -51,11 +51,11 @@ loop-k-preserved c =
     record {
       within = omega arith;
       here = λ count at is.
-        let before = run world (take k (events_of act)) at in
-        let next = subst (λ (b : Bool). GoesOn world lines (count + k + 1) (happens world before e) c.read.new.self b) yes (c.in_ok-goes_on.ensures (count + k) before (c.loop-k.invariant.here count at is)) in
-        let same : count + k + 1 ≡ count + (k + 1) = omega arith in
-        subst (λ (m : history.Moment). IsMoment world lines (count + (k + 1)) m c.read.new.self) (sym (one_event world act e k at c.in_ok-event.ensures inside))
-        (subst (λ n. IsMoment world lines n (happens world before e) c.read.new.self) same next);
+          let before = run world (take k (events_of act)) at in
+          let next = subst (λ (b : Bool). GoesOn world lines (count + k + 1) (happens world before e) c.read.new.self b) yes (c.in_ok-goes_on.ensures (count + k) before (c.loop-k.invariant.here count at is)) in
+          let same : count + k + 1 ≡ count + (k + 1) = omega arith in
+          subst (λ (m : history.Moment). IsMoment world lines (count + (k + 1)) m c.read.new.self) (sym (one_event world act e k at c.in_ok-event.ensures inside))
+          (subst (λ n. IsMoment world lines n (happens world before e) c.read.new.self) same next);
     }
 
 pub returns : goal.returns

@@ -19,6 +19,6 @@ loop-line-preserved c =
     let i = c.loop-line.line-index in
     record {
       stands = subst (λ (ls : List Line). Stands (devices_of world) (device_events ls) c.tell.new.devices) (sym (newest c.args.lines.now i c.line-item.result c.loop-line-test.true (search rules)))
-        (c.tell.ensures.stands (devices_of world) (device_events (reverse (take i c.args.lines.now))) c.loop-line.invariant.stands);
+          (c.tell.ensures.stands (devices_of world) (device_events (reverse (take i c.args.lines.now))) c.loop-line.invariant.stands);
       peers = c.tell.ensures.peers ∙ c.loop-line.invariant.peers;
     }

@@ -1,4 +1,4 @@
-use Rattle.std.proofs.Common.{rules, List, subst, sym}
+use Rattle.std.proofs.Common.{rules, subst, sym}
 use Rattle.doorbell_irq.specs.Stands.{Stands}
 use Rattle.doorbell_irq.proofs.EntryWrites.{on_ok}
 use Rattle.lawful_history.specs.declared.line.Line.{Line}

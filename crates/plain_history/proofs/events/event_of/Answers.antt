@@ -5,7 +5,7 @@ use Rattle.plain_history.proofs.events.event_of.Goals.{in-Tick, in-Offer+in_ok-o
 pub returns : goal.returns
 returns c =
     elim c.match-act.branch [
-      in-Tick w ↦ rw (w.in-Tick.is, w.result-is, w.asked.ensures) refl
+      | in-Tick w ↦ rw (w.in-Tick.is, w.result-is, w.asked.ensures) refl
       | in-Offer+in_ok-of-in-Offer w ↦ rw (w.in-Offer.is, w.result-is, w.asked-in-Offer.ensures, w.in_ok-of-in-Offer.ensures, w.bytes.ensures) refl
       | in-Poll w ↦ rw (w.in-Poll.is, w.result-is, w.asked-in-Poll.ensures) refl
       | in-Stop w ↦ rw (w.in-Stop.is, w.result-is, w.asked-in-Stop.ensures) refl

@@ -1,5 +1,5 @@
-use Rattle.std.proofs.Common.{rules, ℕ, List, ◌++◌, ◌+◌, take, arith, subst, sym}
-use Rattle.std.specs.Prelude.{Option, Some, None, reverse}
+use Rattle.std.proofs.Common.{rules, List, ◌++◌, ◌+◌, take, arith, subst, sym}
+use Rattle.std.specs.Prelude.{Some, None, reverse}
 use Rattle.std.proofs.lemmas.List.{take_all}
 use Rattle.doorbell_irq.specs.declared.effect.Delivery.{Delivery}
 use Rattle.lawful_history.specs.declared.line.Line.{Line}
@@ -22,8 +22,8 @@ loop-delivery-preserved c =
     let ds = c.args.deliveries.now in
     record {
       reads = λ past lost reads has.
-        subst (λ (ls : List Line). Reads c.args.lines.now ls (Some c.in-Some.next)) (sym (one_arrived past lost ds i _ c.loop-delivery-test.true (search rules)))
-        (c.in-Some.ensures.reads (reverse (arrived past lost (take i ds)) ++ past) lost (c.loop-delivery.invariant.reads past lost reads has) has);
+          subst (λ (ls : List Line). Reads c.args.lines.now ls (Some c.in-Some.next)) (sym (one_arrived past lost ds i _ c.loop-delivery-test.true (search rules)))
+          (c.in-Some.ensures.reads (reverse (arrived past lost (take i ds)) ++ past) lost (c.loop-delivery.invariant.reads past lost reads has) has);
       within = c.in-Some.ensures.within;
     }
 

@@ -1,5 +1,5 @@
 use Rattle.std.proofs.Common.{◌≡◌, List, ◌++◌, subst, sym, ap, ◌∙◌}
-use Rattle.std.specs.Prelude.{Option, None, reverse, map}
+use Rattle.std.specs.Prelude.{None, reverse, map}
 use Rattle.doorbell_irq.specs.declared.effect.Delivery.{Delivery}
 use Rattle.link_plain.specs.Seen.{step_seen}
 use Rattle.lawful_history.specs.declared.line.Line.{Line}

@@ -1,12 +1,10 @@
-use Rattle.std.proofs.Common.{◌≡◌, ◌+◌, ◌++◌, List, ap, sym, ◌∙◌, subst}
-use Rattle.std.specs.Prelude.{Option, Some, None, reverse}
+use Rattle.std.proofs.Common.{◌+◌, List, sym, subst}
+use Rattle.std.specs.Prelude.{Some, None}
 use Rattle.split_ring.specs.declared.steps.Access.{Access}
 use Rattle.link_laws.specs.Steps.{Step}
-use Rattle.link_laws.specs.Places.{access_at, next_place, remaining}
 use Rattle.link_plain.specs.Seen.{who_seen, access_seen, step_seen}
 use Rattle.lawful_history.specs.declared.line.Line.{Line}
 use Rattle.lawful_history.specs.Sides.{world_of}
-use Rattle.lawful_history.specs.Peers.{stepped}
 use Rattle.plain_history.specs.Reading.{Meets}
 use Rattle.plain_history.specs.Told.{FitsDoorbell}
 use Rattle.plain_history.proofs.Reading.{past_is}

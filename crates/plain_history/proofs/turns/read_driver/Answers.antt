@@ -1,4 +1,4 @@
-use Rattle.std.proofs.Common.{◌≡◌, ap, sym, ◌∙◌, ◌++◌, subst}
+use Rattle.std.proofs.Common.{◌≡◌, ap, sym, ◌∙◌, ◌++◌}
 use Rattle.std.specs.Prelude.{Some, reverse}
 use Rattle.link_plain.specs.Seen.{step_seen}
 use Rattle.lawful_history.specs.Sides.{world_of}
@@ -7,7 +7,6 @@ use Rattle.lawful_history.specs.Entries.{step_lines}
 use Rattle.lawful_history.specs.Device.{step_interrupts}
 use Rattle.lawful_history.specs.Peers as history
 use Rattle.plain_history.specs.declared.peers.Driver.{Driver}
-use Rattle.plain_history.specs.declared.peers.Driver.TheVariants.{Storms}
 use Rattle.plain_history.specs.Peers.{driver_seen}
 use Rattle.plain_history.proofs.Telling.{step_told}
 use Rattle.plain_history.proofs.Turning.{storm_goes, goes_to}

@@ -1,5 +1,5 @@
-use Rattle.std.proofs.Common.{◌≡◌, ℕ, ◌+◌, ◌∷◌, ◌++◌, arith, ap, sym, ◌∙◌, subst}
-use Rattle.std.specs.Prelude.{Option, Some, IfOk, reverse}
+use Rattle.std.proofs.Common.{◌+◌, ◌∷◌, ◌++◌, arith, ap, sym, ◌∙◌, subst}
+use Rattle.std.specs.Prelude.{Some, IfOk, reverse}
 use Rattle.link_plain.specs.Seen.{access_seen}
 use Rattle.lawful_history.specs.declared.line.Line.{Line}
 use Rattle.lawful_history.specs.declared.line.Line.TheVariants as line
@@ -50,7 +50,7 @@ returns-in-Acted c =
     let can = subst (λ (e : Event). CanHappen world (event_seen e)) c.in-Acted.is c.requires.can in
     subst (λ (e : Event). GoesBy world c.args.lines.now c.args.losses.now (event_seen e) c.args.read c.args.peer.now c.args.peer.now c.read_access_of.result) (sym c.in-Acted.is)
     (λ past lost most it reads told has stands. (goes_to world c.args.lines.now (reverse (acted_lines me a (acted_step world me a past) (step_interrupts world past lost me (acted_step world me a past))) ++ past) (who_of world me) (most + 2) it c.args.peer.now c.read_access_of.result
-      (c.read_access_of.ensures past lost reads has) (acted_told world me past lost a can.peer can.fits.0 told) (peer_wider (who_of world me) most (most + 2) c.args.peer.now it (omega arith) stands)))
+    (c.read_access_of.ensures past lost reads has) (acted_told world me past lost a can.peer can.fits.0 told) (peer_wider (who_of world me) most (most + 2) c.args.peer.now it (omega arith) stands)))
 
 pub returns-in-WasReset : goal.returns-in-WasReset
 returns-in-WasReset c =
@@ -59,7 +59,7 @@ returns-in-WasReset c =
     let can = subst (λ (e : Event). CanHappen world (event_seen e)) c.in-WasReset.is c.requires.can in
     subst (λ (e : Event). GoesBy world c.args.lines.now c.args.losses.now (event_seen e) c.args.read c.args.peer.now c.reset.new.self c.read_reset.result) (sym c.in-WasReset.is)
     (λ past lost most it reads told has stands. (goes_to world c.args.lines.now (reverse (line.Reset me ∷ arrivals world past lost (line.Reset me)) ++ past) (who_of world me) (most + 2) (was_reset it) c.reset.new.self c.read_reset.result
-      (c.read_reset.ensures past lost reads has) (reset_told world me past lost can.peer told) (peer_wider (who_of world me) most (most + 2) c.reset.new.self (was_reset it) (omega arith) (c.reset.ensures (who_of world me) most it stands))))
+    (c.read_reset.ensures past lost reads has) (reset_told world me past lost can.peer told) (peer_wider (who_of world me) most (most + 2) c.reset.new.self (was_reset it) (omega arith) (c.reset.ensures (who_of world me) most it stands))))
 
 pub returns-in-Reached : goal.returns-in-Reached
 returns-in-Reached c =
@@ -69,7 +69,7 @@ returns-in-Reached c =
     let can = subst (λ (e : Event). CanHappen world (event_seen e)) c.in-Reached.is c.requires.can in
     subst (λ (e : Event). GoesBy world c.args.lines.now c.args.losses.now (event_seen e) c.args.read c.args.peer.now c.args.peer.now c.read_line.result) (sym c.in-Reached.is)
     (λ past lost most it reads told has stands.
-      let line_is = c.reached_line-line.ensures ∙ ap (λ ls. reached_line world ls me a) (past_is c.args.lines.now past c.args.read reads) in
-      goes_to world c.args.lines.now (reached_line world past me a ∷ past) (who_of world me) (most + 2) it c.args.peer.now c.read_line.result
-      (subst (λ (l : Line). Reads c.args.lines.now (l ∷ past) c.read_line.result) line_is (c.read_line.ensures.reads past reads)) (reached_told world me past a can.peer can.fits, told)
-      (peer_wider (who_of world me) most (most + 2) c.args.peer.now it (omega arith) stands))
+    let line_is = c.reached_line-line.ensures ∙ ap (λ ls. reached_line world ls me a) (past_is c.args.lines.now past c.args.read reads) in
+    goes_to world c.args.lines.now (reached_line world past me a ∷ past) (who_of world me) (most + 2) it c.args.peer.now c.read_line.result
+    (subst (λ (l : Line). Reads c.args.lines.now (l ∷ past) c.read_line.result) line_is (c.read_line.ensures.reads past reads)) (reached_told world me past a can.peer can.fits, told)
+    (peer_wider (who_of world me) most (most + 2) c.args.peer.now it (omega arith) stands))

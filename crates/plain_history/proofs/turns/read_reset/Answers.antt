@@ -1,5 +1,5 @@
 use Rattle.std.proofs.Common.{List, [], ◌∷◌, ◌++◌, ap, sym, ◌∙◌, subst}
-use Rattle.std.specs.Prelude.{None, Some, reverse}
+use Rattle.std.specs.Prelude.{Some, reverse}
 use Rattle.doorbell_irq.specs.declared.effect.Delivery.{Delivery}
 use Rattle.doorbell_irq.specs.Events as device
 use Rattle.lawful_history.specs.declared.line.Line.{Line}
@@ -8,7 +8,7 @@ use Rattle.lawful_history.specs.Sides.{world_of}
 use Rattle.lawful_history.specs.Device.{devices_of, device_events, arrived, arrivals}
 use Rattle.plain_history.specs.Reading.{Reads}
 use Rattle.plain_history.specs.Told.{brought}
-use Rattle.plain_history.proofs.Reading.{behind, none_more, past_is}
+use Rattle.plain_history.proofs.Reading.{behind, past_is}
 use Rattle.plain_history.proofs.turns.read_reset.Goals as goal
 
 pub returns : goal.returns

@@ -1,8 +1,8 @@
-use Rattle.std.proofs.Common.{◌≡◌, ◌+◌, ◌≤◌, length, take, drop}
+use Rattle.std.proofs.Common.{take}
 use Rattle.link_laws.specs.Ends as ends
 use Rattle.link_laws.specs.Ends.{noted_all}
 use Rattle.link_plain.specs.Seen.{marks_seen, IsSeenAs}
-use Rattle.link_plain.specs.Following.{HasCounted, freed_in}
+use Rattle.link_plain.specs.Following.{HasCounted}
 use Rattle.link_plain.proofs.ends.End.note_all.Given as goal
 
 abbrev pub invariant-loop-mark : goal.invariant-loop-mark

@@ -1,4 +1,4 @@
-use Rattle.std.proofs.Common.{rules, ◌≡◌, ℕ, ◌+◌, List, [], ◌∷◌, ◌++◌, length, arith, refl, ap, ◌∙◌, subst, length-append}
+use Rattle.std.proofs.Common.{◌≡◌, ℕ, ◌+◌, List, [], ◌∷◌, ◌++◌, length, arith, refl, ap, ◌∙◌, subst, length-append}
 use Rattle.std.specs.Prelude.{Some, slice_get}
 use Rattle.link_laws.specs.Calls.{Who}
 use Rattle.lawful_history.specs.Peers.{at_start}

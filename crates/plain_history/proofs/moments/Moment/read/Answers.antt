@@ -1,5 +1,5 @@
-use Rattle.std.proofs.Common.{rules, ◌≡◌, ℕ, ◌+◌, ◌*◌, ◌<◌, ◌++◌, length, get_or, arith, ap, subst}
-use Rattle.std.specs.Prelude.{Option, Some, None, reverse, slice_set}
+use Rattle.std.proofs.Common.{◌≡◌, ℕ, ◌+◌, ◌*◌, get_or, arith, ap, subst}
+use Rattle.std.specs.Prelude.{Option, slice_set}
 use Rattle.lawful_history.specs.Schedule.{event_peer}
 use Rattle.lawful_history.specs.Sides.{world_of, who_of}
 use Rattle.lawful_history.specs.History.{peer_at, peer_behind, happens}

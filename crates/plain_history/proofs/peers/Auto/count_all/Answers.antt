@@ -11,6 +11,6 @@ loop-mark-preserved c =
     let here = c.count.ensures.few in
     record {
       counted = c.count.ensures.counted ∙ ap (λ a. counted a (mark_seen c.mark-item.result)) c.loop-mark.invariant.counted
-        ∙ sym (one_count (auto_seen c.args.self.now) c.args.marks.now c.loop-mark.mark-index c.mark-item.result c.loop-mark-test.true (search rules));
+          ∙ sym (one_count (auto_seen c.args.self.now) c.args.marks.now c.loop-mark.mark-index c.mark-item.result c.loop-mark-test.true (search rules));
       few = omega arith;
     }

@@ -4,7 +4,6 @@ use Rattle.link_plain.specs.Seen.{who_seen}
 use Rattle.lawful_history.specs.Peers as history
 use Rattle.lawful_history.specs.Peers.{chosen}
 use Rattle.plain_history.specs.declared.peers.Driver.{Driver}
-use Rattle.plain_history.specs.declared.peers.Choice.{Choice}
 use Rattle.plain_history.specs.Peers.{IsPeer, auto_seen, driver_seen, choice_seen}
 use Rattle.plain_history.proofs.Opening.{chosen_as}
 use Rattle.plain_history.proofs.peers.Peer.choose.Goals as goal

@@ -1,11 +1,8 @@
 use Rattle.std.proofs.Common.{◌≡◌, ◌+◌, ℕ, List, length, ap, sym, ◌∙◌, subst}
-use Rattle.link_laws.specs.Steps as laws
 use Rattle.link_plain.specs.declared.steps.Mark.{Mark}
-use Rattle.link_plain.specs.declared.ends.End.{End}
 use Rattle.link_plain.specs.Seen.{who_seen, marks_seen, step_seen}
 use Rattle.lawful_history.specs.Peers.{driver_behind}
 use Rattle.plain_history.specs.Peers.{HasFew, driver_seen}
-use Rattle.plain_history.specs.declared.peers.Driver.{Driver}
 use Rattle.std.proofs.lemmas.List.{length-map}
 use Rattle.link_plain.specs.Seen.{mark_seen}
 use Rattle.link_laws.specs.Places.{Place, next_place}

@@ -19,8 +19,7 @@ const BOTH_RUN: &str =
     "tick 0\ntick 1\nturn 0 2\nturn 1 2\ntick 0\ntick 1\nturn 0 4098\nturn 1 4098\ntick 0\ntick 1\nturn 0 2\nturn 1 2\n";
 
 /// Peer 0 goes on to RUN, beside a peer 1 that writes its State by hand.
-const ONE_RUNS: &str =
-    "tick 0\nturn 0 2\nset 1 2\ntick 0\nturn 0 4098\ntick 0\nturn 0 2\n";
+const ONE_RUNS: &str = "tick 0\nturn 0 2\nset 1 2\ntick 0\nturn 0 4098\ntick 0\nturn 0 2\n";
 
 /// A frame of 14 bytes.
 const FRAME: &str = "ffffffffffff0200000000010800";
@@ -37,12 +36,15 @@ enum Part<'a> {
 /// The lines of `BOTH_RUN`, without those of the sections: at its beginning, between the two, and at its end.
 const FIRST: &str =
     "r 0 1 0\nsaw 0 0\ns 0 1\nover 0\nr 1 0 1\nsaw 1 1\ns 1 1\nover 1\nr 0 1 1\nsaw 0 1\n";
+
 const SECOND: &str = "s 0 2\nover 0\nr 1 0 2\nsaw 1 2\n";
+
 const THIRD: &str =
     "s 1 2\nover 1\nr 0 1 2\nsaw 0 2\ns 0 3\nover 0\nr 1 0 3\nsaw 1 3\ns 1 3\nover 1\n";
 
 /// Those of `ONE_RUNS`, before and behind the section.
 const BEFORE: &str = "r 0 1 0\nsaw 0 0\ns 0 1\nover 0\ns 1 2\nr 0 1 2\nsaw 0 2\n";
+
 const BEHIND: &str = "s 0 2\nover 0\nr 0 1 2\nsaw 0 2\ns 0 3\nover 0\n";
 
 /// The history of these parts, where the first lines that are spelled `from` are spelled `to`.
@@ -109,12 +111,21 @@ fn stands_alone(
     };
     assert!(rt; !answer(alloc, head, acts, less)?, "without the last line");
     let more = format!(in alloc; "{whole}{last}")?;
-    assert!(rt; !answer(alloc, head, acts, more.as_str())?, "with one line more");
+    assert!(rt;
+        !answer(alloc, head, acts, more.as_str())?,
+        "with one line more"
+    );
     for change in changes {
         let (from, to) = *change;
         let other = history(alloc, parts, from, to)?;
-        assert!(rt; other.as_str() != whole.as_str(), "nothing is spelled {from}");
-        assert!(rt; !answer(alloc, head, acts, other.as_str())?, "{to} in place of {from}");
+        assert!(rt;
+            other.as_str() != whole.as_str(),
+            "nothing is spelled {from}"
+        );
+        assert!(rt;
+            !answer(alloc, head, acts, other.as_str())?,
+            "{to} in place of {from}"
+        );
     }
     Ok(())
 }
@@ -128,8 +139,20 @@ fn shortest_handshake(rt: HostRuntime) -> Result<(), Fail> {
         Part::Clears(1, 5120),
         Part::Lines(THIRD),
     ];
-    let changes = [("r 1 0 1\n", "r 1 0 0\n"), ("s 0 2\n", "s 0 3\n"), ("saw 1 3\n", "saw 1 2\n")];
-    stands_alone(&rt, rt.alloc(), HONEST, BOTH_RUN, &parts, "over 1\n", &changes)
+    let changes = [
+        ("r 1 0 1\n", "r 1 0 0\n"),
+        ("s 0 2\n", "s 0 3\n"),
+        ("saw 1 3\n", "saw 1 2\n"),
+    ];
+    stands_alone(
+        &rt,
+        rt.alloc(),
+        HONEST,
+        BOTH_RUN,
+        &parts,
+        "over 1\n",
+        &changes,
+    )
 }
 
 /// The lines of an offer of the frame that is the first of its session, from the read of the used index to the doorbell.
@@ -159,13 +182,25 @@ fn one_frame(rt: HostRuntime) -> Result<(), Fail> {
         ("accept 0 ff", "accept 0 fe"),
         ("d 1 0 1\n", "d 1 0 0\n"),
     ];
-    stands_alone(&rt, alloc, HONEST, acts.as_str(), &parts, "done 1\n", &changes)
+    stands_alone(
+        &rt,
+        alloc,
+        HONEST,
+        acts.as_str(),
+        &parts,
+        "done 1\n",
+        &changes,
+    )
 }
 
 /// The lines of an offer with this number among 45 that nobody frees.
 fn offered(alloc: Global, number: u32) -> Result<String, Fail> {
     let slot = 1472u32.wrapping_add(number.wrapping_mul(80));
-    let (second, third, fourth) = (slot.wrapping_add(1), slot.wrapping_add(2), slot.wrapping_add(3));
+    let (second, third, fourth) = (
+        slot.wrapping_add(1),
+        slot.wrapping_add(2),
+        slot.wrapping_add(3),
+    );
     let at = 1024u32.wrapping_add(number.wrapping_mul(4));
     let (high, length, flags) = (at.wrapping_add(1), at.wrapping_add(2), at.wrapping_add(3));
     let address = 1792u32.wrapping_add(number.wrapping_mul(320));
@@ -173,17 +208,25 @@ fn offered(alloc: Global, number: u32) -> Result<String, Fail> {
     let pair = if number.is_multiple_of(2) {
         number
     } else {
-        number.wrapping_sub(1).wrapping_add(number.wrapping_mul(65_536))
+        number
+            .wrapping_sub(1)
+            .wrapping_add(number.wrapping_mul(65_536))
     };
     let index = number.wrapping_add(1).wrapping_mul(65_536);
-    let text = format!(in alloc; "r 0 5424 0\nreclaim 0 0\nw 0 {slot} 4294967295\nw 0 {second} 196607\nw 0 {third} 16777216\nw 0 {fourth} 8\nw 0 {at} {address}\nw 0 {high} 0\nw 0 {length} 14\nw 0 {flags} 0\nw 0 {entry} {pair}\nw 0 1280 {index}\naccept 0 {FRAME}\nd 0 1 1\nover 0\n")?;
+    let text = format!(in alloc;
+        "r 0 5424 0\nreclaim 0 0\nw 0 {slot} 4294967295\nw 0 {second} 196607\nw 0 {third} 16777216\nw 0 {fourth} 8\nw 0 {at} {address}\nw 0 {high} 0\nw 0 {length} 14\nw 0 {flags} 0\nw 0 {entry} {pair}\nw 0 1280 {index}\naccept 0 {FRAME}\nd 0 1 1\nover 0\n"
+    )?;
     Ok(text)
 }
 
 /// The lines by which a poll takes that frame and returns it.
 fn taken(alloc: Global, number: u32) -> Result<String, Fail> {
     let slot = 1472u32.wrapping_add(number.wrapping_mul(80));
-    let (second, third, fourth) = (slot.wrapping_add(1), slot.wrapping_add(2), slot.wrapping_add(3));
+    let (second, third, fourth) = (
+        slot.wrapping_add(1),
+        slot.wrapping_add(2),
+        slot.wrapping_add(3),
+    );
     let at = 1024u32.wrapping_add(number.wrapping_mul(4));
     let (high, length, flags) = (at.wrapping_add(1), at.wrapping_add(2), at.wrapping_add(3));
     let address = 1792u32.wrapping_add(number.wrapping_mul(320));
@@ -198,7 +241,9 @@ fn taken(alloc: Global, number: u32) -> Result<String, Fail> {
     let id = 5425u32.wrapping_add(number.wrapping_mul(2));
     let amount = id.wrapping_add(1);
     let index = number.wrapping_add(1).wrapping_mul(65_536);
-    let text = format!(in alloc; "r 1 {entry} {pair}\nr 1 {at} {address}\nr 1 {high} 0\nr 1 {length} 14\nr 1 {flags} 0\nr 1 {slot} 4294967295\nr 1 {second} 196607\nr 1 {third} 16777216\nr 1 {fourth} 8\ndeliver 1 {FRAME}\nw 1 {id} {number}\nw 1 {amount} 1\nw 1 5424 {index}\nreturn 1\n")?;
+    let text = format!(in alloc;
+        "r 1 {entry} {pair}\nr 1 {at} {address}\nr 1 {high} 0\nr 1 {length} 14\nr 1 {flags} 0\nr 1 {slot} 4294967295\nr 1 {second} 196607\nr 1 {third} 16777216\nr 1 {fourth} 8\ndeliver 1 {FRAME}\nw 1 {id} {number}\nw 1 {amount} 1\nw 1 5424 {index}\nreturn 1\n"
+    )?;
     Ok(text)
 }
 
@@ -218,7 +263,9 @@ fn full_ring(rt: HostRuntime) -> Result<(), Fail> {
         let at = 5425u32.wrapping_add(number.wrapping_mul(2));
         ids.push_str(format!(in alloc; "r 0 {at} {number}\n")?.as_str())?;
     }
-    let more = format!(in alloc; "turn 0 540\noffer 0 {FRAME}\nturn 0 1\npoll 1\nturn 1 542\noffer 0 {FRAME}\nturn 0 57\n")?;
+    let more = format!(in alloc;
+        "turn 0 540\noffer 0 {FRAME}\nturn 0 1\npoll 1\nturn 1 542\noffer 0 {FRAME}\nturn 0 57\n"
+    )?;
     acts.push_str(more.as_str())?;
     let parts = [
         Part::Lines(FIRST),
@@ -231,28 +278,56 @@ fn full_ring(rt: HostRuntime) -> Result<(), Fail> {
         Part::Lines(polled.as_str()),
         Part::Lines("d 1 0 1\ndone 1\nr 0 5424 2949120\nreclaim 0 45\n"),
         Part::Lines(ids.as_str()),
-        Part::Lines("w 0 1472 4294967295\nw 0 1473 196607\nw 0 1474 16777216\nw 0 1475 8\nw 0 1024 1792\nw 0 1025 0\nw 0 1026 14\nw 0 1027 0\nw 0 1303 44\nw 0 1280 3014656\naccept 0 ffffffffffff0200000000010800\nd 0 1 1\nover 0\n"),
+        Part::Lines(
+            "w 0 1472 4294967295\nw 0 1473 196607\nw 0 1474 16777216\nw 0 1475 8\nw 0 1024 1792\nw 0 1025 0\nw 0 1026 14\nw 0 1027 0\nw 0 1303 44\nw 0 1280 3014656\naccept 0 ffffffffffff0200000000010800\nd 0 1 1\nover 0\n",
+        ),
     ];
     let changes = [("full 0\n", "over 0\n"), ("r 0 5513 44\n", "r 0 5513 43\n")];
-    stands_alone(&rt, alloc, HONEST, acts.as_str(), &parts, "over 0\n", &changes)
+    stands_alone(
+        &rt,
+        alloc,
+        HONEST,
+        acts.as_str(),
+        &parts,
+        "over 0\n",
+        &changes,
+    )
 }
 
 /// A reset cuts an offer, and the link begins anew.
 #[test]
 fn reset_in_mid_offer(rt: HostRuntime) -> Result<(), Fail> {
     let alloc = rt.alloc();
-    let acts = format!(in alloc; "{BOTH_RUN}offer 0 {FRAME}\nturn 0 5\nreset 0\ntick 0\nturn 0 1\ntick 1\nturn 1 2\ntick 0\nturn 0 2\n")?;
+    let acts = format!(in alloc;
+        "{BOTH_RUN}offer 0 {FRAME}\nturn 0 5\nreset 0\ntick 0\nturn 0 1\ntick 1\nturn 1 2\ntick 0\nturn 0 2\n"
+    )?;
     let parts = [
         Part::Lines(FIRST),
         Part::Clears(0, 1024),
         Part::Lines(SECOND),
         Part::Clears(1, 5120),
         Part::Lines(THIRD),
-        Part::Lines("r 0 5424 0\nreclaim 0 0\nw 0 1472 4294967295\nw 0 1473 196607\nw 0 1474 16777216\nw 0 1475 8\n"),
-        Part::Lines("x 0\nr 0 1 3\nsaw 0 3\nover 0\nr 1 0 0\nsaw 1 0\ns 1 0\nover 1\nr 0 1 0\nsaw 0 0\ns 0 1\nover 0\n"),
+        Part::Lines(
+            "r 0 5424 0\nreclaim 0 0\nw 0 1472 4294967295\nw 0 1473 196607\nw 0 1474 16777216\nw 0 1475 8\n",
+        ),
+        Part::Lines(
+            "x 0\nr 0 1 3\nsaw 0 3\nover 0\nr 1 0 0\nsaw 1 0\ns 1 0\nover 1\nr 0 1 0\nsaw 0 0\ns 0 1\nover 0\n",
+        ),
     ];
-    let changes = [("x 0\nr 0 1 3\n", "r 0 1 3\n"), ("r 1 0 0\n", "r 1 0 3\n"), ("w 0 1475 8\n", "w 0 1024 1792\n")];
-    stands_alone(&rt, alloc, HONEST, acts.as_str(), &parts, "over 0\n", &changes)
+    let changes = [
+        ("x 0\nr 0 1 3\n", "r 0 1 3\n"),
+        ("r 1 0 0\n", "r 1 0 3\n"),
+        ("w 0 1475 8\n", "w 0 1024 1792\n"),
+    ];
+    stands_alone(
+        &rt,
+        alloc,
+        HONEST,
+        acts.as_str(),
+        &parts,
+        "over 0\n",
+        &changes,
+    )
 }
 
 /// Beside a hostile peer: the history of these acts behind `ONE_RUNS`, of which these lines are the end.
@@ -304,15 +379,26 @@ fn field(
     lines: &str,
     change: (&str, &str),
 ) -> Result<(), Fail> {
-    let acts = format!(in alloc; "poke 1 5376 65536\npoke 1 5120 1792\npoke 1 5122 14\npoke 1 {poke}\npoll 0\nturn 0 {steps}\n")?;
-    let all = format!(in alloc; "w 1 5376 65536\nw 1 5120 1792\nw 1 5122 14\nw 1 {poke}\nr 0 5376 65536\nlook 0 1\n{lines}s 0 0\nover 0\n")?;
+    let acts = format!(in alloc;
+        "poke 1 5376 65536\npoke 1 5120 1792\npoke 1 5122 14\npoke 1 {poke}\npoll 0\nturn 0 {steps}\n"
+    )?;
+    let all = format!(in alloc;
+        "w 1 5376 65536\nw 1 5120 1792\nw 1 5122 14\nw 1 {poke}\nr 0 5376 65536\nlook 0 1\n{lines}s 0 0\nover 0\n"
+    )?;
     beside_hostile(rt, alloc, acts.as_str(), all.as_str(), "over 0\n", change)
 }
 
 #[test]
 fn each_descriptor_field(rt: HostRuntime) -> Result<(), Fail> {
     let alloc = rt.alloc();
-    field(&rt, "5377 64", 3, alloc, "r 0 5377 64\nrefuse 0 AvailEntry 64\n", ("AvailEntry 64", "AvailEntry 65"))?;
+    field(
+        &rt,
+        "5377 64",
+        3,
+        alloc,
+        "r 0 5377 64\nrefuse 0 AvailEntry 64\n",
+        ("AvailEntry 64", "AvailEntry 65"),
+    )?;
     field(
         &rt,
         "5120 1788",
@@ -327,7 +413,10 @@ fn each_descriptor_field(rt: HostRuntime) -> Result<(), Fail> {
         5,
         alloc,
         "r 0 5377 0\nr 0 5120 1794\nr 0 5121 0\nrefuse 0 DescAddress 1794\n",
-        ("refuse 0 DescAddress 1794\ns 0 0\n", "refuse 0 DescAddress 1794\ns 0 1\n"),
+        (
+            "refuse 0 DescAddress 1794\ns 0 0\n",
+            "refuse 0 DescAddress 1794\ns 0 1\n",
+        ),
     )?;
     field(
         &rt,
@@ -385,25 +474,59 @@ fn longest_frame(rt: HostRuntime) -> Result<(), Fail> {
         delivered.push_str("00")?;
     }
     delivered.push_str("\nw 0 1329 0\nw 0 1330 1\nw 0 1328 65536\nreturn 0\nd 0 1 1\ndone 0\n")?;
-    let acts = format!(in alloc; "{ONE_RUNS}poke 1 5376 65536\npoke 1 5120 1792\npoke 1 5122 14\npoke 1 5122 14592\npoll 0\nturn 0 3658\n")?;
+    let acts = format!(in alloc;
+        "{ONE_RUNS}poke 1 5376 65536\npoke 1 5120 1792\npoke 1 5122 14\npoke 1 5122 14592\npoll 0\nturn 0 3658\n"
+    )?;
     let parts = [
         Part::Lines(BEFORE),
         Part::Clears(0, 1024),
         Part::Lines(BEHIND),
-        Part::Lines("w 1 5376 65536\nw 1 5120 1792\nw 1 5122 14\nw 1 5122 14592\nr 0 5376 65536\nlook 0 1\nr 0 5377 0\nr 0 5120 1792\nr 0 5121 0\nr 0 5122 14592\nr 0 5123 0\n"),
+        Part::Lines(
+            "w 1 5376 65536\nw 1 5120 1792\nw 1 5122 14\nw 1 5122 14592\nr 0 5376 65536\nlook 0 1\nr 0 5377 0\nr 0 5120 1792\nr 0 5121 0\nr 0 5122 14592\nr 0 5123 0\n",
+        ),
         Part::Zeros(0, 5568, 3648),
         Part::Lines(delivered.as_str()),
     ];
-    stands_alone(&rt, alloc, HOSTILE, acts.as_str(), &parts, "done 0\n", &[("return 0\n", "")])
+    stands_alone(
+        &rt,
+        alloc,
+        HOSTILE,
+        acts.as_str(),
+        &parts,
+        "done 0\n",
+        &[("return 0\n", "")],
+    )
 }
 
 #[test]
 fn hostile_returns(rt: HostRuntime) -> Result<(), Fail> {
     let alloc = rt.alloc();
-    let acts = format!(in alloc; "offer 0 {FRAME}\nturn 0 12\npoke 1 5425 7\npoke 1 5424 65536\noffer 0 {FRAME}\nturn 0 3\noffer 0 {FRAME}\nturn 0 1\n")?;
-    let lines = format!(in alloc; "{OFFERED}w 1 5425 7\nw 1 5424 65536\nr 0 5424 65536\nreclaim 0 1\nr 0 5425 7\nrefuse 0 UsedId 7\ns 0 0\nover 0\ndown 0\n")?;
-    beside_hostile(&rt, alloc, acts.as_str(), lines.as_str(), "down 0\n", ("refuse 0 UsedId 7\n", ""))?;
-    let acts = format!(in alloc; "offer 0 {FRAME}\nturn 0 12\npoke 1 5425 7\npoke 1 5424 131072\noffer 0 {FRAME}\nturn 0 2\noffer 0 {FRAME}\nturn 0 1\n")?;
-    let lines = format!(in alloc; "{OFFERED}w 1 5425 7\nw 1 5424 131072\nr 0 5424 131072\nrefuse 0 UsedIndex 2\ns 0 0\nover 0\ndown 0\n")?;
-    beside_hostile(&rt, alloc, acts.as_str(), lines.as_str(), "down 0\n", ("UsedIndex 2", "UsedIndex 1"))
+    let acts = format!(in alloc;
+        "offer 0 {FRAME}\nturn 0 12\npoke 1 5425 7\npoke 1 5424 65536\noffer 0 {FRAME}\nturn 0 3\noffer 0 {FRAME}\nturn 0 1\n"
+    )?;
+    let lines = format!(in alloc;
+        "{OFFERED}w 1 5425 7\nw 1 5424 65536\nr 0 5424 65536\nreclaim 0 1\nr 0 5425 7\nrefuse 0 UsedId 7\ns 0 0\nover 0\ndown 0\n"
+    )?;
+    beside_hostile(
+        &rt,
+        alloc,
+        acts.as_str(),
+        lines.as_str(),
+        "down 0\n",
+        ("refuse 0 UsedId 7\n", ""),
+    )?;
+    let acts = format!(in alloc;
+        "offer 0 {FRAME}\nturn 0 12\npoke 1 5425 7\npoke 1 5424 131072\noffer 0 {FRAME}\nturn 0 2\noffer 0 {FRAME}\nturn 0 1\n"
+    )?;
+    let lines = format!(in alloc;
+        "{OFFERED}w 1 5425 7\nw 1 5424 131072\nr 0 5424 131072\nrefuse 0 UsedIndex 2\ns 0 0\nover 0\ndown 0\n"
+    )?;
+    beside_hostile(
+        &rt,
+        alloc,
+        acts.as_str(),
+        lines.as_str(),
+        "down 0\n",
+        ("UsedIndex 2", "UsedIndex 1"),
+    )
 }

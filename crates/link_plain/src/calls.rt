@@ -24,7 +24,7 @@ fn is_open(place: &Place) -> bool
 }
 
 /// What an access gives that met this value: the value where it is a read, else 0.
-fn given(access: Access, value: u32) -> u32
+pub fn given(access: Access, value: u32) -> u32
     ensures { result ≡ value_given (access_seen access) value }
 {
     match access {

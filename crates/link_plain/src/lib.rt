@@ -5,13 +5,16 @@
 
 mod calls;
 mod ends;
+mod follows;
 mod marks;
+mod opens;
 mod places;
 mod steps;
 mod words;
 
 pub use calls::{is_call, next_step};
 pub use ends::{Call, End, Store, Who};
+pub use opens::OpenCall;
 pub use steps::{Access, Mark, Step};
 
 #[cfg(test)]

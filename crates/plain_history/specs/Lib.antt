@@ -1,0 +1,5 @@
+pub mod Reading
+pub mod Told
+pub mod Peers
+pub mod Events
+pub mod Moments

@@ -1,28 +1,79 @@
-//! Whether a history is lawful, decided by comparing it with the one lawful history of its scenario. It stands on `sim_world`, which computes
-//! that history, and on the law of `lawful_history` that a scenario has one at most. Its contract promises an answer of yes exactly
-//! where the history is lawful.
+//! Whether a history is lawful, decided by reading its lines from the first to the last: a plain program that goes over the
+//! schedule event by event, works out the lines of each from the lines before it, and looks for them in the history. What a
+//! word holds, where the devices stand and how many interrupts were lost it finds in the lines before, each time that it
+//! needs them. It stands on `link_plain` for the calls and on `doorbell_irq` for the devices, and shares no code with an
+//! engine or a stage. Its contract promises an answer of yes exactly where the history is lawful.
 #![tactic(auto)]
 
-ghost use Rattle.std.specs.Prelude.{◌↔◌, IsTrue, IfOk};
+ghost use Rattle.std.specs.Prelude.{◌≡◌, ◌↔◌, ℕ, ◌+◌, ◌≤◌, IsTrue, IfOk};
+ghost use Rattle.scenario_text.specs.Acts.{cost};
+ghost use Rattle.lawful_history.specs.Schedule.{events_of};
+ghost use Rattle.lawful_history.specs.History as history;
+ghost use Rattle.lawful_history.specs.History.{run};
 ghost use Rattle.lawful_history.specs.Sides.{world_of};
 ghost use Rattle.lawful_history.specs.Lawful.{IsLawful};
+ghost use Rattle.plain_history.specs.Events.{IsAct};
+ghost use Rattle.plain_history.specs.Moments.{IsMoment, GoesOn};
 
+mod devices;
+mod events;
+mod interrupts;
 mod lines;
+mod memory;
+mod moments;
+mod peers;
+mod sides;
+mod steps;
+mod storms;
+mod turns;
+
+use events::event_of;
+use ivs_base::NoMemory;
+use lawful_history::{Line, history_is_lawful, one_history};
+use moments::Moment;
+use scenario_text::{Act, Scenario};
+use std::alloc::Global;
+
 #[cfg(test)]
 mod tests;
+#[cfg(test)]
+mod worked;
 
-use ivs_base::NoMemory;
-use lines::same_lines;
-use lawful_history::{Line, one_history};
-use scenario_text::Scenario;
-use sim_world::simulate;
-use std::alloc::Global;
+/// Reads the lines of an act. False where they don't stand there.
+fn read_act(
+    alloc: Global,
+    scenario: &Scenario,
+    lines: &[Line],
+    moment: &mut Moment,
+    act: &Act,
+) -> Result<bool, NoMemory>
+    requires act { IsAct (world_of scenario.now) act.now }
+    requires here { (count : ℕ) × (at : history.Moment) × IsMoment (world_of scenario.now) lines.now count at moment.old × (count + cost act.now ≤ 4000000) }
+    ensures { let world = world_of scenario.now in
+        IfOk result (λ yes. (count : ℕ) (at : history.Moment) → IsMoment world lines.now count at moment.old → GoesOn world lines.now (count + cost act.now) (run world (events_of act.now) at) moment.new yes) }
+{
+    for _k in 0..act.cost() {
+        let event = event_of(alloc, act)?;
+        let goes_on = moment.read(alloc, scenario, lines, event)?;
+        if !goes_on {
+            return Ok(false);
+        }
+    }
+    Ok(true)
+}
 
 /// Are these lines a lawful history of the scenario? NoMemory comes only where memory ran out.
 pub fn is_lawful(alloc: Global, scenario: Scenario, lines: &[Line]) -> Result<bool, NoMemory>
     ensures { IfOk result (λ yes. IsTrue yes ↔ IsLawful (world_of scenario) lines.now) }
 {
     one_history();
-    let trace = simulate(alloc, scenario)?;
-    Ok(same_lines(trace.lines.items(), lines))
+    history_is_lawful();
+    let mut moment = Moment::beginning(alloc, &scenario)?;
+    for act in scenario.acts.items() {
+        let goes_on = read_act(alloc, &scenario, lines, &mut moment, act)?;
+        if !goes_on {
+            return Ok(false);
+        }
+    }
+    Ok(moment.read == lines.len())
 }

@@ -1,5 +1,6 @@
-//! Lines that are the same.
-ghost use Rattle.std.specs.Prelude.{◌≡◌, ◌↔◌, IsTrue};
+//! Lines that are the same, and the next line of a history.
+ghost use Rattle.std.specs.Prelude.{◌≡◌, ◌↔◌, ◌∷◌, ◌≤◌, IsTrue, Some, IfSome, List, length};
+ghost use Rattle.plain_history.specs.Reading.{Reads};
 
 use lawful_history::Line;
 
@@ -221,17 +222,14 @@ fn is_same(line: &Line, other: &Line) -> bool
     }
 }
 
-/// Are these the same lines in the same order?
-pub fn same_lines(lines: &[Line], others: &[Line]) -> bool
-    ensures { IsTrue result ↔ lines.now ≡ others.now }
+/// Reads one line more: the number of lines that are read then, or None where another line stands there, or none.
+pub fn read_line(lines: &[Line], read: usize, line: &Line) -> Option<usize>
+    ensures reads { (past : List Line) → Reads lines.now past (Some read) → Reads lines.now (line.now ∷ past) result }
+    ensures within { IfSome result (λ at. at ≤ length lines.now) }
 {
-    if lines.len() != others.len() {
-        return false;
+    if read < lines.len() && is_same(&lines[read], line) {
+        Some(read + 1)
+    } else {
+        None
     }
-    for i in 0..lines.len() {
-        if !is_same(&lines[i], &others[i]) {
-            return false;
-        }
-    }
-    true
 }

@@ -1,0 +1,163 @@
+-- A step of an open call, or of its own accord, is that of the history.
+use Rattle.std.proofs.Common.{◌≡◌, ℕ, ◌+◌, ◌<◌, ◌≤◌, ◌^◌, Bool, true, false, List, [], ◌∷◌, ◌++◌, refl, sym, ap, ◌∙◌, subst, arith}
+use Rattle.std.specs.Prelude.{Option, Some, None, reverse}
+use Rattle.split_ring.specs.declared.steps.Access.{Access}
+use Rattle.split_ring.specs.declared.steps.Access.TheVariants as access
+use Rattle.scenario_text.specs.Scenario.{World}
+use Rattle.link_laws.specs.Steps.{Step, value_given, step_of}
+use Rattle.link_laws.specs.Trees.{CallTree, Ended, Does, Goes}
+use Rattle.link_laws.specs.Trees as trees
+use Rattle.link_laws.specs.Calls.{Who}
+use Rattle.link_laws.specs.Places.{Place, Closed, AtState, Clearing, Setting, Refusing, Downed, AtUsedIndex, AtUsedId, Filling, WritingLow, WritingHigh, WritingLength, WritingFlags, WritingEntry, WritingIndex, RingingOffer, AtAvailIndex, AtEntry, AtLow, AtHigh, AtLength, AtFlags, AtWord, GivingId, GivingLength, GivingIndex, RingingPoll, remaining, access_at, next_place, step_at, is_open, PlacesFollowTrees}
+use Rattle.lawful_history.specs.declared.line.Line.{Line}
+use Rattle.lawful_history.specs.Memory.{last_write}
+use Rattle.lawful_history.specs.Peers.{Driver, Peer, stepped}
+use Rattle.lawful_history.specs.History.{step_by, moved_by}
+use Rattle.section_map.specs.Geometry.{Shape, section_start}
+use Rattle.section_map.specs.MayWrite.{MayWrite}
+use Rattle.std.specs.Prelude.{nat_le, nat_lt, ◌&&◌, ◌||◌}
+use Rattle.std.proofs.Common.{inl, inr, ◌⊎◌}
+use Rattle.std.proofs.lemmas.Bool.Decides.{nat_tests}
+use Rattle.lawful_history.specs.declared.line.Line.TheVariants as line
+use Rattle.lawful_history.specs.Storm.{storm_step, storm_behind}
+use Rattle.lawful_history.specs.Entries.{denied_lines, acted_lines, step_lines, turn_lines}
+use Rattle.lawful_history.specs.Peers.{Storms}
+use Rattle.lawful_history.specs.Device.{step_interrupts}
+use Rattle.lawful_history.specs.History.{driven_step, driven, moved, may_write, acted_step}
+use Rattle.plain_history.specs.declared.peers.Peer as plain
+use Rattle.plain_history.specs.Reading.{Reads, Meets}
+use Rattle.plain_history.specs.Told.{AreTold, FitsDoorbell}
+use Rattle.plain_history.specs.Peers.{IsPeer}
+use Rattle.plain_history.specs.Moments.{GoesTo}
+use Rattle.plain_history.proofs.Opening.{peer_wider}
+
+-- a step by which a call goes on is the computed one, where a read gave what was written last
+by_tree : (world : World) (p : ℕ) (driver : Driver) (peer : Peer) (tree : CallTree) (step : Step) (new : CallTree) (past : List Line) → Goes tree step new →
+    ((word : ℕ) → step.access ≡ access.Read word → step.value ≡ last_write past word) → (step_by world p driver tree past ≡ Some step) × (moved_by peer tree past ≡ stepped peer step new)
+by_tree world p driver peer Ended step new past goes known = absurd goes
+by_tree world p driver peer (Does a marks rest) step new past goes known = (ap (λ (s : Step). Some s) (sym goes.0), ap (λ (s : Step). stepped peer s rest) (sym goes.0) ∙ ap (λ (t : CallTree). stepped peer step t) (sym goes.1))
+by_tree world p driver peer (trees.Reads word marks rest) step new past goes known =
+    let read : goes.0 ≡ last_write past word = sym (ap (λ (s : Step). s.value) goes.1) ∙ known word (ap (λ (s : Step). s.access) goes.1) in
+    let step_is : step_of (access.Read word) (last_write past word) (marks (last_write past word)) ≡ step = ap (λ v. step_of (access.Read word) v (marks v)) (sym read) ∙ sym goes.1 in
+    (ap (λ (s : Step). Some s) step_is, ap (λ (s : Step). stepped peer s (rest (last_write past word))) step_is ∙ ap (λ (t : CallTree). stepped peer step t) (ap rest (sym read) ∙ sym goes.2))
+
+-- the step at a place that meets what was written last
+pub step_is : PlacesFollowTrees → (world : World) (p : ℕ) (peer : Peer) (who : Who) (place : Place) (met : ℕ) (past : List Line) → remaining who place ≡ peer.left → is_open place ≡ true → Meets past (access_at who place) met →
+    (step_by world p peer.driver peer.left past ≡ Some (step_at who place met)) × (moved_by peer peer.left past ≡ stepped peer (step_at who place met) (remaining who (next_place who place met)))
+step_is follow world p peer who place met past left opens meets =
+    let goes : Goes peer.left (step_at who place met) (remaining who (next_place who place met)) = subst (λ (t : CallTree). Goes t (step_at who place met) (remaining who (next_place who place met))) left (follow.comes who place met opens) in
+    by_tree world p peer.driver peer peer.left (step_at who place met) (remaining who (next_place who place met)) past goes
+    (λ word reads. ap (λ (a : Access). value_given a met) reads ∙ subst (λ (a : Access). Meets past a met) reads meets)
+
+-- a call rings its partner alone
+pub fits_at : (who : Who) (place : Place) → who.other < 2 ^ 16 → who.vector < 2 ^ 16 → FitsDoorbell (access_at who place)
+fits_at who Closed other vector = tt
+fits_at who (AtState handshake) other vector = tt
+fits_at who (Clearing at more state) other vector = tt
+fits_at who (Setting state) other vector = tt
+fits_at who Refusing other vector = tt
+fits_at who Downed other vector = tt
+fits_at who (AtUsedIndex job freed) other vector = tt
+fits_at who (AtUsedId job freed more) other vector = tt
+fits_at who (Filling job at more) other vector = tt
+fits_at who (WritingLow job) other vector = tt
+fits_at who (WritingHigh job) other vector = tt
+fits_at who (WritingLength job) other vector = tt
+fits_at who (WritingFlags job) other vector = tt
+fits_at who (WritingEntry job) other vector = tt
+fits_at who (WritingIndex job) other vector = tt
+fits_at who RingingOffer other vector = (other, vector)
+fits_at who (AtAvailIndex taken) other vector = tt
+fits_at who (AtEntry number more) other vector = tt
+fits_at who (AtLow number more entry) other vector = tt
+fits_at who (AtHigh number more entry low) other vector = tt
+fits_at who (AtLength number more entry address) other vector = tt
+fits_at who (AtFlags number more entry address bytes) other vector = tt
+fits_at who (AtWord number more entry address bytes read words) other vector = tt
+fits_at who (GivingId number more entry) other vector = tt
+fits_at who (GivingLength number more) other vector = tt
+fits_at who (GivingIndex number more) other vector = tt
+fits_at who RingingPoll other vector = (other, vector)
+
+pub goes_to : (world : World) (lines past : List Line) (who : Who) (most : ℕ) (it : Peer) (seen : plain.Peer) (r : Option ℕ) → Reads lines past r → AreTold world.geometry.peers past → IsPeer who most seen it →
+    GoesTo world lines past who most it seen r
+goes_to world lines past who most it seen None reads told stands = reads
+goes_to world lines past who most it seen (Some read) reads told stands = (reads, told, stands)
+
+-- the step of an open call
+pub carried : PlacesFollowTrees → (world : World) (lines past : List Line) (lost : ℕ → ℕ) (me : ℕ) (it : Peer) (who : Who) (most : ℕ) (new : plain.Peer) (place : Place) (met : ℕ) (step : Step) (r : Option ℕ) →
+    remaining who place ≡ it.left → is_open place ≡ true → Meets past (access_at who place) met → step ≡ step_at who place met →
+    GoesTo world lines (reverse (step_lines me step (step_interrupts world past lost me (Some step))) ++ past) who most (stepped it step (remaining who (next_place who place met))) new r →
+    GoesTo world lines (reverse (turn_lines me (step_by world me it.driver it.left past) (step_interrupts world past lost me (step_by world me it.driver it.left past))) ++ past) who most (moved it past) new r
+carried follow world lines past lost me it who most new place met step r left opens meets is goes =
+    let both = step_is follow world me it who place met past left opens meets in
+    let rest = remaining who (next_place who place met) in
+    let P : Option Step → Peer → Type 0 = λ w x. GoesTo world lines (reverse (turn_lines me w (step_interrupts world past lost me w)) ++ past) who most x new r in
+    subst (λ (w : Option Step). P w (moved it past)) (ap (λ (s : Step). Some s) is ∙ sym both.0)
+    (subst (λ (x : Peer). P (Some step) x) (ap (λ (s : Step). stepped it s rest) is ∙ sym both.1) goes)
+
+-- a step of a storm
+pub storm_goes : (world : World) (lines past : List Line) (lost : ℕ → ℕ) (me x : ℕ) (it : Peer) (who : Who) (most : ℕ) (new : plain.Peer) (step : Step) (r : Option ℕ) → it.driver ≡ Storms x → step ≡ storm_step world me x →
+    GoesTo world lines (reverse (step_lines me step (step_interrupts world past lost me (Some step))) ++ past) who most (record it { driver = Storms (storm_behind x) }) new r →
+    GoesTo world lines (reverse (turn_lines me (driven_step world me it.driver) (step_interrupts world past lost me (driven_step world me it.driver))) ++ past) who most (driven it it.driver) new r
+storm_goes world lines past lost me x it who most new step r driver is goes =
+    let P : Option Step → Peer → Type 0 = λ w y. GoesTo world lines (reverse (turn_lines me w (step_interrupts world past lost me w)) ++ past) who most y new r in
+    subst (λ (w : Option Step). P w (driven it it.driver)) (ap (λ (s : Step). Some s) is ∙ sym (ap (λ (d : Driver). driven_step world me d) driver))
+    (subst (λ (y : Peer). P (Some step) y) (sym (ap (λ (d : Driver). driven it d) driver)) goes)
+
+-- What is denied
+
+either_in : (own own_end table common_end word : ℕ) → ((own ≤ word) × (word < own_end)) ⊎ ((table ≤ word) × (word < common_end)) → ((nat_le own word && nat_lt word own_end) || (nat_le table word && nat_lt word common_end)) ≡ true
+either_in own own_end table common_end word (inl (low, high)) = grind (arith, nat_tests)
+either_in own own_end table common_end word (inr (low, high)) = grind (arith, nat_tests)
+
+in_either : (own own_end table common_end word : ℕ) → ((nat_le own word && nat_lt word own_end) || (nat_le table word && nat_lt word common_end)) ≡ true →
+    ((own ≤ word) × (word < own_end)) ⊎ ((table ≤ word) × (word < common_end))
+in_either own own_end table common_end word is = grind (arith, nat_tests)
+
+pub may : (g : Shape) (p word : ℕ) → MayWrite g p word → may_write g p word ≡ true
+may g p word is = either_in (section_start g p) (section_start g p + g.out) g.table (g.table + g.common) word is
+
+pub may_not : (g : Shape) (p word : ℕ) (b : Bool) → may_write g p word ≡ b → (MayWrite g p word → ⊥) → b ≡ false
+may_not g p word true is not = absurd (not (in_either (section_start g p) (section_start g p + g.out) g.table (g.table + g.common) word is))
+may_not g p word false is not = refl
+
+pub not_denied : (world : World) (me word value : ℕ) (past : List Line) (met : ℕ) → MayWrite world.geometry me word → acted_step world me (access.Write word value) past ≡ Some (step_of (access.Write word value) met [])
+not_denied world me word value past met is = rw (may world.geometry me word is) refl
+
+pub denied : (world : World) (me word value : ℕ) (past : List Line) → (MayWrite world.geometry me word → ⊥) → acted_step world me (access.Write word value) past ≡ None
+denied world me word value past not = rw (may_not world.geometry me word (may_write world.geometry me word) refl not) refl
+
+-- what is met is what is given
+given_is : (past : List Line) (a : Access) (met : ℕ) → Meets past a met → value_given a met ≡ met
+given_is past (access.Read word) met meets = refl
+given_is past (access.Write word written) met meets = sym meets
+given_is past (access.State state) met meets = sym meets
+given_is past (access.Ring target vector) met meets = sym meets
+given_is past access.Nothing met meets = sym meets
+
+-- the step of an access of its own accord
+pub acted_goes : (world : World) (past : List Line) (lost : ℕ → ℕ) (me : ℕ) (a : Access) (met : ℕ) (P : List Line → Type 0) → Meets past a met → acted_step world me a past ≡ Some (step_of a met []) →
+    P (reverse (step_lines me (record { access = a; value = met; marks = [] }) (step_interrupts world past lost me (Some (record { access = a; value = met; marks = [] })))) ++ past) →
+    P (reverse (acted_lines me a (acted_step world me a past) (step_interrupts world past lost me (acted_step world me a past))) ++ past)
+acted_goes world past lost me a met P meets is holds =
+    let Q : Option Step → Type 0 = λ w. P (reverse (acted_lines me a w (step_interrupts world past lost me w)) ++ past) in
+    subst Q (ap (λ v. Some (record { access = a; value = v; marks = [] })) (sym (given_is past a met meets)) ∙ sym is) holds
+
+pub denied_goes : (world : World) (past : List Line) (lost : ℕ → ℕ) (me word : ℕ) (a : Access) (P : List Line → Type 0) → acted_step world me a past ≡ None → denied_lines me a ≡ line.Denied me word ∷ [] →
+    P (line.Denied me word ∷ past) → P (reverse (acted_lines me a (acted_step world me a past) (step_interrupts world past lost me (acted_step world me a past))) ++ past)
+denied_goes world past lost me word a P is lines holds =
+    let Q : Option Step → Type 0 = λ w. P (reverse (acted_lines me a w (step_interrupts world past lost me w)) ++ past) in
+    subst Q (sym is) (subst (λ (ls : List Line). P (reverse (ls ++ []) ++ past)) (sym lines) holds)
+
+goes_wider : (world : World) (lines past : List Line) (who : Who) (most more : ℕ) (it : Peer) (seen : plain.Peer) (r : Option ℕ) → most ≤ more → GoesTo world lines past who most it seen r → GoesTo world lines past who more it seen r
+goes_wider world lines past who most more it seen None wide goes = goes
+goes_wider world lines past who most more it seen (Some read) wide goes = (goes.0, goes.1, peer_wider who most more seen it wide goes.2)
+
+-- a turn without an open call
+pub driven_goes : (world : World) (lines past : List Line) (lost : ℕ → ℕ) (me : ℕ) (it : Peer) (who : Who) (most : ℕ) (new : plain.Peer) (r : Option ℕ) → it.left ≡ Ended →
+    GoesTo world lines (reverse (turn_lines me (driven_step world me it.driver) (step_interrupts world past lost me (driven_step world me it.driver))) ++ past) who most (driven it it.driver) new r →
+    GoesTo world lines (reverse (turn_lines me (step_by world me it.driver it.left past) (step_interrupts world past lost me (step_by world me it.driver it.left past))) ++ past) who (most + 2) (moved it past) new r
+driven_goes world lines past lost me it who most new r none goes =
+    let P : CallTree → Type 0 = λ t. GoesTo world lines (reverse (turn_lines me (step_by world me it.driver t past) (step_interrupts world past lost me (step_by world me it.driver t past))) ++ past) who (most + 2) (moved_by it t past) new r in
+    subst P (sym none) (goes_wider world lines (reverse (turn_lines me (driven_step world me it.driver) (step_interrupts world past lost me (driven_step world me it.driver))) ++ past) who most (most + 2) (driven it it.driver) new r (omega arith) goes)

@@ -1,0 +1,36 @@
+use Rattle.std.proofs.Common.{rules, ◌≡◌, ◌<◌, List, [], ◌∷◌, remove, length, arith, refl, ap, sym, ◌∙◌, subst}
+use Rattle.std.specs.Prelude.{map}
+use Rattle.std.proofs.lemmas.Bool.Decides.{nat_tests}
+use Rattle.link_plain.specs.declared.ends.Call.{Call}
+use Rattle.link_plain.specs.Seen.{who_seen, call_seen}
+use Rattle.lawful_history.specs.Peers as history
+use Rattle.plain_history.specs.Peers.{IsPeer}
+use Rattle.plain_history.proofs.Opening.{none_waits, oldest_waits, oldest_is}
+use Rattle.plain_history.proofs.peers.Peer.open_next.Goals as goal
+
+no_calls : (calls : List Call) → length calls ≡ 0 → calls ≡ []
+no_calls [] none = refl
+no_calls (x ∷ calls) none = absurd (omega arith)
+
+pub returns-then-is_empty : goal.returns-then-is_empty
+returns-then-is_empty c = λ most peer stands.
+    let who = who_seen c.args.who.now in
+    let s = c.args.self.now in
+    let none : length c.as_slice.result.now ≡ 0 = grind (arith, nat_tests) in
+    let empty : s.waiting.items ≡ [] = sym c.as_slice.ensures.value ∙ no_calls c.as_slice.result.now none in
+    let same = none_waits who most s peer stands (search rules) empty in
+    subst (λ (p : history.Peer). IsPeer who most c.choose.new.self p) (sym same) (c.in_ok-choose.ensures most peer stands)
+
+pub returns : goal.returns
+returns c = λ most peer stands.
+    let who = who_seen c.args.who.now in
+    let s = c.args.self.now in
+    let call = c.remove-call.result in
+    let some : 0 < length c.as_slice.result.now = grind (arith, nat_tests) in
+    let some_waits : 0 < length s.waiting.items = rw (← c.as_slice.ensures.value) some in
+    let oldest : s.waiting.items ≡ call ∷ remove s.waiting.items 0 = oldest_is s.waiting.items call some_waits c.remove-call.ensures.value in
+    let same = oldest_waits who most s peer call (remove s.waiting.items 0) stands (search rules) oldest in
+    let rest : map call_seen c.remove-call.new.self.items ≡ map call_seen (remove s.waiting.items 0) = ap (λ (cs : List Call). map call_seen cs) c.remove-call.ensures.items in
+    let here : IsPeer who most (record s { waiting = c.remove-call.new.self }) (record peer { waiting = map call_seen (remove s.waiting.items 0) }) =
+    record { end = stands.end; left = stands.left; waiting = rest; driver = stands.driver; few = stands.few; fresh = stands.fresh; delivered = stands.delivered } in
+    subst (λ (p : history.Peer). IsPeer who most c.begin.new.self p) (sym same) (c.in_ok-begin.ensures most (record peer { waiting = map call_seen (remove s.waiting.items 0) }) here)

@@ -1,0 +1,111 @@
+//! Where the devices stand behind the lines before, and whom they interrupt then.
+ghost use Rattle.std.specs.Prelude.{◌≡◌, ℕ, ◌<◌, Some, List, reverse};
+ghost use Rattle.doorbell_irq.specs.Events as device;
+ghost use Rattle.doorbell_irq.specs.Events.{WasReset};
+ghost use Rattle.doorbell_irq.specs.Stands.{Stands, peer_count};
+ghost use Rattle.doorbell_irq.specs.DeviceRules.{effect_of};
+ghost use Rattle.link_plain.specs.Seen.{access_seen};
+ghost use Rattle.lawful_history.specs.Sides.{world_of};
+ghost use Rattle.lawful_history.specs.Device.{devices_of, told_by, told_before, device_events};
+ghost use Rattle.plain_history.specs.Told.{IsTold, AreTold, FitsDoorbell, told_by_access, brought};
+
+use arrayvec::ArrayVec;
+use doorbell_irq::{Delivery, Device};
+use lawful_history::Line;
+use link_plain::Access;
+use scenario_text::Scenario;
+
+/// Tells the devices what a line says of them.
+fn tell(devices: &mut Device, line: &Line)
+    requires { IsTold (peer_count devices.old) line.now }
+    ensures stands { (world : device.World) (events : List device.Event) → Stands world events devices.old → Stands world (told_before (told_by line.now) events) devices.new }
+    ensures peers { peer_count devices.new ≡ peer_count devices.old }
+{
+    match line {
+        Line::State { peer, value } => {
+            let _ = devices.register_write(*peer, 0x10, *value);
+        }
+        Line::Doorbell {
+            peer,
+            target,
+            vector,
+        } => {
+            let _ = devices.register_write(*peer, 0x0C, 65536 * *target + *vector);
+        }
+        Line::Reset { peer } => {
+            let _ = devices.reset(*peer);
+        }
+        Line::ConfigWrite {
+            peer,
+            offset,
+            width,
+            value,
+        } => {
+            let _ = devices.config_write(*peer, *offset as u16, *width as u16, *value);
+        }
+        Line::RegisterWrite {
+            peer,
+            offset,
+            value,
+        } => {
+            let _ = devices.register_write(*peer, *offset, *value);
+        }
+        Line::MsixWrite {
+            peer,
+            offset,
+            value,
+        } => devices.msix_write(*peer, *offset, *value),
+        _ => {}
+    }
+}
+
+/// The devices behind these lines.
+pub fn devices_behind(scenario: &Scenario, lines: &[Line]) -> Device
+    requires { AreTold scenario.now.geometry.peers (reverse lines.now) }
+    ensures stands { Stands (devices_of (world_of scenario.now)) (device_events (reverse lines.now)) result }
+    ensures peers { peer_count result ≡ scenario.now.geometry.peers }
+{
+    let mut devices = Device::new(&scenario.geometry, scenario.wiring);
+    for line in lines {
+        tell(&mut devices, line);
+    }
+    devices
+}
+
+/// Whom an access of a peer interrupts behind these lines.
+pub fn interrupted_by(
+    scenario: &Scenario,
+    me: u32,
+    access: Access,
+    lines: &[Line],
+) -> ArrayVec<Delivery, 8>
+    requires peer { me < scenario.now.geometry.peers }
+    requires fits { FitsDoorbell (access_seen access) }
+    requires told { AreTold scenario.now.geometry.peers (reverse lines.now) }
+    ensures { result.items ≡ brought (devices_of (world_of scenario.now)) (device_events (reverse lines.now)) (told_by_access me (access_seen access)) }
+{
+    match access {
+        Access::State(state) => {
+            let mut devices = devices_behind(scenario, lines);
+            let effect = devices.register_write(me, 0x10, state);
+            effect.deliveries
+        }
+        Access::Ring { target, vector } => {
+            let mut devices = devices_behind(scenario, lines);
+            let effect = devices.register_write(me, 0x0C, 65536 * target + vector);
+            effect.deliveries
+        }
+        Access::Read(_) | Access::Write(..) | Access::Nothing => ArrayVec::new(),
+    }
+}
+
+/// Whom a device reset of a peer interrupts behind these lines.
+pub fn interrupted_by_reset(scenario: &Scenario, me: u32, lines: &[Line]) -> ArrayVec<Delivery, 8>
+    requires peer { me < scenario.now.geometry.peers }
+    requires told { AreTold scenario.now.geometry.peers (reverse lines.now) }
+    ensures { result.items ≡ brought (devices_of (world_of scenario.now)) (device_events (reverse lines.now)) (Some (WasReset me)) }
+{
+    let mut devices = devices_behind(scenario, lines);
+    let effect = devices.reset(me);
+    effect.deliveries
+}

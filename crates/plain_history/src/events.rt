@@ -1,0 +1,194 @@
+//! What happens: the events of an act.
+ghost use Rattle.std.specs.Prelude.{◌≡◌, IfOk, replicate};
+ghost use Rattle.scenario_text.specs.Acts.{cost};
+ghost use Rattle.lawful_history.specs.Schedule.{events_of, event_peer, register_event};
+ghost use Rattle.plain_history.specs.Events.{event_seen};
+
+use ivs_base::{Frame, NoMemory};
+use link_plain::{Access, Call};
+use scenario_text::Act;
+use std::alloc::Global;
+
+/// An access to the configuration space, the register page or the MSI-X region of a peer.
+#[derive(Clone, Copy, Debug)]
+pub enum DeviceAccess {
+    ReadsConfig { offset: u16, width: u16 },
+    WritesConfig { offset: u16, width: u16, value: u32 },
+    ReadsRegister { offset: u32 },
+    WritesRegister { offset: u32, value: u32 },
+    ReadsMsix { offset: u32 },
+    WritesMsix { offset: u32, value: u32 },
+}
+
+/// What happens: a peer is told to make a call, to choose its calls from now on, or to write at random from now on; it takes its
+/// turn; it makes one access of its own accord; its device is reset; it reaches a part of its device; its next interrupt is to
+/// be lost; or an interrupt with this vector is repeated at it.
+#[derive(Drop)]
+pub enum Event {
+    Asked { peer: u32, call: Call },
+    Automated { peer: u32, expected: u64 },
+    Stormed { peer: u32, seed: u64 },
+    Turned { peer: u32 },
+    Acted { peer: u32, access: Access },
+    WasReset { peer: u32 },
+    Reached { peer: u32, access: DeviceAccess },
+    Loses { peer: u32 },
+    Repeated { peer: u32, vector: u32 },
+}
+
+impl Event {
+    /// Whose event it is.
+    pub fn peer(&self) -> u32
+        ensures { result ≡ event_peer (event_seen self.now) }
+    {
+        match self {
+            Event::Asked { peer, .. }
+            | Event::Automated { peer, .. }
+            | Event::Stormed { peer, .. }
+            | Event::Turned { peer }
+            | Event::Acted { peer, .. }
+            | Event::WasReset { peer }
+            | Event::Reached { peer, .. }
+            | Event::Loses { peer }
+            | Event::Repeated { peer, .. } => *peer,
+        }
+    }
+}
+
+/// The event of a write of a register: State stands at byte 16, and the Doorbell at byte 12.
+fn register_event(peer: u32, offset: u32, value: u32) -> Event
+    ensures { event_seen result ≡ register_event peer offset value }
+{
+    if offset == 0x10 {
+        Event::Acted {
+            peer,
+            access: Access::State(value),
+        }
+    } else if offset == 0x0C {
+        Event::Acted {
+            peer,
+            access: Access::Ring {
+                target: value / 65536,
+                vector: value % 65536,
+            },
+        }
+    } else {
+        Event::Reached {
+            peer,
+            access: DeviceAccess::WritesRegister { offset, value },
+        }
+    }
+}
+
+/// The event that an act asks for as often as it counts.
+pub fn event_of(alloc: Global, act: &Act) -> Result<Event, NoMemory>
+    ensures { IfOk result (λ event. events_of act.now ≡ replicate (cost act.now) (event_seen event)) }
+{
+    Ok(match act {
+        Act::Tick { peer } => asked(*peer, Call::Tick),
+        Act::Offer { peer, frame } => asked(*peer, Call::Offer(Frame::of(alloc, frame.bytes())?)),
+        Act::Poll { peer } => asked(*peer, Call::Poll),
+        Act::Stop { peer } => asked(*peer, Call::Stop),
+        Act::Auto { peer, expect } => Event::Automated {
+            peer: *peer,
+            expected: *expect,
+        },
+        Act::Storm { peer, seed } => Event::Stormed {
+            peer: *peer,
+            seed: *seed,
+        },
+        Act::Turn { peer, .. } => Event::Turned { peer: *peer },
+        Act::Reset { peer } => Event::WasReset { peer: *peer },
+        Act::Poke { peer, word, value } => acted(
+            *peer,
+            Access::Write(u64::from(*word), u64::from(*value)),
+        ),
+        Act::Peek { peer, word } => acted(*peer, Access::Read(u64::from(*word))),
+        Act::Set { peer, value } => acted(*peer, Access::State(*value)),
+        Act::Ring {
+            peer,
+            target,
+            vector,
+        } => acted(
+            *peer,
+            Access::Ring {
+                target: *target,
+                vector: *vector,
+            },
+        ),
+        Act::MmioWrite {
+            peer,
+            offset,
+            value,
+        } => register_event(*peer, *offset, *value),
+        Act::CfgRead {
+            peer,
+            offset,
+            width,
+        } => reached(
+            *peer,
+            DeviceAccess::ReadsConfig {
+                offset: *offset,
+                width: *width,
+            },
+        ),
+        Act::CfgWrite {
+            peer,
+            offset,
+            width,
+            value,
+        } => reached(
+            *peer,
+            DeviceAccess::WritesConfig {
+                offset: *offset,
+                width: *width,
+                value: *value,
+            },
+        ),
+        Act::MmioRead { peer, offset } => reached(
+            *peer,
+            DeviceAccess::ReadsRegister { offset: *offset },
+        ),
+        Act::MsixRead { peer, offset } => reached(
+            *peer,
+            DeviceAccess::ReadsMsix { offset: *offset },
+        ),
+        Act::MsixWrite {
+            peer,
+            offset,
+            value,
+        } => reached(
+            *peer,
+            DeviceAccess::WritesMsix {
+                offset: *offset,
+                value: *value,
+            },
+        ),
+        Act::Lose { peer } => Event::Loses { peer: *peer },
+        Act::Again { peer, vector } => Event::Repeated {
+            peer: *peer,
+            vector: *vector,
+        },
+    })
+}
+
+/// A peer is told to make this call.
+fn asked(peer: u32, call: Call) -> Event
+    ensures { result ≡ Event.Asked peer call }
+{
+    Event::Asked { peer, call }
+}
+
+/// A peer makes this access of its own accord.
+fn acted(peer: u32, access: Access) -> Event
+    ensures { result ≡ Event.Acted peer access }
+{
+    Event::Acted { peer, access }
+}
+
+/// A peer reaches its device by this access.
+fn reached(peer: u32, access: DeviceAccess) -> Event
+    ensures { result ≡ Event.Reached peer access }
+{
+    Event::Reached { peer, access }
+}

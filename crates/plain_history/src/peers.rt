@@ -1,0 +1,285 @@
+//! A peer in the middle of its schedule.
+ghost use Rattle.std.specs.Prelude.{◌≡◌, ℕ, ◌+◌, ◌*◌, ◌<◌, ◌≤◌, ◌-◌, ◌^◌, true, List, length, IfOk, OnOk};
+ghost use Rattle.link_laws.specs.Automatic.{choice_of};
+ghost use Rattle.link_laws.specs.Calls as laws;
+ghost use Rattle.link_laws.specs.Calls.{tree_of};
+ghost use Rattle.link_laws.specs.Places.{Closed, is_open, step_at, next_place, remaining};
+ghost use Rattle.link_plain.specs.Seen.{who_seen, call_seen, mark_seen, marks_seen, step_seen};
+ghost use Rattle.link_plain.specs.Following.{IsStorable};
+ghost use Rattle.lawful_history.specs.Peers as history;
+ghost use Rattle.lawful_history.specs.Peers.{asked, automated, stormed, was_reset, at_start, opened, chosen, counted, counted_all, driver_behind, stepped};
+ghost use Rattle.plain_history.specs.Peers.{IsPeer, HasFew, round_seen, auto_seen, choice_seen, driver_seen};
+
+use ivs_base::{Frame, NoMemory};
+use link_handshake::Phase;
+use link_laws::places_follow_trees;
+use link_plain::{Call, End, Mark, OpenCall, Step, Who};
+use std::alloc::Global;
+use std::mem::replace;
+
+/// What the call before tells of the round of an automatic peer.
+#[derive(Clone, Copy, Debug)]
+pub enum Round {
+    Anew,
+    BehindOffer,
+    BehindPoll,
+}
+
+/// What an automatic peer chooses: a call, or that it is finished.
+#[derive(Drop)]
+pub enum Choice {
+    Tick,
+    Offer(Frame),
+    Poll,
+    Finished,
+}
+
+/// An automatic peer: its frames that weren't accepted yet, how many deliveries it expects and how many it had, and its round.
+#[derive(Drop)]
+pub struct Auto {
+    pub frames: Vec<Frame>,
+    pub expected: u64,
+    pub delivered: u64,
+    pub round: Round,
+}
+
+/// Who chooses what a peer does: the schedule; the rule of the automatic peer; or a storm, whose generator is at this number.
+#[derive(Drop)]
+pub enum Driver {
+    Waits,
+    Chooses(Auto),
+    Storms(u64),
+}
+
+/// The end of a peer, its open call, the calls that wait, the oldest first, and its driver.
+#[derive(Drop)]
+pub struct Peer {
+    pub end: End,
+    pub call: OpenCall,
+    pub waiting: Vec<Call>,
+    pub driver: Driver,
+}
+
+impl Auto {
+    /// Counts what a mark says.
+    fn count(&mut self, mark: &Mark)
+        requires { self.old.delivered < 2 ^ 64 - 1 }
+        ensures counted { auto_seen self.new ≡ counted (auto_seen self.old) (mark_seen mark.now) }
+        ensures few { self.new.delivered ≤ self.old.delivered + 1 }
+    {
+        match mark {
+            Mark::Accept(_) => {
+                if !self.frames.is_empty() {
+                    let _ = self.frames.remove(0);
+                }
+            }
+            Mark::Deliver(_) => self.delivered += 1,
+            Mark::Saw(_)
+            | Mark::Reclaim(_)
+            | Mark::Full
+            | Mark::Look(_)
+            | Mark::Return
+            | Mark::Done
+            | Mark::Down
+            | Mark::Refuse(_)
+            | Mark::Over => {}
+        }
+    }
+
+    /// Counts what these marks say.
+    fn count_all(&mut self, marks: &[Mark])
+        requires { self.old.delivered + length marks.now < 2 ^ 64 - 1 }
+        ensures counted { auto_seen self.new ≡ counted_all (auto_seen self.old) (marks_seen marks.now) }
+        ensures few { self.new.delivered ≤ self.old.delivered + length marks.now }
+    {
+        for mark in marks {
+            self.count(mark);
+        }
+    }
+
+    /// What the peer chooses in this phase.
+    fn choose(&self, alloc: Global, phase: Phase) -> Result<Choice, NoMemory>
+        ensures { IfOk result (λ choice. choice_seen choice ≡ choice_of phase (round_seen self.now.round) self.now.frames.items self.now.delivered self.now.expected) }
+    {
+        if self.frames.is_empty() && self.delivered >= self.expected {
+            return Ok(Choice::Finished);
+        }
+        if !matches!(phase, Phase::Run) {
+            return Ok(Choice::Tick);
+        }
+        match self.round {
+            Round::Anew => match self.frames.as_slice().first() {
+                Some(frame) => Ok(Choice::Offer(Frame::of(alloc, frame.bytes())?)),
+                None => Ok(Choice::Poll),
+            },
+            Round::BehindOffer => Ok(Choice::Poll),
+            Round::BehindPoll => Ok(Choice::Tick),
+        }
+    }
+}
+
+impl Peer {
+    /// A peer at its start.
+    pub fn at_start(alloc: Global) -> Peer
+        ensures { (who : laws.Who) (most : ℕ) → IsPeer who most result at_start }
+    {
+        Peer {
+            end: End::fresh(alloc),
+            call: OpenCall::closed(alloc),
+            waiting: Vec::new(alloc),
+            driver: Driver::Waits,
+        }
+    }
+
+    /// A call was put behind those that wait; but a frame for an automatic peer was put behind its frames.
+    pub fn ask(&mut self, call: Call) -> Result<(), NoMemory>
+        ensures { OnOk result ((who : laws.Who) (most : ℕ) (peer : history.Peer) → IsPeer who most self.old peer → IsPeer who most self.new (asked peer (call_seen call))) }
+    {
+        match (&mut self.driver, call) {
+            (Driver::Chooses(auto), Call::Offer(frame)) => match auto.frames.push(frame) {
+                Ok(()) => Ok(()),
+                Err(_) => Err(NoMemory),
+            },
+            (_, call) => match self.waiting.push(call) {
+                Ok(()) => Ok(()),
+                Err(_) => Err(NoMemory),
+            },
+        }
+    }
+
+    /// The peer chooses its calls from now on.
+    pub fn automate(&mut self, alloc: Global, expected: u64)
+        ensures { (who : laws.Who) (most : ℕ) (peer : history.Peer) → IsPeer who most self.old peer → IsPeer who most self.new (automated peer expected) }
+    {
+        self.driver = Driver::Chooses(Auto {
+            frames: Vec::new(alloc),
+            expected,
+            delivered: 0,
+            round: Round::Anew,
+        });
+    }
+
+    /// The turns of the peer are a storm from now on.
+    pub fn storm(&mut self, seed: u64)
+        ensures { (who : laws.Who) (most : ℕ) (peer : history.Peer) → IsPeer who most self.old peer → IsPeer who most self.new (stormed peer seed) }
+    {
+        self.driver = Driver::Storms(seed);
+    }
+
+    /// The device of the peer was reset: its open call is cut, and those that wait are dropped.
+    pub fn reset(&mut self, alloc: Global)
+        ensures { (who : laws.Who) (most : ℕ) (peer : history.Peer) → IsPeer who most self.old peer → IsPeer who most self.new (was_reset peer) }
+    {
+        self.end.reset();
+        self.call = OpenCall::closed(alloc);
+        self.waiting = Vec::new(alloc);
+        if let Driver::Chooses(auto) = &mut self.driver {
+            auto.round = Round::Anew;
+        }
+    }
+
+    /// Opens a call.
+    fn begin(&mut self, alloc: Global, who: &Who, call: &Call) -> Result<(), NoMemory>
+        ensures { OnOk result ((most : ℕ) (peer : history.Peer) → IsPeer (who_seen who.now) most self.old peer →
+            IsPeer (who_seen who.now) most self.new (record peer { left = tree_of (who_seen who.now) peer.end (call_seen call.now) })) }
+    {
+        places_follow_trees();
+        self.call = OpenCall::open(alloc, who, &self.end, call)?;
+        Ok(())
+    }
+
+    /// An automatic peer is here in its round from now on.
+    fn set_round(&mut self, round: Round)
+        ensures { (who : laws.Who) (most : ℕ) (peer : history.Peer) (auto : history.Auto) → peer.driver ≡ history.Chooses auto → IsPeer who most self.old peer →
+            IsPeer who most self.new (record peer { driver = history.Chooses (record auto { round = round_seen round }) }) }
+    {
+        if let Driver::Chooses(auto) = &mut self.driver {
+            auto.round = round;
+        }
+    }
+
+    /// Opens a call of a round.
+    fn begin_in(
+        &mut self,
+        alloc: Global,
+        who: &Who,
+        call: &Call,
+        round: Round,
+    ) -> Result<(), NoMemory>
+        ensures { OnOk result ((most : ℕ) (peer : history.Peer) (auto : history.Auto) → peer.driver ≡ history.Chooses auto → IsPeer (who_seen who.now) most self.old peer →
+            IsPeer (who_seen who.now) most self.new (record peer { left = tree_of (who_seen who.now) peer.end (call_seen call.now); driver = history.Chooses (record auto { round = round_seen round }) })) }
+    {
+        self.set_round(round);
+        self.begin(alloc, who, call)?;
+        Ok(())
+    }
+
+    /// Opens the call that an automatic peer chooses, if it chooses one.
+    fn choose(&mut self, alloc: Global, who: &Who) -> Result<(), NoMemory>
+        ensures { OnOk result ((most : ℕ) (peer : history.Peer) → IsPeer (who_seen who.now) most self.old peer → IsPeer (who_seen who.now) most self.new (chosen (who_seen who.now) peer peer.driver)) }
+    {
+        let phase = self.end.handshake.phase();
+        let choice = match &self.driver {
+            Driver::Chooses(auto) => auto.choose(alloc, phase)?,
+            Driver::Waits | Driver::Storms(_) => return Ok(()),
+        };
+        match choice {
+            Choice::Tick => self.begin_in(alloc, who, &Call::Tick, Round::Anew)?,
+            Choice::Offer(frame) => {
+                self.begin_in(alloc, who, &Call::Offer(frame), Round::BehindOffer)?
+            }
+            Choice::Poll => self.begin_in(alloc, who, &Call::Poll, Round::BehindPoll)?,
+            Choice::Finished => {}
+        }
+        Ok(())
+    }
+
+    /// Opens the call that comes next where none is open: the oldest that waits, else the one that an automatic peer chooses.
+    pub fn open_next(&mut self, alloc: Global, who: &Who) -> Result<(), NoMemory>
+        ensures { OnOk result ((most : ℕ) (peer : history.Peer) → IsPeer (who_seen who.now) most self.old peer → IsPeer (who_seen who.now) most self.new (opened (who_seen who.now) peer)) }
+    {
+        if self.call.is_open() {
+            return Ok(());
+        }
+        if self.waiting.as_slice().is_empty() {
+            self.choose(alloc, who)?;
+            return Ok(());
+        }
+        let call = self.waiting.remove(0);
+        self.begin(alloc, who, &call)?;
+        Ok(())
+    }
+
+    /// Counts for an automatic peer what is marked on its step.
+    fn count(&mut self, marks: &[Mark])
+        requires { (most : ℕ) × HasFew most self.old.driver × (most + length marks.now < 2 ^ 64 - 1) }
+        ensures counted { driver_seen self.new.driver ≡ driver_behind (driver_seen self.old.driver) (marks_seen marks.now) }
+        ensures few { (most : ℕ) → HasFew most self.old.driver → HasFew (most + length marks.now) self.new.driver }
+        ensures kept { (self.new.end ≡ self.old.end) × (self.new.call ≡ self.old.call) × (self.new.waiting ≡ self.old.waiting) }
+    {
+        if let Driver::Chooses(auto) = &mut self.driver {
+            auto.count_all(marks);
+        }
+    }
+
+    /// The peer takes the next step of its open call.
+    pub fn follow(
+        &mut self,
+        alloc: Global,
+        who: &Who,
+        step: &Step,
+        met: u32,
+    ) -> Result<(), NoMemory>
+        requires next { step_seen step.now ≡ step_at (who_seen who.now) self.old.call met }
+        requires storable { IsStorable (step_seen step.now).access }
+        requires few { (most : ℕ) × (peer : history.Peer) × IsPeer (who_seen who.now) most self.old peer × (most + 2 < 2 ^ 32) }
+        ensures { OnOk result ((most : ℕ) (peer : history.Peer) → IsPeer (who_seen who.now) most self.old peer →
+            IsPeer (who_seen who.now) (most + 2) self.new (stepped peer (step_seen step.now) (remaining (who_seen who.now) (next_place (who_seen who.now) self.old.call met)))) }
+    {
+        self.end.follow(step)?;
+        self.count(step.marks.as_slice());
+        let call = replace(&mut self.call, OpenCall::closed(alloc));
+        self.call = call.behind(alloc, who, met)?;
+        Ok(())
+    }
+}

@@ -530,3 +530,103 @@ fn hostile_returns(rt: HostRuntime) -> Result<(), Fail> {
         ("UsedIndex 2", "UsedIndex 1"),
     )
 }
+
+/// Doorbells, a one-shot peer, a delivery that is lost and one that is repeated.
+#[test]
+fn interrupts(rt: HostRuntime) -> Result<(), Fail> {
+    let head =
+        "ivshm 1\npeers 8\ntable 4096\ncommon 0\nout 16384\nmtu 256\nirq msix 2\npeer 0 honest\npeer 1 honest\npeer 2 honest\npeer 3 honest\npeer 4 honest\npeer 5 honest\npeer 6 honest\npeer 7 honest\nbegin\n";
+    let acts =
+        "cfg 1 w 4 2 4\ncfg 1 w 98 2 32768\nmsix 1 w 28 0\nmmio 1 w 8 1\ncfg 1 w 67 1 1\nring 0 1 1\nring 0 1 1\nmmio 1 r 8\nmmio 1 w 8 1\nring 0 1 0\nring 0 9 1\nlose 1\nring 0 1 1\nmmio 1 r 8\nagain 1 1\n";
+    let lines =
+        "cw 1 4 2 4\ncw 1 98 2 32768\ntw 1 28 0\nmw 1 8 1\ncw 1 67 1 1\nd 0 1 1\ni 1 1\nd 0 1 1\nmr 1 8 0\nmw 1 8 1\nd 0 1 0\nd 0 9 1\nd 0 1 1\nlost 1 1\nmr 1 8 0\ni 1 1\n";
+    let changes = [
+        ("d 0 1 1\ni 1 1\n", "d 0 1 1\n"),
+        ("lost 1 1\n", "i 1 1\n"),
+        ("mr 1 8 0\n", "mr 1 8 1\n"),
+        ("d 0 9 1\n", "d 0 9 1\ni 1 1\n"),
+    ];
+    stands_alone(
+        &rt,
+        rt.alloc(),
+        head,
+        acts,
+        &[Part::Lines(lines)],
+        "i 1 1\n",
+        &changes,
+    )
+}
+
+/// A hostile peer writes its own section and the common one, and is denied every other word.
+#[test]
+fn section_map(rt: HostRuntime) -> Result<(), Fail> {
+    let head =
+        "ivshm 1\npeers 2\ntable 4096\ncommon 4096\nout 16384\nmtu 256\nirq msix 2\npeer 0 honest\npeer 1 hostile\nbegin\n";
+    let acts =
+        "poke 1 2048 5\npoke 1 0 3\npoke 1 1 3\npoke 1 1024 5\npeek 1 2048\npeek 1 1024\npoke 1 6144 9\n";
+    let lines =
+        "denied 1 2048\ndenied 1 0\ndenied 1 1\nw 1 1024 5\nr 1 2048 0\nr 1 1024 5\nw 1 6144 9\n";
+    let changes = [
+        ("denied 1 1\n", "w 1 1 3\n"),
+        ("w 1 1024 5\n", "denied 1 1024\n"),
+        ("r 1 2048 0\n", "r 1 2048 5\n"),
+    ];
+    stands_alone(
+        &rt,
+        rt.alloc(),
+        head,
+        acts,
+        &[Part::Lines(lines)],
+        "w 1 6144 9\n",
+        &changes,
+    )
+}
+
+/// A stop ends the session of both peers, and a poll outside it is down.
+#[test]
+fn stop(rt: HostRuntime) -> Result<(), Fail> {
+    let alloc = rt.alloc();
+    let acts = format!(in alloc;
+        "{BOTH_RUN}stop 0\nturn 0 1\ntick 1\nturn 1 2\npoll 1\nturn 1 1\n"
+    )?;
+    let parts = [
+        Part::Lines(FIRST),
+        Part::Clears(0, 1024),
+        Part::Lines(SECOND),
+        Part::Clears(1, 5120),
+        Part::Lines(THIRD),
+        Part::Lines("s 0 0\nover 0\nr 1 0 0\nsaw 1 0\ns 1 0\nover 1\ndown 1\n"),
+    ];
+    let changes = [("r 1 0 0\n", "r 1 0 3\n"), ("s 0 0\n", "s 0 1\n")];
+    stands_alone(
+        &rt,
+        alloc,
+        HONEST,
+        acts.as_str(),
+        &parts,
+        "down 1\n",
+        &changes,
+    )
+}
+
+/// The writes of a storm: the generator and its draws were computed by hand for this seed.
+#[test]
+fn storm(rt: HostRuntime) -> Result<(), Fail> {
+    let acts = "storm 1 4\nturn 1 6\n";
+    let lines =
+        "w 1 5273 3339197949\nd 1 1 3\ns 1 4\nw 1 5503 203800229\nw 1 5328 1010232983\nd 1 0 3\n";
+    let changes = [
+        ("s 1 4\n", "s 1 5\n"),
+        ("w 1 5503 ", "w 1 5504 "),
+        ("d 1 1 3\n", "d 1 0 3\n"),
+    ];
+    stands_alone(
+        &rt,
+        rt.alloc(),
+        HOSTILE,
+        acts,
+        &[Part::Lines(lines)],
+        "d 1 0 3\n",
+        &changes,
+    )
+}

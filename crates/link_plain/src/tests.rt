@@ -1,5 +1,5 @@
 //! The worked rows, line by line, and each of them with each of its lines changed.
-use super::{Access, Call, End, Mark, Step, Who, is_call, next_step};
+use super::{Access, Call, End, Mark, OpenCall, Step, Who, is_call, next_step};
 use crate::steps::same_marks;
 use ivs_base::Frame;
 use link_handshake::{Handshake, Phase};
@@ -131,6 +131,26 @@ fn end(alloc: Global, phase: Phase, accepted: u32) -> End {
     }
 }
 
+/// An open call goes along these steps to its end.
+fn goes_along(
+    rt: &impl Abort,
+    alloc: Global,
+    who: &Who,
+    call: OpenCall,
+    steps: &[Step],
+) -> Result<(), Fail> {
+    let mut open = call;
+    for step in steps {
+        assert!(rt; open.is_open() && open.access(who) == step.access);
+        let next = open.step(alloc, who, step.value)?;
+        assert!(rt; next.access == step.access && next.value == step.value);
+        assert!(rt; same_marks(next.marks.as_slice(), step.marks.as_slice()));
+        open = open.behind(alloc, who, step.value)?;
+    }
+    assert!(rt; !open.is_open());
+    Ok(())
+}
+
 /// The lines are the call, step for step, and with any of them changed they aren't.
 fn check(
     rt: &impl Abort,
@@ -152,6 +172,13 @@ fn check(
         assert!(rt; same_marks(next.marks.as_slice(), step.marks.as_slice()));
     }
     assert!(rt; next_step(alloc, who, end, call, steps.as_slice(), 0)?.is_none());
+    goes_along(
+        rt,
+        alloc,
+        who,
+        OpenCall::open(alloc, who, end, call)?,
+        steps.as_slice(),
+    )?;
     for i in 0..lines.len() {
         let mut others = lines.to_vec(alloc)?;
         others[i] = changed(others[i]);
@@ -326,5 +353,27 @@ fn polls(rt: HostRuntime) -> Result<(), Fail> {
             lines.as_slice(),
         )?;
     }
+    Ok(())
+}
+
+#[test]
+fn an_end_follows_its_steps(rt: HostRuntime) -> Result<(), Fail> {
+    let alloc = rt.alloc();
+    let mut end = End::fresh(alloc);
+    let mut step = Step {
+        access: Access::Write(1281, 5),
+        value: 0,
+        marks: Vec::new(alloc),
+    };
+    end.follow(&step)?;
+    step.access = Access::Write(1281, 6);
+    end.follow(&step)?;
+    step.access = Access::State(3);
+    end.follow(&step)?;
+    assert!(rt; end.written(1281) == 6 && end.written(1282) == 0);
+    assert!(rt; matches!(end.handshake.phase(), Phase::Run));
+    end.reset();
+    assert!(rt; matches!(end.handshake.phase(), Phase::Reset) && end.written(1281) == 6);
+    assert!(rt; !OpenCall::closed(alloc).is_open());
     Ok(())
 }

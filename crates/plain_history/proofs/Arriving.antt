@@ -1,14 +1,11 @@
 -- Interrupts that come one behind the other.
 use Rattle.std.proofs.Common.{◌≡◌, ℕ, ◌+◌, ◌<◌, List, [], ◌∷◌, ◌++◌, length, take, drop, get_or, refl, sym, ap, ◌∙◌, subst}
-use Rattle.std.specs.Prelude.{Option, Some, None, reverse}
+use Rattle.std.specs.Prelude.{None, reverse}
 use Rattle.std.proofs.lemmas.List.{reverse-append, take_more, take-append-drop}
 use Rattle.doorbell_irq.specs.declared.effect.Delivery.{Delivery}
-use Rattle.doorbell_irq.specs.Events as device
-use Rattle.scenario_text.specs.Scenario.{World}
 use Rattle.lawful_history.specs.declared.line.Line.{Line}
-use Rattle.lawful_history.specs.Device.{devices_of, device_events, arrival, arrived, arrivals_by}
+use Rattle.lawful_history.specs.Device.{arrival, arrived}
 use Rattle.plain_history.specs.Reading.{Reads}
-use Rattle.plain_history.specs.Told.{brought}
 use Rattle.plain_history.proofs.Reading.{behind, none_more}
 
 arrived-append : (older : List Line) (losses : ℕ → ℕ) (xs ys : List Delivery) →
@@ -35,9 +32,3 @@ not_all lines past losses ds i none =
     let whole : reverse (arrived past losses ds) ++ past ≡ reverse more ++ (reverse first ++ past) =
     ap (λ (xs : List Delivery). reverse (arrived past losses xs) ++ past) (sym (take-append-drop i ds)) ∙ ap (λ ls. reverse ls ++ past) (arrived-append past losses (take i ds) (drop i ds)) ∙ behind first more past in
     subst (λ (ls : List Line). Reads lines ls None) (sym whole) (none_more lines (reverse first ++ past) more none)
-
--- the interrupts that a line brings are those of what it tells
-pub arrivals_are : (world : World) (older : List Line) (losses : ℕ → ℕ) (line : Line) (told : Option device.Event) →
-    arrivals_by world older losses line told ≡ arrived (line ∷ older) losses (brought (devices_of world) (device_events older) told)
-arrivals_are world older losses line None = refl
-arrivals_are world older losses line (Some event) = refl

@@ -1,5 +1,5 @@
 -- What a step counts, and where a call reads its counts.
-use Rattle.std.proofs.Common.{◌≡◌, ℕ, zero, suc, ◌+◌, ◌-◌, ◌<◌, ◌≤◌, ◌^◌, Bool, true, false, List, [], ◌∷◌, ◌++◌, length, take, get_or, refl, sym, ap, ◌∙◌, arith}
+use Rattle.std.proofs.Common.{◌≡◌, ℕ, zero, suc, ◌+◌, ◌-◌, ◌<◌, ◌≤◌, Bool, true, false, List, [], ◌∷◌, ◌++◌, length, take, get_or, refl, sym, ap, ◌∙◌, arith}
 use Rattle.std.specs.Prelude.{◌==◌, nat_le, if◌then◌else◌}
 use Rattle.std.proofs.lemmas.Bool.Decides.{nat_tests}
 use Rattle.std.proofs.lemmas.List.{take_more, map-append}
@@ -23,7 +23,7 @@ use Rattle.link_laws.specs.Places.{Place, Closed, AtState, Clearing, Setting, Re
 use Rattle.link_plain.specs.declared.ends.End.{End}
 use Rattle.link_plain.specs.declared.steps.Mark as plain
 use Rattle.link_plain.specs.Seen.{mark_seen, marks_seen, IsSeenAs}
-use Rattle.link_plain.specs.Following.{freed_in, HasRoom, HasCounted}
+use Rattle.link_plain.specs.Following.{freed_in, HasCounted}
 use Rattle.lawful_history.specs.Peers.{Auto, counted, counted_all}
 use Rattle.plain_history.specs.Peers.{AreFew, IsFresh}
 
@@ -244,15 +244,6 @@ fresh_first most end who seen (Offer frame) is few =
     let least = few.accepted in
     fresh_run most end seen.handshake.phase (AtUsedIndex (job_of who seen frame) seen.freed) (omega arith, is.freed)
 fresh_first most end who seen Poll is few = fresh_run most end seen.handshake.phase (AtAvailIndex (length seen.delivered)) tt
-
--- there is room for what is marked on a step
-pub has_room : (most : ℕ) (end : End) (who : Who) (place : Place) (value : ℕ) (marks : List Mark) → marks ≡ marks_at who place value → IsFresh most end place → AreFew most end → most + 2 < 2 ^ 32 → HasRoom end marks
-has_room most end who place value marks is fresh few small =
-    let all = marks_few who place value in
-    let freed = freed_few most end who place value fresh few.freed in
-    let a = few.accepted in
-    let d = few.delivered in
-    rw is (record { accepted = omega arith; freed = omega arith; delivered = omega arith })
 
 -- and few are counted behind it
 pub still_few : (most : ℕ) (end new : End) (who : Who) (place : Place) (value : ℕ) (marks : List Mark) → marks ≡ marks_at who place value → IsFresh most end place → AreFew most end → HasCounted end marks new → AreFew (most + 2) new

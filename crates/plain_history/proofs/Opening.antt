@@ -1,5 +1,5 @@
 -- A call is opened, and its next step is taken.
-use Rattle.std.proofs.Common.{◌≡◌, ℕ, ◌+◌, ◌<◌, ◌≤◌, true, false, List, [], ◌∷◌, length, get_or, remove, refl, sym, ap, ◌∙◌, arith, subst}
+use Rattle.std.proofs.Common.{◌≡◌, ℕ, ◌+◌, ◌<◌, ◌≤◌, false, List, [], ◌∷◌, length, get_or, remove, refl, sym, ap, ◌∙◌, arith, subst}
 use Rattle.std.specs.Prelude.{map}
 use Rattle.link_handshake.specs.declared.Phase.{Phase}
 use Rattle.link_laws.specs.Automatic as laws
@@ -92,44 +92,9 @@ pub chosen_as : (who : Who) (peer : history.Peer) (auto : history.Auto) (phase :
 chosen_as who peer auto phase choice driver at is =
     ap (λ (d : history.Driver). chosen who peer d) driver ∙ ap (λ (x : laws.Choice). with_choice who peer auto x) (ap (λ (p : Phase). choice_of p auto.round auto.frames auto.delivered auto.expected) (sym at) ∙ sym is)
 
--- an open call goes on before another is opened
-open_by : (who : Who) (place : Place) (peer : history.Peer) (waiting : List calls.Call) → is_open place ≡ true → opened_by who peer (remaining who place) waiting ≡ peer
-open_by who Closed peer waiting opens = absurd (cc)
-open_by who (AtState handshake) peer waiting opens = refl
-open_by who (Clearing at more state) peer waiting opens = refl
-open_by who (Setting state) peer waiting opens = refl
-open_by who Refusing peer waiting opens = refl
-open_by who Downed peer waiting opens = refl
-open_by who (AtUsedIndex job freed) peer waiting opens = refl
-open_by who (AtUsedId job freed more) peer waiting opens = refl
-open_by who (Filling job at more) peer waiting opens = refl
-open_by who (WritingLow job) peer waiting opens = refl
-open_by who (WritingHigh job) peer waiting opens = refl
-open_by who (WritingLength job) peer waiting opens = refl
-open_by who (WritingFlags job) peer waiting opens = refl
-open_by who (WritingEntry job) peer waiting opens = refl
-open_by who (WritingIndex job) peer waiting opens = refl
-open_by who RingingOffer peer waiting opens = refl
-open_by who (AtAvailIndex taken) peer waiting opens = refl
-open_by who (AtEntry number more) peer waiting opens = refl
-open_by who (AtLow number more entry) peer waiting opens = refl
-open_by who (AtHigh number more entry low) peer waiting opens = refl
-open_by who (AtLength number more entry address) peer waiting opens = refl
-open_by who (AtFlags number more entry address bytes) peer waiting opens = refl
-open_by who (AtWord number more entry address bytes read words) peer waiting opens = refl
-open_by who (GivingId number more entry) peer waiting opens = refl
-open_by who (GivingLength number more) peer waiting opens = refl
-open_by who (GivingIndex number more) peer waiting opens = refl
-open_by who RingingPoll peer waiting opens = refl
-
 shut_place : (place : Place) → is_open place ≡ false → place ≡ Closed
 shut_place Closed shut = refl
 shut_place _ shut = absurd (cc)
-
-pub stays_open : (who : Who) (most : ℕ) (s : Peer) (peer : history.Peer) → IsPeer who most s peer → is_open s.call ≡ true → IsPeer who most s (opened who peer)
-stays_open who most s peer stands opens =
-    let same : opened who peer ≡ peer = ap (λ (t : CallTree). opened_by who peer t peer.waiting) (sym stands.left) ∙ open_by who s.call peer peer.waiting opens in
-    subst (λ (p : history.Peer). IsPeer who most s p) (sym same) stands
 
 -- with no open call nothing is left of one
 pub shut_left : (who : Who) (most : ℕ) (s : Peer) (peer : history.Peer) → IsPeer who most s peer → is_open s.call ≡ false → peer.left ≡ Ended

@@ -1,5 +1,5 @@
 -- A step of an open call, or of its own accord, is that of the history.
-use Rattle.std.proofs.Common.{◌≡◌, ℕ, ◌+◌, ◌<◌, ◌≤◌, ◌^◌, Bool, true, false, List, [], ◌∷◌, ◌++◌, refl, sym, ap, ◌∙◌, subst, arith}
+use Rattle.std.proofs.Common.{◌≡◌, ℕ, ◌+◌, ◌<◌, ◌≤◌, ◌^◌, true, List, [], ◌++◌, refl, sym, ap, ◌∙◌, subst, arith}
 use Rattle.std.specs.Prelude.{Option, Some, None, reverse}
 use Rattle.split_ring.specs.declared.steps.Access.{Access}
 use Rattle.split_ring.specs.declared.steps.Access.TheVariants as access
@@ -13,17 +13,11 @@ use Rattle.lawful_history.specs.declared.line.Line.{Line}
 use Rattle.lawful_history.specs.Memory.{last_write}
 use Rattle.lawful_history.specs.Peers.{Driver, Peer, stepped}
 use Rattle.lawful_history.specs.History.{step_by, moved_by}
-use Rattle.section_map.specs.Geometry.{Shape, section_start}
-use Rattle.section_map.specs.MayWrite.{MayWrite}
-use Rattle.std.specs.Prelude.{nat_le, nat_lt, ◌&&◌, ◌||◌}
-use Rattle.std.proofs.Common.{inl, inr, ◌⊎◌}
-use Rattle.std.proofs.lemmas.Bool.Decides.{nat_tests}
-use Rattle.lawful_history.specs.declared.line.Line.TheVariants as line
 use Rattle.lawful_history.specs.Storm.{storm_step, storm_behind}
-use Rattle.lawful_history.specs.Entries.{denied_lines, acted_lines, step_lines, turn_lines}
+use Rattle.lawful_history.specs.Entries.{acted_lines, step_lines, turn_lines}
 use Rattle.lawful_history.specs.Peers.{Storms}
 use Rattle.lawful_history.specs.Device.{step_interrupts}
-use Rattle.lawful_history.specs.History.{driven_step, driven, moved, may_write, acted_step}
+use Rattle.lawful_history.specs.History.{driven_step, driven, moved, acted_step}
 use Rattle.plain_history.specs.declared.peers.Peer as plain
 use Rattle.plain_history.specs.Reading.{Reads, Meets}
 use Rattle.plain_history.specs.Told.{AreTold, FitsDoorbell}
@@ -105,28 +99,6 @@ storm_goes world lines past lost me x it who most new step r driver is goes =
     subst (λ (w : Option Step). P w (driven it it.driver)) (ap (λ (s : Step). Some s) is ∙ sym (ap (λ (d : Driver). driven_step world me d) driver))
     (subst (λ (y : Peer). P (Some step) y) (sym (ap (λ (d : Driver). driven it d) driver)) goes)
 
--- What is denied
-
-either_in : (own own_end table common_end word : ℕ) → ((own ≤ word) × (word < own_end)) ⊎ ((table ≤ word) × (word < common_end)) → ((nat_le own word && nat_lt word own_end) || (nat_le table word && nat_lt word common_end)) ≡ true
-either_in own own_end table common_end word (inl (low, high)) = grind (arith, nat_tests)
-either_in own own_end table common_end word (inr (low, high)) = grind (arith, nat_tests)
-
-in_either : (own own_end table common_end word : ℕ) → ((nat_le own word && nat_lt word own_end) || (nat_le table word && nat_lt word common_end)) ≡ true →
-    ((own ≤ word) × (word < own_end)) ⊎ ((table ≤ word) × (word < common_end))
-in_either own own_end table common_end word is = grind (arith, nat_tests)
-
-pub may : (g : Shape) (p word : ℕ) → MayWrite g p word → may_write g p word ≡ true
-may g p word is = either_in (section_start g p) (section_start g p + g.out) g.table (g.table + g.common) word is
-
-pub may_not : (g : Shape) (p word : ℕ) (b : Bool) → may_write g p word ≡ b → (MayWrite g p word → ⊥) → b ≡ false
-may_not g p word true is not = absurd (not (in_either (section_start g p) (section_start g p + g.out) g.table (g.table + g.common) word is))
-may_not g p word false is not = refl
-
-pub not_denied : (world : World) (me word value : ℕ) (past : List Line) (met : ℕ) → MayWrite world.geometry me word → acted_step world me (access.Write word value) past ≡ Some (step_of (access.Write word value) met [])
-not_denied world me word value past met is = rw (may world.geometry me word is) refl
-
-pub denied : (world : World) (me word value : ℕ) (past : List Line) → (MayWrite world.geometry me word → ⊥) → acted_step world me (access.Write word value) past ≡ None
-denied world me word value past not = rw (may_not world.geometry me word (may_write world.geometry me word) refl not) refl
 
 -- what is met is what is given
 given_is : (past : List Line) (a : Access) (met : ℕ) → Meets past a met → value_given a met ≡ met
@@ -143,12 +115,6 @@ pub acted_goes : (world : World) (past : List Line) (lost : ℕ → ℕ) (me : �
 acted_goes world past lost me a met P meets is holds =
     let Q : Option Step → Type 0 = λ w. P (reverse (acted_lines me a w (step_interrupts world past lost me w)) ++ past) in
     subst Q (ap (λ v. Some (record { access = a; value = v; marks = [] })) (sym (given_is past a met meets)) ∙ sym is) holds
-
-pub denied_goes : (world : World) (past : List Line) (lost : ℕ → ℕ) (me word : ℕ) (a : Access) (P : List Line → Type 0) → acted_step world me a past ≡ None → denied_lines me a ≡ line.Denied me word ∷ [] →
-    P (line.Denied me word ∷ past) → P (reverse (acted_lines me a (acted_step world me a past) (step_interrupts world past lost me (acted_step world me a past))) ++ past)
-denied_goes world past lost me word a P is lines holds =
-    let Q : Option Step → Type 0 = λ w. P (reverse (acted_lines me a w (step_interrupts world past lost me w)) ++ past) in
-    subst Q (sym is) (subst (λ (ls : List Line). P (reverse (ls ++ []) ++ past)) (sym lines) holds)
 
 goes_wider : (world : World) (lines past : List Line) (who : Who) (most more : ℕ) (it : Peer) (seen : plain.Peer) (r : Option ℕ) → most ≤ more → GoesTo world lines past who most it seen r → GoesTo world lines past who more it seen r
 goes_wider world lines past who most more it seen None wide goes = goes

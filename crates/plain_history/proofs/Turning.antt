@@ -99,7 +99,6 @@ storm_goes world lines past lost me x it who most new step r driver is goes =
     subst (λ (w : Option Step). P w (driven it it.driver)) (ap (λ (s : Step). Some s) is ∙ sym (ap (λ (d : Driver). driven_step world me d) driver))
     (subst (λ (y : Peer). P (Some step) y) (sym (ap (λ (d : Driver). driven it d) driver)) goes)
 
-
 -- what is met is what is given
 given_is : (past : List Line) (a : Access) (met : ℕ) → Meets past a met → value_given a met ≡ met
 given_is past (access.Read word) met meets = refl

@@ -609,7 +609,7 @@ fn stop(rt: HostRuntime) -> Result<(), Fail> {
     )
 }
 
-/// The writes of a storm: the generator and its draws were computed by hand for this seed.
+/// The writes of a storm: the generator and its draws were computed apart from this program.
 #[test]
 fn storm(rt: HostRuntime) -> Result<(), Fail> {
     let acts = "storm 1 4\nturn 1 6\n";

@@ -10,8 +10,8 @@ use crate::failures::Failure;
 use crate::faults::{RecordCause, RecordFault};
 use crate::taking::take;
 use crate::trace::Trace;
-use line_text::cut;
 use lawful_history::Lines;
+use line_text::cut;
 use scenario_text::{Draft, Scenario};
 use std::alloc::Global;
 

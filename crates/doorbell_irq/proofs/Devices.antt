@@ -5,7 +5,7 @@ use Rattle.std.proofs.lemmas.Option.{slice_get-get_or}
 use Rattle.doorbell_irq.specs.Devices.{Devices, IsDevices}
 use Rattle.doorbell_irq.specs.declared.registers.Registers.{Registers}
 use Rattle.doorbell_irq.specs.Events.{World, Event, Part, vector_count}
-use Rattle.doorbell_irq.specs.DeviceRules.{vector_of, resets, write_of, delivery_by, delivery_of, deliveries_below, delivery_to, connected_behind, is_connected, bytes_after}
+use Rattle.doorbell_irq.specs.DeviceRules.{vector_of, resets, write_of, delivery_by, delivery_of, deliveries_below, delivery_to, connected_after, is_connected, bytes_after}
 use Rattle.doorbell_irq.specs.Registers.{IsPeer, Takes, delivery_at}
 use Rattle.doorbell_irq.specs.declared.trigger.Trigger.{Trigger}
 use Rattle.doorbell_irq.specs.Triggers.{vector_at, delivery_if, delivery_among}
@@ -29,7 +29,7 @@ peer_at w events device sound stands peer d inside =
 -- The event leaves the other peers alone, but for what it triggers.
 pub record Spares (w : World) (event : Event) (peer : ℕ) : Type 0 where
   pub registers : resets event peer ≡ false
-  pub connection : (before : Bool) → connected_behind event peer before ≡ before
+  pub connection : (before : Bool) → connected_after event peer before ≡ before
   pub writes : (part : Part) → write_of w.wiring event peer part ≡ None
 
 module _ (w : World) (events : List Event) (event : Event) (old : Devices) (sound : IsDevices old) (stands : Stands w events old) (source : ℕ) (inside : source < old.peers)
@@ -62,7 +62,7 @@ module _ (w : World) (events : List Event) (event : Event) (old : Devices) (soun
     ];
   }
 
-  -- The source's registers behind its own write or reset: they stand as before the event, which may trigger the source too, or as behind
+  -- The source's registers after its own write or reset: they stand as before the event, which may trigger the source too, or as after
   -- it, and then the source isn't triggered.
   abbrev pub Own : Registers → Type 0
   Own own = (IsPeer w events source own × Spares w event source)
@@ -83,7 +83,7 @@ module _ (w : World) (events : List Event) (event : Event) (old : Devices) (soun
         (slice_get-set_same old.registers source own (omega (arith, stands.seats, sound.few)))
         (ap (slice_get (set old.registers source own)) (sym same) ∙ at)
 
-    -- A peer behind the event and its triggers.
+    -- A peer after the event and its triggers.
     led_at : (peer : ℕ) (before after : Registers) → peer < old.peers → slice_get (set old.registers source own) peer ≡ Some before →
         Takes old.wiring (vector_at trigger peer) before after → IsPeer w (event ∷ events) peer after
     led_at peer before after here at taken =
@@ -108,7 +108,7 @@ module _ (w : World) (events : List Event) (event : Event) (old : Devices) (soun
               (others_are peer before here other at) takes
         ]
 
-    -- The device behind the event.
+    -- The device after the event.
     pub led : (new : Devices) → new.peers ≡ old.peers → new.wiring ≡ old.wiring → length new.registers ≡ length (set old.registers source own) →
         ((peer : ℕ) (before after : Registers) → peer < old.peers → slice_get (set old.registers source own) peer ≡ Some before →
         slice_get new.registers peer ≡ Some after → Takes old.wiring (vector_at trigger peer) before after) →

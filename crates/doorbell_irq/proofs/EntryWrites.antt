@@ -3,7 +3,7 @@ use Rattle.std.proofs.Common.{◌≡◌, ◌≢◌, ℕ, ◌/◌, ◌%◌, ◌<�
 use Rattle.std.specs.Prelude.{◌&&◌, ◌==◌, nat_lt, if◌then◌else◌, Result, Ok, Err, IsOk, OnOk, slice_index, slice_get}
 use Rattle.std.proofs.lemmas.Bool.{ne_eqb, lt-ltb}
 use Rattle.std.proofs.lemmas.Option.{slice_get-get_or}
-use Rattle.pci_space.specs.Fields.{Contents, byte_behind}
+use Rattle.pci_space.specs.Fields.{Contents, merged_byte}
 use Rattle.pci_space.specs.declared.wiring.Wiring.{Wiring}
 use Rattle.doorbell_irq.specs.declared.registers.Registers.{Registers}
 use Rattle.doorbell_irq.specs.Events.{vector_count}
@@ -30,9 +30,9 @@ module _ (wiring : Wiring) (offset value : ℕ) (aligned : offset % 4 ≡ 0) (ha
       ap (λ b. if b && (offset % 4 == 0 && nat_lt n (vector_count wiring)) then Some (record { offset = offset % 16; width = 4; value = value }) else None)
       (ne_eqb (offset / 16) n (λ same. other (sym same)))
 
-  -- The registers behind the write.
+  -- The registers after the write.
   pub entry_written : (r : Registers) (d entry : Contents) → offset / 16 < length r.entries → entry.rows ≡ (get_or r.entries (offset / 16) d).rows →
-      ((k : ℕ) → slice_index entry.bytes k ≡ byte_behind (get_or r.entries (offset / 16) d).rows (offset % 16) 4 value k (slice_index (get_or r.entries (offset / 16) d).bytes k)) →
+      ((k : ℕ) → slice_index entry.bytes k ≡ merged_byte (get_or r.entries (offset / 16) d).rows (offset % 16) 4 value k (slice_index (get_or r.entries (offset / 16) d).bytes k)) →
       Writes None None (entry_write wiring offset value) r (record r { entries = set r.entries (offset / 16) entry })
   entry_written r d entry inside rows bytes = record {
     connected = refl;
@@ -50,7 +50,7 @@ module _ (wiring : Wiring) (offset value : ℕ) (aligned : offset % 4 ≡ 0) (ha
           record {
             rows = ap (λ (s : Contents). s.rows) (sym is) ∙ rows ∙ ap (λ (s : Contents). s.rows) was;
             bytes = λ k. ap (λ (s : Contents). slice_index s.bytes k) (sym is) ∙ bytes k
-                ∙ ap (λ (s : Contents). byte_behind s.rows (offset % 16) 4 value k (slice_index s.bytes k)) was
+                ∙ ap (λ (s : Contents). merged_byte s.rows (offset % 16) 4 value k (slice_index s.bytes k)) was
                 ∙ sym (ap (λ a. byte_after before.rows a k (slice_index before.bytes k)) (ap (entry_write wiring offset value) same ∙ here));
           }
           )

@@ -4,7 +4,7 @@ use Rattle.std.specs.Prelude.{Bool, true, false, ◌&&◌, if◌then◌else◌, 
 use Rattle.pci_space.specs.Fields.{Contents, reset_byte}
 use Rattle.doorbell_irq.specs.declared.registers.Registers.{Registers}
 use Rattle.doorbell_irq.specs.Events.{World, Event, Part, Config, Page, Entry, rows_of, vector_count}
-use Rattle.doorbell_irq.specs.DeviceRules.{Write, is_one_shot, vector_of, resets, write_of, clear_of, write_or, byte_after, delivery_of, delivery_by, whole_write_of, connected_behind, is_connected, bytes_after}
+use Rattle.doorbell_irq.specs.DeviceRules.{Write, is_one_shot, vector_of, resets, write_of, clear_of, write_or, byte_after, delivery_of, delivery_by, whole_write_of, connected_after, is_connected, bytes_after}
 use Rattle.doorbell_irq.specs.Registers.{register_bytes, delivery_at, Writes, Takes, IsPart, IsPeer, IsWritten, IsSpaceReset, IsReset}
 use Rattle.std.proofs.lemmas.Option.{slice_get_within}
 use Rattle.doorbell_irq.proofs.Lists.{slice_get-within}
@@ -60,7 +60,7 @@ module _ (w : World) (events : List Event) (peer : ℕ) where
 
     -- Registers go on by the event's writes.
     peer_goes : (config page : Option Write) (entry : ℕ → Option Write) (old new : Registers) → resets event peer ≡ false →
-        connected_behind event peer (is_connected events peer) ≡ is_connected events peer →
+        connected_after event peer (is_connected events peer) ≡ is_connected events peer →
         write_to Config ≡ config → write_to Page ≡ page → ((n : ℕ) → write_to (Entry n) ≡ entry n) →
         IsPeer w events peer old → Writes config page entry old new → IsPeer w (event ∷ events) peer new
     peer_goes config page entry old new kept linked in_config in_page in_entry was written = record {
@@ -79,7 +79,7 @@ module _ (w : World) (events : List Event) (peer : ℕ) where
 
     -- A write of the guest, at a peer that isn't triggered.
     pub peer_written : (config page : Option Write) (entry : ℕ → Option Write) (old new : Registers) → resets event peer ≡ false →
-        connected_behind event peer (is_connected events peer) ≡ is_connected events peer →
+        connected_after event peer (is_connected events peer) ≡ is_connected events peer →
         vector_of (bytes_after w events) event peer ≡ None →
         write_of w.wiring event peer Config ≡ config → write_of w.wiring event peer Page ≡ page → ((n : ℕ) → write_of w.wiring event peer (Entry n) ≡ entry n) →
         IsPeer w events peer old → Writes config page entry old new → IsPeer w (event ∷ events) peer new
@@ -94,7 +94,7 @@ module _ (w : World) (events : List Event) (peer : ℕ) where
 
     -- A trigger, or none, at a peer that is written nothing.
     pub peer_taken : (vector : Option ℕ) (old new : Registers) → vector_count w.wiring ≤ 64 → resets event peer ≡ false →
-        connected_behind event peer (is_connected events peer) ≡ is_connected events peer →
+        connected_after event peer (is_connected events peer) ≡ is_connected events peer →
         vector_of (bytes_after w events) event peer ≡ vector →
         ((part : Part) → write_of w.wiring event peer part ≡ None) →
         IsPeer w events peer old → Takes w.wiring vector old new → IsPeer w (event ∷ events) peer new
@@ -120,7 +120,7 @@ module _ (w : World) (events : List Event) (peer : ℕ) where
 
     -- A peer at reset.
     pub peer_reset : (connection : Bool) (old new : Registers) → resets event peer ≡ true →
-        connected_behind event peer (is_connected events peer) ≡ connection →
+        connected_after event peer (is_connected events peer) ≡ connection →
         IsPeer w events peer old → IsReset old connection new → IsPeer w (event ∷ events) peer new
     peer_reset connection old new now linked was blank = record {
       connected = blank.connected ∙ sym linked;

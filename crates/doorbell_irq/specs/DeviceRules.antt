@@ -1,11 +1,11 @@
 -- The device's rules (the device's specification, and PCI 3.0 for MSI-X and INTx): what the registers of a world's peers are
--- behind a list of events, the newest first, and what one more event does. A trigger that isn't delivered is dropped (profile).
+-- after a list of events, the newest first, and what one more event does. A trigger that isn't delivered is dropped (profile).
 use Rattle.std.specs.Prelude.{ℕ, zero, suc, ◌/◌, ◌%◌, ◌^◌, Bool, true, false, ◌&&◌, ◌||◌, not, ◌==◌, nat_lt, if◌then◌else◌, List, [], ◌∷◌, ◌++◌, Option, Some, None, is_some}
 use Rattle.pci_space.specs.declared.field.Field.{Field}
 use Rattle.pci_space.specs.declared.wiring.Wiring.{Wiring}
 use Rattle.pci_space.specs.declared.wiring.Wiring.TheVariants.{Msix, Intx}
 use Rattle.pci_space.specs.Numbers.{number_from}
-use Rattle.pci_space.specs.Fields.{reset_byte, byte_behind}
+use Rattle.pci_space.specs.Fields.{reset_byte, merged_byte}
 use Rattle.doorbell_irq.specs.declared.effect.Delivery.{Delivery}
 use Rattle.doorbell_irq.specs.declared.effect.Effect.{Effect}
 use Rattle.doorbell_irq.specs.Events.{World, Event, ConfigWritten, RegisterWritten, MsixWritten, WasReset, WasDisconnected, WasConnected, Part, Config, Page, Entry, rows_of, vector_count}
@@ -112,10 +112,10 @@ abbrev pub write_or : Option Write → Option Write → Option Write
 write_or (Some write) other = Some write
 write_or None other = other
 
--- A byte behind a write, if there is one.
+-- A byte after a write, if there is one.
 abbrev pub byte_after : List Field → Option Write → ℕ → ℕ → ℕ
 byte_after rows None k old = old
-byte_after rows (Some write) k old = byte_behind rows write.offset write.width write.value k old
+byte_after rows (Some write) k old = merged_byte rows write.offset write.width write.value k old
 
 -- The delivery of an event to a peer, where `connected` and `before` are how the peers stood.
 abbrev pub delivery_of : Wiring → (ℕ → Bool) → (ℕ → Bytes) → Event → ℕ → Option ℕ
@@ -127,18 +127,18 @@ whole_write_of wiring connected before event peer part =
     write_or (write_of wiring event peer part)
     (clear_of part (is_some (delivery_of wiring connected before event peer) && is_one_shot (before peer)))
 
--- Whether a peer is connected behind an event.
-abbrev pub connected_behind : Event → ℕ → Bool → Bool
-connected_behind (WasDisconnected p) peer before = if p == peer then false else before
-connected_behind (WasConnected p) peer before = if p == peer then true else before
-connected_behind _ peer before = before
+-- Whether a peer is connected after an event.
+abbrev pub connected_after : Event → ℕ → Bool → Bool
+connected_after (WasDisconnected p) peer before = if p == peer then false else before
+connected_after (WasConnected p) peer before = if p == peer then true else before
+connected_after _ peer before = before
 
--- Whether a peer is connected behind a list of events: at the start all are.
+-- Whether a peer is connected after a list of events: at the start all are.
 abbrev pub is_connected : List Event → ℕ → Bool
 is_connected [] peer = true
-is_connected (event ∷ events) peer = connected_behind event peer (is_connected events peer)
+is_connected (event ∷ events) peer = connected_after event peer (is_connected events peer)
 
--- The bytes of the peers' spaces behind a list of events: those at reset, and then what each event wrote.
+-- The bytes of the peers' spaces after a list of events: those at reset, and then what each event wrote.
 abbrev pub bytes_after : World → List Event → ℕ → Bytes
 bytes_after w [] peer part k = reset_byte (rows_of w peer part) k
 bytes_after w (event ∷ events) peer part k =
@@ -163,7 +163,7 @@ state_of (WasReset p) = Some 0
 state_of (WasDisconnected p) = Some 0
 state_of _ = None
 
--- What one more event does, behind a list of events.
+-- What one more event does, after a list of events.
 abbrev pub effect_of : World → List Event → Event → Effect
 effect_of w events event = record {
   state = state_of event;

@@ -21,12 +21,12 @@ register_bytes r (Entry n) k = byte_in (slice_get r.entries n) k
 abbrev pub delivery_at : Wiring → Registers → Option ℕ → Option ℕ
 delivery_at wiring r vector = delivery_by wiring r.connected (register_bytes r) vector
 
--- A space has the bytes of a peer's part behind these events.
+-- A space has the bytes of a peer's part after these events.
 pub record IsPart (w : World) (events : List Event) (peer : ℕ) (part : Part) (space : Contents) : Type 0 where
   pub rows : space.rows ≡ rows_of w peer part
   pub bytes : (k : ℕ) → slice_index space.bytes k ≡ bytes_after w events peer part k
 
--- Registers are those of a peer behind these events.
+-- Registers are those of a peer after these events.
 pub record IsPeer (w : World) (events : List Event) (peer : ℕ) (r : Registers) : Type 0 where
   pub connected : r.connected ≡ is_connected events peer
   pub config : IsPart w events peer Config r.config
@@ -34,12 +34,12 @@ pub record IsPeer (w : World) (events : List Event) (peer : ℕ) (r : Registers)
   pub count : length r.entries ≡ 64
   pub entries : (n : ℕ) (entry : Contents) → slice_get r.entries n ≡ Some entry → IsPart w events peer (Entry n) entry
 
--- The new space is the old one behind a write, if there is one.
+-- The new space is the old one after a write, if there is one.
 pub record IsWritten (write : Option Write) (old new : Contents) : Type 0 where
   pub rows : new.rows ≡ old.rows
   pub bytes : (k : ℕ) → slice_index new.bytes k ≡ byte_after old.rows write k (slice_index old.bytes k)
 
--- The new registers are the old ones behind these writes to the configuration space, the page and the entries.
+-- The new registers are the old ones after these writes to the configuration space, the page and the entries.
 pub record Writes (config page : Option Write) (entry : ℕ → Option Write) (old new : Registers) : Type 0 where
   pub connected : new.connected ≡ old.connected
   pub in_config : IsWritten config old.config new.config
@@ -61,7 +61,7 @@ pub record IsReset (old : Registers) (connection : Bool) (new : Registers) : Typ
   pub count : length new.entries ≡ length old.entries
   pub entries : (n : ℕ) (before after : Contents) → slice_get old.entries n ≡ Some before → slice_get new.entries n ≡ Some after → IsSpaceReset before after
 
--- The new registers are the old ones behind a trigger, or behind none: the device may clear Interrupt Control.
+-- The new registers are the old ones after a trigger, or after none: the device may clear Interrupt Control.
 abbrev pub Takes : Wiring → Option ℕ → Registers → Registers → Type 0
 Takes wiring vector old new =
     Writes None (clear_of Page (is_some (delivery_at wiring old vector) && is_one_shot (register_bytes old))) (λ n. None) old new

@@ -5,7 +5,7 @@ use Rattle.doorbell_irq.specs.declared.registers.Registers.{Registers}
 use Rattle.doorbell_irq.specs.Events.{World, Event}
 use Rattle.doorbell_irq.specs.Registers.{IsPeer}
 
--- A device is that of the world behind these events, the newest first.
+-- A device is that of the world after these events, the newest first.
 pub record Stands (w : World) (events : List Event) (device : Devices) : Type 0 where
   pub peers : device.peers ≡ w.shape.peers
   pub wiring : device.wiring ≡ w.wiring

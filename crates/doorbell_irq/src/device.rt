@@ -16,7 +16,7 @@ use std::marker::Model;
 
 /// The devices of a world of at most 8 peers.
 ///
-/// A contract says where a device stands: behind which list of events, the newest first. Each call adds one event, and its answer is
+/// A contract says where a device stands: after which list of events, the newest first. Each call adds one event, and its answer is
 /// what the rules say of that event there. Every call's peer is below the number of peers.
 #[derive(Debug, Drop)]
 pub struct Device {

@@ -1,6 +1,6 @@
 //! The devices of a world's peers as a hypervisor emulates them: configuration spaces, register pages, MSI-X tables, and the
 //! interrupts that doorbells and State writes bring. It stands on `pci_space` for the spaces. Its contract promises that each
-//! call's effect is that of the device's rules behind all the calls before it, for every peer, offset and state.
+//! call's effect is that of the device's rules after all the calls before it, for every peer, offset and state.
 #![tactic(auto)]
 
 mod device;

@@ -12,12 +12,12 @@ pub record Output : Type 0 where
   pub written : Option (List ℕ)
   pub faults : ℕ
 
--- these bytes, and behind them what is left
+-- these bytes, and after them what is left
 abbrev pub ahead : List ℕ → Option (List ℕ) → Option (List ℕ)
 ahead bytes (Some rest) = Some (bytes ++ rest)
 ahead bytes None = None
 
--- what was written, and these bytes behind it
+-- what was written, and these bytes after it
 abbrev pub appended : Option (List ℕ) → List ℕ → Option (List ℕ)
 appended (Some written) bytes = Some (written ++ bytes)
 appended None bytes = None

@@ -29,11 +29,11 @@ input_of source = record { left = Some source.left; ended = length source.left =
 abbrev pub given_count : MemoryInput → ℕ → ℕ
 given_count source room = min (min (length source.left) source.piece) room
 
--- the source behind a call that gave so many bytes
-abbrev pub source_behind : MemoryInput → ℕ → MemoryInput
-source_behind source count = record source { left = drop count source.left; calls = counted source.calls }
+-- the source after a call that gave so many bytes
+abbrev pub source_after : MemoryInput → ℕ → MemoryInput
+source_after source count = record source { left = drop count source.left; calls = counted source.calls }
 
--- the source behind a call that failed
+-- the source after a call that failed
 abbrev pub source_failed : MemoryInput → MemoryInput
 source_failed source = record source { calls = counted source.calls; faults = counted source.faults }
 
@@ -45,10 +45,10 @@ output_of sink = record { written = Some sink.written; faults = sink.faults }
 abbrev pub taken_count : MemoryOutput → List ℕ → ℕ
 taken_count sink bytes = min (length bytes) sink.piece
 
--- the sink behind a call that took these bytes
-abbrev pub sink_behind : MemoryOutput → List ℕ → MemoryOutput
-sink_behind sink bytes = record sink { written = sink.written ++ bytes; calls = counted sink.calls }
+-- the sink after a call that took these bytes
+abbrev pub sink_after : MemoryOutput → List ℕ → MemoryOutput
+sink_after sink bytes = record sink { written = sink.written ++ bytes; calls = counted sink.calls }
 
--- the sink behind a call that failed
+-- the sink after a call that failed
 abbrev pub sink_failed : MemoryOutput → MemoryOutput
 sink_failed sink = record sink { calls = counted sink.calls; faults = counted sink.faults }

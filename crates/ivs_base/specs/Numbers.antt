@@ -9,7 +9,7 @@ up64 value = (value + 63) / 64 * 64
 abbrev pub distance : ℕ → ℕ → ℕ
 distance from to = (to + 65536 - from) % 65536
 
--- the free index so many places behind this one, modulo 65,536
+-- the free index so many places after this one, modulo 65,536
 abbrev pub plus : ℕ → ℕ → ℕ
 plus at by = (at + by) % 65536
 

@@ -66,7 +66,7 @@ pub fn read_all<S: Source>(alloc: Global, source: &mut S, limit: u64) -> Result<
     ensures end { OnOk result (HasEnded (S.input source.new)) }
     ensures within { IfOk result (λ v. length v.items ≤ limit) }
 
-    // The byte behind the limit shows that there are too many; none behind it is taken.
+    // The byte after the limit shows that there are too many; none after it is taken.
     ensures too_long { IsErrOf result ReadEnd.TooLong → GaveMany (S.input source.old) (limit + 1) (S.input source.new) }
     ensures fault { IsErrOf result ReadEnd.ReadFault → SourceFailed (S.input source.old) (S.input source.new) }
     ensures no_memory { IsErrOf result ReadEnd.NoMemory → GaveAtMost (S.input source.old) (limit + 1) (S.input source.new) }

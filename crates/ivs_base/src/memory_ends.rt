@@ -2,7 +2,7 @@
 //! are told exactly, so that a test can follow what a fault does to whoever reads or writes.
 ghost use Rattle.std.specs.Prelude.{◌≡◌, ◌<◌, ◌≤◌, ◌+◌, ◌↔◌, ◌⊎◌, [], IfOk, OnErr, IsErr, Contains, length, take};
 ghost use Rattle.ivs_base.specs.Ends.{counted, Gave, HasEnded, Took, SourceFailed, SinkFailed};
-ghost use Rattle.ivs_base.specs.MemoryEnds.{input_of, given_count, source_behind, source_failed, output_of, taken_count, sink_behind, sink_failed};
+ghost use Rattle.ivs_base.specs.MemoryEnds.{input_of, given_count, source_after, source_failed, output_of, taken_count, sink_after, sink_failed};
 
 use super::ends::{Failed, Sink, Source};
 use super::frames::NoMemory;
@@ -76,7 +76,7 @@ impl Source for MemorySource {
         ensures fails { IsErr result ↔ Contains self.old.fails (counted self.old.calls) }
         ensures given { IfOk result (λ k. k ≡ given_count self.old (length into.old)) }
         ensures bytes { IfOk result (λ k. take k into.new ≡ take k self.old.left) }
-        ensures behind { IfOk result (λ k. self.new ≡ source_behind self.old k) }
+        ensures after { IfOk result (λ k. self.new ≡ source_after self.old k) }
         ensures failed { OnErr result (self.new ≡ source_failed self.old) }
 
         // what every source ensures
@@ -174,7 +174,7 @@ impl Sink for MemorySink {
         ensures fails { IsErr result ↔ (Contains self.old.fails (counted self.old.calls)
             ⊎ (self.old.room < length self.old.written + taken_count self.old bytes.now)) }
         ensures taken { IfOk result (λ k. k ≡ taken_count self.old bytes.now) }
-        ensures behind { IfOk result (λ k. self.new ≡ sink_behind self.old (take k bytes.now)) }
+        ensures after { IfOk result (λ k. self.new ≡ sink_after self.old (take k bytes.now)) }
         ensures failed { OnErr result (self.new ≡ sink_failed self.old) }
 
         // what every sink ensures

@@ -23,7 +23,7 @@ pub fn distance(from: u16, to: u16) -> u16
     to.wrapping_sub(from)
 }
 
-/// The free index `by` places behind `at`, modulo 65,536.
+/// The free index `by` places after `at`, modulo 65,536.
 pub fn plus(at: u16, by: u16) -> u16
     ensures { result ≡ plus at by }
 {

@@ -1,5 +1,5 @@
 //! Standard input and standard output as a source and a sink. Their bytes aren't told: this is the
-//! edge that no contract sees behind.
+//! edge that no contract sees after.
 ghost use Rattle.std.specs.Prelude.{◌≡◌, ◌<◌, ◌≤◌, ◌↔◌, IfOk, IsOk, OnOk, OnErr, IsTrue, None, false, length, take};
 ghost use Rattle.ivs_base.specs.Ends.{counted, Gave, HasEnded, Took, SourceFailed, SinkFailed};
 

@@ -5,7 +5,7 @@ use std::test::Fail;
 
 #[test]
 fn numbers_of_the_layout(rt: HostRuntime) {
-    // behind 64 entries stand 1,158 bytes and the used ring; a slot holds a frame of 274 bytes
+    // after 64 entries stand 1,158 bytes and the used ring; a slot holds a frame of 274 bytes
     for (value, want) in [
         (0u32, 0),
         (1, 64),
@@ -18,7 +18,7 @@ fn numbers_of_the_layout(rt: HostRuntime) {
     }
     for (from, to, want) in [(7, 7, 0), (0, 65, 65), (65_535, 3, 4), (3, 65_535, 65_532)] {
         assert_eq!(rt; distance(from, to), want, "from {from} to {to}");
-        assert_eq!(rt; plus(from, want), to, "{want} behind {from}");
+        assert_eq!(rt; plus(from, want), to, "{want} after {from}");
     }
 }
 

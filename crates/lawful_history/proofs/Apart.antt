@@ -5,13 +5,13 @@ use Rattle.std.specs.List.{AllByRecursion}
 use Rattle.std.proofs.lemmas.List.{reverse-append}
 use Rattle.section_map.specs.Geometry.{Shape}
 use Rattle.section_map.specs.MayWrite.{MayWrite}
-use Rattle.link_laws.specs.Steps.{Mark, Saw, Reclaim, Full, Accept, Look, Deliver, Return, Done, Down, Refuse, Over}
+use Rattle.call_grammar.specs.Steps.{Mark, Saw, Reclaim, Full, Accept, Look, Deliver, Return, Done, Down, Refuse, Over}
 use Rattle.lawful_history.specs.declared.line.Line.{Line}
 use Rattle.lawful_history.specs.Memory.{Touch, Gave, Stored, Denied, Set, touch_of, Remembers, MemoryLaw}
 use Rattle.lawful_history.specs.Memory as touch
 use Rattle.lawful_history.specs.Entries.{mark_line}
 
--- a line that keeps the law behind any lines
+-- a line that keeps the law after any lines
 abbrev pub Harmless : Shape → Touch → Type 0
 Harmless g (Gave word value) = ⊥
 Harmless g (Stored peer word value) = MayWrite g peer word

@@ -18,11 +18,11 @@ use Rattle.doorbell_irq.specs.Events as device
 use Rattle.doorbell_irq.specs.DeviceRules.{effect_of}
 use Rattle.link_handshake.specs.declared.Phase.{Phase}
 use Rattle.link_handshake.specs.declared.Phase.TheVariants.{Reset, Init, Ready, Run}
-use Rattle.link_laws.specs.Steps.{Mark, Saw, Reclaim, Full, Accept, Look, Deliver, Return, Done, Down, Refuse, Over, Step, step_of}
-use Rattle.link_laws.specs.Trees.{CallTree, Ended, Does, Reads}
-use Rattle.link_laws.specs.Calls.{Who, Call, Tick, Stop, Offer, Poll}
-use Rattle.link_laws.specs.Automatic.{Round, Anew, BehindOffer, BehindPoll, Choice, ChoosesTick, ChoosesOffer, ChoosesPoll, IsFinished, in_phase, choice_of}
-use Rattle.link_laws.specs.Reach.{MayDo, StaysInReach, HasSections, IsGiven, CallsStayInReach}
+use Rattle.call_grammar.specs.Steps.{Mark, Saw, Reclaim, Full, Accept, Look, Deliver, Return, Done, Down, Refuse, Over, Step, step_of}
+use Rattle.call_grammar.specs.Trees.{CallTree, Ended, Does, Reads}
+use Rattle.call_grammar.specs.Calls.{Who, Call, Tick, Stop, Offer, Poll}
+use Rattle.call_grammar.specs.Automatic.{Round, Anew, AfterOffer, AfterPoll, Choice, ChoosesTick, ChoosesOffer, ChoosesPoll, IsFinished, in_phase, choice_of}
+use Rattle.call_grammar.specs.Reach.{MayDo, StaysInReach, HasSections, IsGiven, CallsStayInReach}
 use Rattle.lawful_history.specs.declared.line.Line.{Line}
 use Rattle.lawful_history.specs.declared.line.Line.TheVariants as line
 use Rattle.lawful_history.specs.Memory.{MemoryLaw, last_write, touch_of}
@@ -30,9 +30,9 @@ use Rattle.lawful_history.specs.Schedule.{Event, Asked, Automated, Stormed, Turn
 use Rattle.lawful_history.specs.Sides.{who_of}
 use Rattle.lawful_history.specs.Storm.{next_number, draw, drawn_access, storm_step}
 use Rattle.lawful_history.specs.Entries.{Entry, event_of, owner, mark_line, access_lines, step_lines, turn_lines, acted_lines, lines_by, lines_of, own}
-use Rattle.lawful_history.specs.Peers.{Auto, Driver, Waits, Chooses, Storms, Peer, at_start, asked_by, cut, with_choice, chosen, opened_by, opened, counted, counted_all, driver_behind, Drives, Moves, IsMade, Acts, Serves}
+use Rattle.lawful_history.specs.Peers.{Auto, Driver, Waits, Chooses, Storms, Peer, at_start, asked_by, cut, with_choice, chosen, opened_by, opened, counted, counted_all, driver_after, Drives, Moves, IsMade, Acts, Serves}
 use Rattle.lawful_history.specs.Device.{devices_of, device_events, arrival, arrived, arrivals_by, lost_count, told_by, brought_by, step_interrupts, reached_line, device_lines, DeviceRules}
-use Rattle.lawful_history.specs.History.{Moment, driven_step, driven, step_by, moved_by, may_write, acted_step, step_in, peer_in, peer_at, step_of_event, entry_of, peer_behind, happens, run, beginning, HistoryIsLawful}
+use Rattle.lawful_history.specs.History.{Moment, driven_step, driven, step_by, moved_by, may_write, acted_step, step_in, peer_in, peer_at, step_of_event, entry_of, peer_after, happens, run, beginning, HistoryIsLawful}
 use Rattle.lawful_history.proofs.Owners.{is_same, is_other, not_below}
 use Rattle.lawful_history.proofs.Apart.{Harmless, harmless_law, marks_harmless}
 use Rattle.lawful_history.specs.Given.{IsThere}
@@ -212,8 +212,8 @@ phase_fits who Init round frames given = tt
 phase_fits who Ready round frames given = tt
 phase_fits who Run Anew [] given = tt
 phase_fits who Run Anew (frame ∷ frames) given = given.0
-phase_fits who Run BehindOffer frames given = tt
-phase_fits who Run BehindPoll frames given = tt
+phase_fits who Run AfterOffer frames given = tt
+phase_fits who Run AfterPoll frames given = tt
 
 finished_fits : (who : Who) (b : Bool) (choice : Choice) → ChoiceFits who choice → ChoiceFits who (if b then IsFinished else choice)
 finished_fits who true choice fits = tt
@@ -264,7 +264,7 @@ counted_given who auto (Down ∷ marks) given = counted_given who auto marks giv
 counted_given who auto (Refuse refused ∷ marks) given = counted_given who auto marks given
 counted_given who auto (Over ∷ marks) given = counted_given who auto marks given
 
-driver_given : (who : Who) (driver : Driver) (marks : List Mark) → AreGiven who driver → AreGiven who (driver_behind driver marks)
+driver_given : (who : Who) (driver : Driver) (marks : List Mark) → AreGiven who driver → AreGiven who (driver_after driver marks)
 driver_given who Waits marks given = tt
 driver_given who (Chooses auto) marks given = counted_given who auto marks given
 driver_given who (Storms x) marks given = tt
@@ -350,12 +350,12 @@ pub record Good (world : World) (moment : Moment) : Type 0 where
   pub fits : (p : ℕ) → IsFit (who_of world p) (peer_at moment p)
   pub count : length moment.peers ≡ world.geometry.peers
 
--- the peer of an event behind it, and the others
-pub peer_same : (world : World) (moment : Moment) (event : Event) → event_peer event < length moment.peers → peer_at (happens world moment event) (event_peer event) ≡ peer_behind world moment event
-peer_same world moment event below = get_or-set_same moment.peers (event_peer event) (peer_behind world moment event) at_start below
+-- the peer of an event after it, and the others
+pub peer_same : (world : World) (moment : Moment) (event : Event) → event_peer event < length moment.peers → peer_at (happens world moment event) (event_peer event) ≡ peer_after world moment event
+peer_same world moment event below = get_or-set_same moment.peers (event_peer event) (peer_after world moment event) at_start below
 
 pub peer_other : (world : World) (moment : Moment) (event : Event) (q : ℕ) → q ≢ event_peer event → peer_at (happens world moment event) q ≡ peer_at moment q
-peer_other world moment event q other = get_or-set_other moment.peers (event_peer event) q (peer_behind world moment event) at_start other
+peer_other world moment event q other = get_or-set_other moment.peers (event_peer event) q (peer_after world moment event) at_start other
 
 lines_law : CallsStayInReach → (world : World) (peer : Peer) (past dev : List Line) (event : Event) → IsWorld world → IsFit (who_of world (event_peer event)) peer → AllHarmless world.geometry dev → MemoryLaw world.geometry past →
     MemoryLaw world.geometry (reverse (lines_by event (step_in world peer past event) dev) ++ past)
@@ -388,8 +388,8 @@ peer_fits reach world peer past (Reached p a) is there fit = fit
 peer_fits reach world peer past (Loses p) is there fit = fit
 peer_fits reach world peer past (Repeated p vector) is there fit = fit
 
--- what holds of each peer holds behind an event
-pub stays_on : (P : ℕ → Peer → Type 0) (world : World) (moment : Moment) (event : Event) → event_peer event < length moment.peers → P (event_peer event) (peer_behind world moment event) →
+-- what holds of each peer holds after an event
+pub stays_on : (P : ℕ → Peer → Type 0) (world : World) (moment : Moment) (event : Event) → event_peer event < length moment.peers → P (event_peer event) (peer_after world moment event) →
     (q : ℕ) (b : Bool) → (event_peer event == q) ≡ b → P q (peer_at moment q) → P q (peer_at (happens world moment event) q)
 stays_on P world moment event below here q true is there =
     let now : P (event_peer event) (peer_at (happens world moment event) (event_peer event)) = subst (λ (x : Peer). P (event_peer event) x) (sym (peer_same world moment event below)) here in
@@ -403,7 +403,7 @@ good_on reach world moment event is there good =
       law = event_law reach world moment event is good;
       fits = λ q.
           stays_on (λ k x. IsFit (who_of world k) x) world moment event below (peer_fits reach world (peer_at moment (event_peer event)) moment.past event is there (good.fits (event_peer event))) q (event_peer event == q) refl (good.fits q);
-      count = length-set moment.peers (event_peer event) (peer_behind world moment event) ∙ good.count;
+      count = length-set moment.peers (event_peer event) (peer_after world moment event) ∙ good.count;
     }
 
 -- the entries of events from a moment on
@@ -423,18 +423,18 @@ record Found (world : World) (events : List Event) (moment : Moment) : Type 0 wh
 lines_go : (s new : List Line) (past all : List Line) → reverse new ++ (reverse s ++ past) ≡ all → reverse (s ++ new) ++ past ≡ all
 lines_go s new past all is = ap (λ r. r ++ past) (reverse-append s new) ∙ append_assoc (reverse new) (reverse s) past ∙ is
 
--- the entry of an event and those behind it, for a peer
+-- the entry of an event and those after it, for a peer
 serves_from : (world : World) (moment : Moment) (event : Event) (others : List Entry) (q : ℕ) (b : Bool) → (event_peer event == q) ≡ b → event_peer event < length moment.peers →
     ((end : Peer) × Serves world q (peer_at (happens world moment event) q) (own q others) end) →
     (end : Peer) × Serves world q (peer_at moment q) (if b then entry_of world moment event ∷ own q others else own q others) end
 serves_from world moment event others q true is below rest =
     let same : event_peer event ≡ q = is_same (event_peer event) q is in
     let acts = event_acts world (peer_at moment (event_peer event)) moment.past event in
-    let first : Acts world q (peer_at moment q) event (step_of_event world moment event) (peer_behind world moment event) =
-    subst (λ (k : ℕ). Acts world k (peer_at moment k) event (step_of_event world moment event) (peer_behind world moment event)) same acts in
-    let here : peer_at (happens world moment event) q ≡ peer_behind world moment event =
+    let first : Acts world q (peer_at moment q) event (step_of_event world moment event) (peer_after world moment event) =
+    subst (λ (k : ℕ). Acts world k (peer_at moment k) event (step_of_event world moment event) (peer_after world moment event)) same acts in
+    let here : peer_at (happens world moment event) q ≡ peer_after world moment event =
     ap (λ (k : ℕ). peer_at (happens world moment event) k) (sym same) ∙ peer_same world moment event below in
-    (rest.0, (peer_behind world moment event, first, subst (λ (x : Peer). Serves world q x (own q others) rest.0) here rest.1))
+    (rest.0, (peer_after world moment event, first, subst (λ (x : Peer). Serves world q x (own q others) rest.0) here rest.1))
 serves_from world moment event others q false is below rest =
     (rest.0, subst (λ (x : Peer). Serves world q x (own q others) rest.0) (peer_other world moment event q (is_other (event_peer event) q is)) rest.1)
 

@@ -8,8 +8,8 @@ use Rattle.section_map.specs.Geometry.{Shape}
 use Rattle.split_ring.specs.declared.steps.Access.{Access}
 use Rattle.split_ring.specs.declared.steps.Access.TheVariants as access
 use Rattle.scenario_text.specs.Scenario.{World}
-use Rattle.link_laws.specs.Steps.{Step, step_of}
-use Rattle.link_laws.specs.Trees.{CallTree, Ended, Does, Reads, Goes}
+use Rattle.call_grammar.specs.Steps.{Step, step_of}
+use Rattle.call_grammar.specs.Trees.{CallTree, Ended, Does, Reads, Goes}
 use Rattle.lawful_history.specs.declared.line.Line.{Line}
 use Rattle.lawful_history.specs.declared.line.Line.TheVariants as line
 use Rattle.lawful_history.specs.Memory.{touch_of, Remembers, MemoryLaw, last_write}
@@ -43,7 +43,7 @@ entry_is : (d d' : Entry) → d.event ≡ d'.event → d.went ≡ d'.went → d.
 entry_is d d' same went device = ap (λ (e : Event). record { event = e; went = d.went; device = d.device }) same ∙
     ap (λ (w : Option Step). record { event = d'.event; went = w; device = d.device }) went ∙ ap (λ (l : List Line). record { event = d'.event; went = d'.went; device = l }) device
 
--- two steps by which a call goes on behind the same lines are one
+-- two steps by which a call goes on after the same lines are one
 same_goes : (g : Shape) (past : List Line) (peer : ℕ) (dev dev' : List Line) (tree : CallTree) (step step' : Step) (new new' : CallTree) → Goes tree step new → Goes tree step' new' →
     MemoryLaw g (reverse (step_lines peer step dev) ++ past) → MemoryLaw g (reverse (step_lines peer step' dev') ++ past) → (step ≡ step') × (new ≡ new')
 same_goes g past peer dev dev' Ended step step' new new' goes goes' law law' = absurd goes
@@ -116,7 +116,7 @@ same_made g past p (access.State state) dev dev' went went' made made' law law' 
 same_made g past p (access.Ring target vector) dev dev' went went' made made' law law' = made ∙ sym made'
 same_made g past p access.Nothing dev dev' went went' made made' law law' = made ∙ sym made'
 
--- what comes of an event behind the same lines
+-- what comes of an event after the same lines
 same_acts : (world : World) (past : List Line) (q : ℕ) (peer : Peer) (event : Event) (dev dev' : List Line) (went went' : Option Step) (new new' : Peer) →
     Acts world q peer event went new → Acts world q peer event went' new' →
     MemoryLaw world.geometry (reverse (lines_by event went dev) ++ past) → MemoryLaw world.geometry (reverse (lines_by event went' dev') ++ past) → (went ≡ went') × (new ≡ new')
@@ -156,7 +156,7 @@ law_splits g past entry entries law =
     ap (λ r. r ++ past) (reverse-append (lines_of entry) (flat_map lines_of entries)) ∙ append_assoc (reverse (flat_map lines_of entries)) (reverse (lines_of entry)) past in
     rw e at law
 
--- the other peers, and the peer of the first entry behind it, serve the others
+-- the other peers, and the peer of the first entry after it, serve the others
 serves_on : (world : World) (peers : ℕ → Peer) (p q : ℕ) (next : Peer) (entry : Entry) (entries : List Entry) (b : Bool) → (p == q) ≡ b →
     ((end : Peer) × Serves world p next (own p entries) end) →
     ((end : Peer) × Serves world q (peers q) (if b then entry ∷ own q entries else own q entries) end) →
@@ -182,7 +182,7 @@ first_of_all world past losses peers entry entries f =
       };
     }
 
--- the entries of one event behind the same lines
+-- the entries of one event after the same lines
 same_entry : (world : World) (past : List Line) (losses : ℕ → ℕ) (peer : Peer) (d d' : Entry) (new new' : Peer) → d.event ≡ d'.event →
     Acts world (owner d) peer d.event d.went new → Acts world (owner d) peer d'.event d'.went new' →
     d.device ≡ device_lines world past losses d.event d.went → d'.device ≡ device_lines world past losses d'.event d'.went →

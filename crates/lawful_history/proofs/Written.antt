@@ -6,7 +6,7 @@ use Rattle.std.proofs.lemmas.List.Elements.{All-nil, All-cons, All-append}
 use Rattle.section_map.specs.Geometry.{Shape}
 use Rattle.lawful_history.specs.declared.line.Line.{Line}
 use Rattle.lawful_history.specs.declared.line.Line.TheVariants.{Read, Write}
-use Rattle.lawful_history.specs.Memory.{Touch, Gave, Stored, Denied, Set, Apart, touch_of, value_behind, last_write, Remembers, MemoryLaw, Leaves, Spares, WasWrittenLast}
+use Rattle.lawful_history.specs.Memory.{Touch, Gave, Stored, Denied, Set, Apart, touch_of, value_after, last_write, Remembers, MemoryLaw, Leaves, Spares, WasWrittenLast}
 use Rattle.lawful_history.specs.Lawful.{ReadsWhatWasWritten, WritesWhereItMay}
 use Rattle.lawful_history.proofs.Owners.{is_same, is_other}
 use Rattle.lawful_history.proofs.Unique.{older_law}
@@ -48,15 +48,15 @@ last_by older line word (inr spares) (inr none) = inr (
   spares.1 ∙ none.1,
 )
 
--- a line leaves the value that is last behind it, or spares the word
-leaves_or_spares : (line : Line) (word before : ℕ) (t : Touch) → touch_of line ≡ t → Leaves word (value_behind t word before) line ⊎ (Spares word line × (value_behind t word before ≡ before))
+-- a line leaves the value that is last after it, or spares the word
+leaves_or_spares : (line : Line) (word before : ℕ) (t : Touch) → touch_of line ≡ t → Leaves word (value_after t word before) line ⊎ (Spares word line × (value_after t word before ≡ before))
 leaves_or_spares line word before (Gave w v) is = inr (λ value leaves. elim leaves [ inl e ↦ cc | inr e ↦ let same = e.1 in cc ], refl)
 leaves_or_spares line word before (Stored p w v) is = stored_by line word before p w v is (w == word) refl
 leaves_or_spares line word before (Denied p w) is = inr (λ value leaves. elim leaves [ inl e ↦ cc | inr e ↦ let same = e.1 in cc ], refl)
 leaves_or_spares line word before (Set w v) is = set_by line word before w v is (w == word) refl
 leaves_or_spares line word before Apart is = inr (λ value leaves. elim leaves [ inl e ↦ cc | inr e ↦ let same = e.1 in cc ], refl)
 
--- and so behind all lines
+-- and so after all lines
 written_last : (past : List Line) (word : ℕ) → WasWrittenLast (reverse past) word (last_write past word)
 written_last [] word = inr (All-nil (Spares word), refl)
 written_last (line ∷ older) word = last_by older line word (leaves_or_spares line word (last_write older word) (touch_of line) refl) (written_last older word)

@@ -6,7 +6,7 @@ use Rattle.doorbell_irq.specs.declared.effect.Delivery.{Delivery}
 use Rattle.doorbell_irq.specs.Events as device
 use Rattle.doorbell_irq.specs.DeviceRules.{bytes_after, effect_of, register_at, msix_at}
 use Rattle.scenario_text.specs.Scenario.{World}
-use Rattle.link_laws.specs.Steps.{Step}
+use Rattle.call_grammar.specs.Steps.{Step}
 use Rattle.lawful_history.specs.declared.line.Line.{Line}
 use Rattle.lawful_history.specs.declared.line.Line.TheVariants as line
 use Rattle.lawful_history.specs.Schedule.{Event, Asked, Automated, Stormed, Turned, Acted, WasReset, Reached, Loses, Repeated, DeviceAccess, ReadsConfig, WritesConfig, ReadsRegister, WritesRegister, ReadsMsix, WritesMsix}
@@ -52,12 +52,12 @@ arrival older losses delivery =
     if nat_lt (lost_count older delivery.peer) (losses delivery.peer) then line.Lost delivery.peer delivery.vector
     else line.Interrupt delivery.peer delivery.vector
 
--- the lines of these deliveries, one behind the other
+-- the lines of these deliveries, one after the other
 abbrev pub arrived : List Line → (ℕ → ℕ) → List Delivery → List Line
 arrived older losses [] = []
 arrived older losses (delivery ∷ deliveries) = arrival older losses delivery ∷ arrived (arrival older losses delivery ∷ older) losses deliveries
 
--- the interrupts that a line brings behind older ones, in ascending order of peer
+-- the interrupts that a line brings after older ones, in ascending order of peer
 abbrev pub arrivals_by : World → List Line → (ℕ → ℕ) → Line → Option device.Event → List Line
 arrivals_by world older losses line None = []
 arrivals_by world older losses line (Some event) = arrived (line ∷ older) losses (effect_of (devices_of world) (device_events older) event).deliveries.items
@@ -74,7 +74,7 @@ abbrev pub step_interrupts : World → List Line → (ℕ → ℕ) → ℕ → O
 step_interrupts world older losses peer None = []
 step_interrupts world older losses peer (Some step) = brought_by world older losses (access_lines peer step.access step.value)
 
--- the line of an access to a part of the device: what is read there behind these lines, or what is written
+-- the line of an access to a part of the device: what is read there after these lines, or what is written
 abbrev pub reached_line : World → List Line → ℕ → DeviceAccess → Line
 reached_line world older peer (ReadsConfig offset width) = line.ConfigRead peer offset width (number_from (bytes_after (devices_of world) (device_events older) peer device.Config) offset width)
 reached_line world older peer (WritesConfig offset width value) = line.ConfigWrite peer offset width value
@@ -83,7 +83,7 @@ reached_line world older peer (WritesRegister offset value) = line.RegisterWrite
 reached_line world older peer (ReadsMsix offset) = line.MsixRead peer offset (msix_at world.wiring (bytes_after (devices_of world) (device_events older) peer) offset)
 reached_line world older peer (WritesMsix offset value) = line.MsixWrite peer offset value
 
--- the device's lines of an event in which this step was made, behind these lines, where so many interrupts of each peer are to be lost
+-- the device's lines of an event in which this step was made, after these lines, where so many interrupts of each peer are to be lost
 abbrev pub device_lines : World → List Line → (ℕ → ℕ) → Event → Option Step → List Line
 device_lines world older losses (Asked peer call) went = []
 device_lines world older losses (Automated peer expected) went = []
@@ -100,7 +100,7 @@ abbrev pub losses_with : Event → (ℕ → ℕ) → ℕ → ℕ
 losses_with (Loses peer) losses at = if peer == at then losses at + 1 else losses at
 losses_with _ losses at = losses at
 
--- the device's rules over entries that stand behind these older lines, of which the newest is the first
+-- the device's rules over entries that stand after these older lines, of which the newest is the first
 abbrev pub DeviceRules : World → List Line → (ℕ → ℕ) → List Entry → Type 0
 DeviceRules world older losses [] = Unit {0}
 DeviceRules world older losses (entry ∷ entries) =

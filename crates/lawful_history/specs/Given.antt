@@ -1,7 +1,7 @@
 -- Which events a world may be given.
 use Rattle.std.specs.Prelude.{◌<◌}
 use Rattle.scenario_text.specs.Scenario.{World}
-use Rattle.link_laws.specs.Reach.{IsGiven}
+use Rattle.call_grammar.specs.Reach.{IsGiven}
 use Rattle.lawful_history.specs.Sides.{who_of}
 use Rattle.lawful_history.specs.Schedule.{Event, Asked, Automated, Stormed, Turned, Acted, WasReset, Reached, Loses, Repeated}
 

@@ -5,14 +5,14 @@ use Rattle.split_ring.specs.declared.steps.Access.{Access}
 use Rattle.split_ring.specs.declared.steps.Access.TheVariants as access
 use Rattle.scenario_text.specs.declared.acts.Act.{Act}
 use Rattle.scenario_text.specs.Scenario.{World, IsWorld}
-use Rattle.link_laws.specs.Steps.{Step, step_of}
-use Rattle.link_laws.specs.Trees.{CallTree, Ended, Does, Reads}
+use Rattle.call_grammar.specs.Steps.{Step, step_of}
+use Rattle.call_grammar.specs.Trees.{CallTree, Ended, Does, Reads}
 use Rattle.lawful_history.specs.declared.line.Line.{Line}
 use Rattle.lawful_history.specs.Memory.{last_write}
 use Rattle.lawful_history.specs.Schedule.{Event, Asked, Automated, Stormed, Turned, Acted, WasReset, Reached, Loses, Repeated, event_peer, schedule}
 use Rattle.lawful_history.specs.Sides.{who_of}
 use Rattle.lawful_history.specs.Entries.{Entry, lines_of}
-use Rattle.lawful_history.specs.Storm.{storm_step, storm_behind}
+use Rattle.lawful_history.specs.Storm.{storm_step, storm_after}
 use Rattle.lawful_history.specs.Peers.{Peer, Driver, Waits, Chooses, Storms, at_start, asked, automated, stormed, was_reset, opened, stepped}
 use Rattle.lawful_history.specs.Device.{device_lines, losses_with}
 use Rattle.lawful_history.specs.Lawful.{IsLawful}
@@ -23,7 +23,7 @@ pub record Moment : Type 0 where
   pub losses : ℕ → ℕ
   pub peers : List Peer
 
--- the step of a turn without an open call, and the peer behind it
+-- the step of a turn without an open call, and the peer after it
 abbrev pub driven_step : World → ℕ → Driver → Option Step
 driven_step world p Waits = None
 driven_step world p (Chooses auto) = None
@@ -32,7 +32,7 @@ driven_step world p (Storms x) = Some (storm_step world p x)
 abbrev pub driven : Peer → Driver → Peer
 driven peer Waits = peer
 driven peer (Chooses auto) = peer
-driven peer (Storms x) = record peer { driver = Storms (storm_behind x) }
+driven peer (Storms x) = record peer { driver = Storms (storm_after x) }
 
 -- the step of a turn, where a read gives what was written last
 abbrev pub step_by : World → ℕ → Driver → CallTree → List Line → Option Step
@@ -40,7 +40,7 @@ step_by world p driver Ended past = driven_step world p driver
 step_by world p driver (Does a marks rest) past = Some (step_of a 0 marks)
 step_by world p driver (Reads word marks rest) past = Some (step_of (access.Read word) (last_write past word) (marks (last_write past word)))
 
--- and the peer behind it
+-- and the peer after it
 abbrev pub moved_by : Peer → CallTree → List Line → Peer
 moved_by peer Ended past = driven peer peer.driver
 moved_by peer (Does a marks rest) past = stepped peer (step_of a 0 marks) rest
@@ -49,7 +49,7 @@ moved_by peer (Reads word marks rest) past = stepped peer (step_of (access.Read 
 abbrev pub moved : Peer → List Line → Peer
 moved peer past = moved_by peer peer.left past
 
--- the step of a peer's turn, and where the peer is behind it
+-- the step of a peer's turn, and where the peer is after it
 abbrev pub turn_step : World → ℕ → Peer → List Line → Option Step
 turn_step world p peer past = step_by world p (opened (who_of world p) peer).driver (opened (who_of world p) peer).left past
 
@@ -69,7 +69,7 @@ acted_step world p (access.State state) past = Some (step_of (access.State state
 acted_step world p (access.Ring target vector) past = Some (step_of (access.Ring target vector) 0 [])
 acted_step world p access.Nothing past = Some (step_of access.Nothing 0 [])
 
--- the step that is made in an event, and where its peer is behind it
+-- the step that is made in an event, and where its peer is after it
 abbrev pub step_in : World → Peer → List Line → Event → Option Step
 step_in world peer past (Asked p call) = None
 step_in world peer past (Automated p expected) = None
@@ -95,7 +95,7 @@ peer_in world peer past (Repeated p vector) = peer
 abbrev pub peer_at : Moment → ℕ → Peer
 peer_at moment peer = slice_index_or moment.peers peer at_start
 
--- the step of an event, its entry, and where its peer is behind it
+-- the step of an event, its entry, and where its peer is after it
 abbrev pub step_of_event : World → Moment → Event → Option Step
 step_of_event world moment event = step_in world (peer_at moment (event_peer event)) moment.past event
 
@@ -106,14 +106,14 @@ entry_of world moment event = record {
   device = device_lines world moment.past moment.losses event (step_of_event world moment event);
 }
 
-abbrev pub peer_behind : World → Moment → Event → Peer
-peer_behind world moment event = peer_in world (peer_at moment (event_peer event)) moment.past event
+abbrev pub peer_after : World → Moment → Event → Peer
+peer_after world moment event = peer_in world (peer_at moment (event_peer event)) moment.past event
 
 abbrev pub happens : World → Moment → Event → Moment
 happens world moment event = record {
   past = reverse (lines_of (entry_of world moment event)) ++ moment.past;
   losses = losses_with event moment.losses;
-  peers = slice_set moment.peers (event_peer event) (peer_behind world moment event);
+  peers = slice_set moment.peers (event_peer event) (peer_after world moment event);
 }
 
 abbrev pub run : World → List Event → Moment → Moment

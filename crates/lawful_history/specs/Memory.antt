@@ -23,20 +23,20 @@ touch_of (line.State peer value) = Set peer value
 touch_of (line.Reset peer) = Set peer 0
 touch_of _ = Apart
 
--- what a word holds behind such a line, where it held this before
-abbrev pub value_behind : Touch → ℕ → ℕ → ℕ
-value_behind (Gave word value) at before = before
-value_behind (Stored peer word value) at before = if word == at then value else before
-value_behind (Denied peer word) at before = before
-value_behind (Set word value) at before = if word == at then value else before
-value_behind Apart at before = before
+-- what a word holds after such a line, where it held this before
+abbrev pub value_after : Touch → ℕ → ℕ → ℕ
+value_after (Gave word value) at before = before
+value_after (Stored peer word value) at before = if word == at then value else before
+value_after (Denied peer word) at before = before
+value_after (Set word value) at before = if word == at then value else before
+value_after Apart at before = before
 
--- what a word holds behind these lines, of which the newest is the first; it is 0 at the start
+-- what a word holds after these lines, of which the newest is the first; it is 0 at the start
 abbrev pub last_write : List Line → ℕ → ℕ
 last_write [] at = 0
-last_write (line ∷ older) at = value_behind (touch_of line) at (last_write older at)
+last_write (line ∷ older) at = value_after (touch_of line) at (last_write older at)
 
--- what the memory law asks of a line behind the older ones
+-- what the memory law asks of a line after the older ones
 abbrev pub Remembers : Shape → Touch → List Line → Type 0
 Remembers g (Gave word value) older = value ≡ last_write older word
 Remembers g (Stored peer word value) older = MayWrite g peer word
@@ -59,7 +59,7 @@ Leaves word value line = (touch_of line ≡ Set word value) ⊎ ((peer : ℕ) ×
 abbrev pub Spares : ℕ → Line → Type 0
 Spares word line = (value : ℕ) → ¬ Leaves word value line
 
--- some line of these left the value in the word and none behind it another one, or none left any and the value is 0
+-- some line of these left the value in the word and none after it another one, or none left any and the value is 0
 abbrev pub WasWrittenLast : List Line → ℕ → ℕ → Type 0
 WasWrittenLast before word value =
     ((early late : List Line) × (line : Line) × (before ≡ early ++ line ∷ late) × Leaves word value line × All (Spares word) late)

@@ -3,14 +3,14 @@ use Rattle.std.specs.Prelude.{ℕ, ◌≡◌, ◌+◌, ◌⊎◌, Option, Some, 
 use Rattle.split_ring.specs.declared.steps.Access.{Access}
 use Rattle.split_ring.specs.declared.steps.Access.TheVariants as access
 use Rattle.scenario_text.specs.Scenario.{World}
-use Rattle.link_laws.specs.Steps.{Mark, Saw, Reclaim, Full, Accept, Look, Deliver, Return, Done, Down, Refuse, Over, Step, step_of}
-use Rattle.link_laws.specs.Trees.{CallTree, Ended, Does, Reads, Goes}
-use Rattle.link_laws.specs.Ends.{End, fresh, after_reset, end_behind}
-use Rattle.link_laws.specs.Calls.{Who, Call, Tick, Offer, Poll, tree_of}
-use Rattle.link_laws.specs.Automatic.{Round, Anew, BehindOffer, BehindPoll, Choice, ChoosesTick, ChoosesOffer, ChoosesPoll, IsFinished, choice_of}
+use Rattle.call_grammar.specs.Steps.{Mark, Saw, Reclaim, Full, Accept, Look, Deliver, Return, Done, Down, Refuse, Over, Step, step_of}
+use Rattle.call_grammar.specs.Trees.{CallTree, Ended, Does, Reads, Goes}
+use Rattle.call_grammar.specs.Ends.{End, fresh, after_reset, end_after}
+use Rattle.call_grammar.specs.Calls.{Who, Call, Tick, Offer, Poll, tree_of}
+use Rattle.call_grammar.specs.Automatic.{Round, Anew, AfterOffer, AfterPoll, Choice, ChoosesTick, ChoosesOffer, ChoosesPoll, IsFinished, choice_of}
 use Rattle.lawful_history.specs.Schedule.{Event, Asked, Automated, Stormed, Turned, Acted, WasReset, Reached, Loses, Repeated}
 use Rattle.lawful_history.specs.Sides.{who_of}
-use Rattle.lawful_history.specs.Storm.{storm_step, storm_behind}
+use Rattle.lawful_history.specs.Storm.{storm_step, storm_after}
 use Rattle.lawful_history.specs.Entries.{Entry}
 
 -- an automatic peer: its frames that weren't accepted yet, how many deliveries it expects and how many it had in the whole run, and its round
@@ -38,7 +38,7 @@ at_start = record { end = fresh; left = Ended; waiting = []; driver = Waits }
 
 -- What a peer is told
 
--- a call was put behind those that wait; but a frame for an automatic peer was put behind its frames
+-- a call was put after those that wait; but a frame for an automatic peer was put after its frames
 abbrev pub asked_by : Peer → Driver → Call → Peer
 asked_by peer (Chooses auto) (Offer frame) = record peer { driver = Chooses (record auto { frames = auto.frames ++ frame ∷ [] }) }
 asked_by peer driver call = record peer { waiting = peer.waiting ++ call ∷ [] }
@@ -67,8 +67,8 @@ was_reset peer = record { end = after_reset peer.end; left = Ended; waiting = []
 -- the call that an automatic peer chose is opened
 abbrev pub with_choice : Who → Peer → Auto → Choice → Peer
 with_choice who peer auto ChoosesTick = record peer { left = tree_of who peer.end Tick; driver = Chooses (record auto { round = Anew }) }
-with_choice who peer auto (ChoosesOffer frame) = record peer { left = tree_of who peer.end (Offer frame); driver = Chooses (record auto { round = BehindOffer }) }
-with_choice who peer auto ChoosesPoll = record peer { left = tree_of who peer.end Poll; driver = Chooses (record auto { round = BehindPoll }) }
+with_choice who peer auto (ChoosesOffer frame) = record peer { left = tree_of who peer.end (Offer frame); driver = Chooses (record auto { round = AfterOffer }) }
+with_choice who peer auto ChoosesPoll = record peer { left = tree_of who peer.end Poll; driver = Chooses (record auto { round = AfterPoll }) }
 with_choice who peer auto IsFinished = peer
 
 abbrev pub chosen : Who → Peer → Driver → Peer
@@ -104,20 +104,20 @@ abbrev pub counted_all : Auto → List Mark → Auto
 counted_all auto [] = auto
 counted_all auto (mark ∷ marks) = counted_all (counted auto mark) marks
 
-abbrev pub driver_behind : Driver → List Mark → Driver
-driver_behind Waits marks = Waits
-driver_behind (Chooses auto) marks = Chooses (counted_all auto marks)
-driver_behind (Storms x) marks = Storms x
+abbrev pub driver_after : Driver → List Mark → Driver
+driver_after Waits marks = Waits
+driver_after (Chooses auto) marks = Chooses (counted_all auto marks)
+driver_after (Storms x) marks = Storms x
 
--- the peer behind a step of its open call, of which this is left
+-- the peer after a step of its open call, of which this is left
 abbrev pub stepped : Peer → Step → CallTree → Peer
-stepped peer step left = record peer { end = end_behind peer.end step; left = left; driver = driver_behind peer.driver step.marks }
+stepped peer step left = record peer { end = end_after peer.end step; left = left; driver = driver_after peer.driver step.marks }
 
 -- a turn without an open call is a step of the storm, if there is one
 abbrev pub Drives : World → ℕ → Peer → Driver → Option Step → Peer → Type 0
 Drives world p peer Waits went new = (went ≡ None) × (new ≡ peer)
 Drives world p peer (Chooses auto) went new = (went ≡ None) × (new ≡ peer)
-Drives world p peer (Storms x) went new = (went ≡ Some (storm_step world p x)) × (new ≡ record peer { driver = Storms (storm_behind x) })
+Drives world p peer (Storms x) went new = (went ≡ Some (storm_step world p x)) × (new ≡ record peer { driver = Storms (storm_after x) })
 
 -- the turn is a step of this call, and this is left of it then
 abbrev pub GoesOn : Peer → CallTree → Option Step → Peer → Type 0

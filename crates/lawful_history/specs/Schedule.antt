@@ -5,7 +5,7 @@ use Rattle.split_ring.specs.declared.steps.Access.{Access}
 use Rattle.split_ring.specs.declared.steps.Access.TheVariants as access
 use Rattle.scenario_text.specs.declared.acts.Act.{Act}
 use Rattle.scenario_text.specs.declared.acts.Act.TheVariants as act
-use Rattle.link_laws.specs.Calls.{Call, Tick, Stop, Offer, Poll}
+use Rattle.call_grammar.specs.Calls.{Call, Tick, Stop, Offer, Poll}
 
 -- an access to the device's own parts: the configuration space, the register page or the MSI-X region of a peer (the device's
 -- specification; offsets and widths are in bytes)

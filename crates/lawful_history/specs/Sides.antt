@@ -4,7 +4,7 @@ use Rattle.section_map.specs.Geometry.{section_start}
 use Rattle.pci_space.specs.declared.wiring.Wiring.{Wiring}
 use Rattle.pci_space.specs.declared.wiring.Wiring.TheVariants.{Msix, Intx}
 use Rattle.scenario_text.specs.Scenario.{World}
-use Rattle.link_laws.specs.Calls.{Who}
+use Rattle.call_grammar.specs.Calls.{Who}
 pub use Rattle.scenario_text.specs.Spelling.{world_of}
 
 -- peers 0 and 1 are the two ends of the link (profile)

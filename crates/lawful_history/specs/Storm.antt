@@ -5,7 +5,7 @@ use Rattle.split_ring.specs.Layout.{payload_of}
 use Rattle.split_ring.specs.declared.steps.Access.{Access}
 use Rattle.split_ring.specs.declared.steps.Access.TheVariants.{Write, State, Ring}
 use Rattle.scenario_text.specs.Scenario.{World}
-use Rattle.link_laws.specs.Steps.{Step, step_of}
+use Rattle.call_grammar.specs.Steps.{Step, step_of}
 
 -- the generator's next number (a linear congruence modulo 2^64), and the 32 bits that are drawn from a number
 abbrev pub next_number : ℕ → ℕ
@@ -27,5 +27,5 @@ drawn_access world peer kind place value =
 abbrev pub storm_step : World → ℕ → ℕ → Step
 storm_step world peer x = step_of (drawn_access world peer (draw (next_number x)) (draw (next_number (next_number x))) (draw (next_number (next_number (next_number x))))) 0 []
 
-abbrev pub storm_behind : ℕ → ℕ
-storm_behind x = next_number (next_number (next_number x))
+abbrev pub storm_after : ℕ → ℕ
+storm_after x = next_number (next_number (next_number x))

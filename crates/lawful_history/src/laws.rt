@@ -2,7 +2,7 @@
 ghost use Rattle.lawful_history.specs.Lawful.{HasOneHistory, ReadsWhatWasWritten, WritesWhereItMay};
 ghost use Rattle.lawful_history.specs.History.{CutHistoriesBegin, HistoryIsLawful};
 
-use link_laws::calls_stay_in_reach;
+use call_grammar::calls_stay_in_reach;
 
 /// A scenario has one lawful history at most: the schedule and the values read decide each next line.
 pub fn one_history()

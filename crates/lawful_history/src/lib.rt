@@ -1,5 +1,5 @@
 //! The history of a run, line by line, and which history of a scenario is lawful: the schedule, the memory law and the
-//! calls of each peer, put together in `specs/Lawful`. It stands on `scenario_text` for scenarios and on `link_laws`
+//! calls of each peer, put together in `specs/Lawful`. It stands on `scenario_text` for scenarios and on `call_grammar`
 //! for the calls. Its laws promise that a scenario has exactly one lawful history, which `specs/History` computes.
 #![tactic(auto)]
 

@@ -3,9 +3,9 @@ use Rattle.std.proofs.Common.{◌≡◌, ℕ, ◌+◌, ◌/◌, ◌<◌, Bool, t
 use Rattle.std.specs.Prelude.{if◌then◌else◌}
 use Rattle.std.proofs.lemmas.Grind.{common_steps}
 use Rattle.split_ring.specs.Layout.{size_of, used_place, word_place, Entry}
-use Rattle.link_laws.specs.Ends.{End, end_behind}
-use Rattle.link_laws.specs.Calls.{Who}
-use Rattle.link_laws.specs.Places as places
+use Rattle.call_grammar.specs.Ends.{End, end_after}
+use Rattle.call_grammar.specs.Calls.{Who}
+use Rattle.call_grammar.specs.Places as places
 use Rattle.tx_engine.specs.Sender.{Sender}
 use Rattle.tx_engine.specs.Stands as tx
 use Rattle.tx_engine.specs.declared.place.Place as tx_places
@@ -53,15 +53,15 @@ in_poll _ = false
 
 -- a step of an offer or a poll is no State step; it refuses a value exactly where the State step of a refusal is next, and the end bears the mark then
 pub record IsStep (who : Who) (end : End) (place : places.Place) (value : ℕ) : Type 0 where
-  pub phase : (end_behind end (places.step_at who place value)).handshake.phase ≡ end.handshake.phase
-  pub mark : (end_behind end (places.step_at who place value)).handshake.mark ≡ (if refuses (places.marks_at who place value) then true else end.handshake.mark)
+  pub phase : (end_after end (places.step_at who place value)).handshake.phase ≡ end.handshake.phase
+  pub mark : (end_after end (places.step_at who place value)).handshake.mark ≡ (if refuses (places.marks_at who place value) then true else end.handshake.mark)
   pub refusing : refuses (places.marks_at who place value) ≡ is_refusing (places.next_place who place value)
 
 -- a step of an offer delivers and returns nothing
 pub record IsOfferStep (who : Who) (end : End) (place : places.Place) (value : ℕ) : Type 0 where
   pub step : IsStep who end place value
-  pub delivered : (end_behind end (places.step_at who place value)).delivered ≡ end.delivered
-  pub returned : (end_behind end (places.step_at who place value)).returned ≡ end.returned
+  pub delivered : (end_after end (places.step_at who place value)).delivered ≡ end.delivered
+  pub returned : (end_after end (places.step_at who place value)).returned ≡ end.returned
   pub marks : All IsOfOffer (places.marks_at who place value)
 
 pub offer_step : (who : Who) (end : End) (place : places.Place) (value : ℕ) → in_offer place ≡ true → IsOfferStep who end place value
@@ -77,16 +77,16 @@ offer_step who end (places.WritingIndex job) value is = grind (arith, common_ste
 offer_step who end places.RingingOffer value is = grind (arith, common_steps)
 offer_step who end _ value is = absurd (cc)
 
--- the used ring stands behind the entries
+-- the used ring stands after the entries
 below_used : (who : Who) (k : ℕ) → k < size_of who.sizes → word_place who.sizes (Entry k) < used_place (size_of who.sizes) / 4
 below_used who k below = omega arith
 
 -- a step of a poll accepts and frees nothing, and leaves the words of the entries
 pub record IsPollStep (who : Who) (end : End) (place : places.Place) (value : ℕ) : Type 0 where
   pub step : IsStep who end place value
-  pub accepted : (end_behind end (places.step_at who place value)).accepted ≡ end.accepted
-  pub freed : (end_behind end (places.step_at who place value)).freed ≡ end.freed
-  pub entries : (k : ℕ) → k < size_of who.sizes → (end_behind end (places.step_at who place value)).written (who.own + word_place who.sizes (Entry k)) ≡ end.written (who.own + word_place who.sizes (Entry k))
+  pub accepted : (end_after end (places.step_at who place value)).accepted ≡ end.accepted
+  pub freed : (end_after end (places.step_at who place value)).freed ≡ end.freed
+  pub entries : (k : ℕ) → k < size_of who.sizes → (end_after end (places.step_at who place value)).written (who.own + word_place who.sizes (Entry k)) ≡ end.written (who.own + word_place who.sizes (Entry k))
   pub marks : All IsOfPoll (places.marks_at who place value)
 
 pub poll_step : (who : Who) (end : End) (place : places.Place) (value : ℕ) → in_poll place ≡ true → IsPollStep who end place value

@@ -5,9 +5,9 @@ use Rattle.std.proofs.lemmas.List.Elements.{All-nil, All-cons, All-head, All-tai
 use Rattle.split_ring.specs.declared.ranges.Refused.{Refused}
 use Rattle.split_ring.specs.declared.steps.Note.{Note}
 use Rattle.split_ring.specs.declared.steps.Note.TheVariants as note
-use Rattle.link_laws.specs.Steps.{Mark, Accept, Deliver, Refuse, mark_of, marks_of}
+use Rattle.call_grammar.specs.Steps.{Mark, Accept, Deliver, Refuse, mark_of, marks_of}
 use Rattle.link_endpoint.specs.declared.place.Place.TheVariants.{Offering, Polling}
-use Rattle.link_endpoint.specs.Engine.{refused_behind, IsNoteAt}
+use Rattle.link_endpoint.specs.Engine.{refused_after, IsNoteAt}
 use Rattle.link_endpoint.specs.Stands.{mark_between, marks_between}
 
 -- one of the marks is of a value refused
@@ -65,25 +65,25 @@ poll_marks offered frame (n ∷ notes) all =
     let more = poll_marks offered frame notes (All-tail (IsNoteAt Polling) n notes all) in
     cc
 
--- what is refused behind notes, whatever was refused before
-pub refused_again : (notes : List Note) (old : Option Refused) (refused : Refused) → refused_behind notes None ≡ Some refused → refused_behind notes old ≡ Some refused
+-- what is refused after notes, whatever was refused before
+pub refused_again : (notes : List Note) (old : Option Refused) (refused : Refused) → refused_after notes None ≡ Some refused → refused_after notes old ≡ Some refused
 refused_again [] old refused is = cc
 refused_again (note.Refuse found ∷ notes) old refused is = is
 refused_again (_ ∷ notes) old refused is = refused_again notes old refused is
 
-some_stays : (notes : List Note) (found : Refused) → is_some (refused_behind notes (Some found)) ≡ true
+some_stays : (notes : List Note) (found : Refused) → is_some (refused_after notes (Some found)) ≡ true
 some_stays [] found = refl
 some_stays (note.Refuse other ∷ notes) found = some_stays notes other
 some_stays (_ ∷ notes) found = some_stays notes found
 
 -- notes that refuse nothing leave what was refused
-pub refused_kept : (notes : List Note) (old : Option Refused) → refused_behind notes None ≡ None → refused_behind notes old ≡ old
+pub refused_kept : (notes : List Note) (old : Option Refused) → refused_after notes None ≡ None → refused_after notes old ≡ old
 refused_kept [] old is = refl
 refused_kept (note.Refuse found ∷ notes) old is = let some = some_stays notes found in let none = ap is_some is in absurd (cc)
 refused_kept (_ ∷ notes) old is = refused_kept notes old is
 
 -- notes refuse something exactly where their marks do
-pub refusal_marked : (frame : List ℕ) (notes : List Note) → is_some (refused_behind notes None) ≡ refuses (marks_of frame notes)
+pub refusal_marked : (frame : List ℕ) (notes : List Note) → is_some (refused_after notes None) ≡ refuses (marks_of frame notes)
 refusal_marked frame [] = refl
 refusal_marked frame (note.Refuse found ∷ notes) = some_stays notes found
 refusal_marked frame (_ ∷ notes) = refusal_marked frame notes

@@ -3,9 +3,9 @@ use Rattle.std.proofs.Common.{◌≡◌, Bool, false, subst, ap, ◌∙◌, arit
 use Rattle.std.proofs.lemmas.Grind.{common_steps}
 use Rattle.link_handshake.specs.declared.Phase.{Phase}
 use Rattle.link_handshake.specs.Standing.{Standing}
-use Rattle.link_laws.specs.Ends.{End}
-use Rattle.link_laws.specs.Calls.{Who}
-use Rattle.link_laws.specs.Places as places
+use Rattle.call_grammar.specs.Ends.{End}
+use Rattle.call_grammar.specs.Calls.{Who}
+use Rattle.call_grammar.specs.Places as places
 use Rattle.link_endpoint.specs.declared.place.Place.{Place}
 use Rattle.link_endpoint.specs.Engine.{Engine, is_busy}
 use Rattle.link_endpoint.specs.Stands.{StandsAt, IsAt}

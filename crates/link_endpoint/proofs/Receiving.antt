@@ -4,10 +4,10 @@ use Rattle.std.proofs.lemmas.Grind.{common_steps}
 use Rattle.split_ring.specs.Layout.{size_of, limit_of, word_place, Entry}
 use Rattle.split_ring.specs.declared.ranges.Refused.{Refused}
 use Rattle.split_ring.specs.declared.steps.Note.{Note}
-use Rattle.link_laws.specs.Steps.{marks_of}
-use Rattle.link_laws.specs.Ends.{End, end_behind}
-use Rattle.link_laws.specs.Calls.{Who}
-use Rattle.link_laws.specs.Places as places
+use Rattle.call_grammar.specs.Steps.{marks_of}
+use Rattle.call_grammar.specs.Ends.{End, end_after}
+use Rattle.call_grammar.specs.Calls.{Who}
+use Rattle.call_grammar.specs.Places as places
 use Rattle.tx_engine.specs.Sender.{Sender}
 use Rattle.tx_engine.specs.Stands as tx
 use Rattle.tx_engine.specs.declared.place.Place as tx_places
@@ -15,7 +15,7 @@ use Rattle.tx_engine.specs.declared.place.Place.TheVariants as tx_place
 use Rattle.rx_engine.specs.Receiver.{Receiver}
 use Rattle.rx_engine.specs.Stands as rx
 use Rattle.link_endpoint.specs.declared.place.Place.TheVariants.{Closed, Refusing, Polling}
-use Rattle.link_endpoint.specs.Engine.{Engine, is_down, is_down_at, refused_behind, IsNoteAt, offered, delivered}
+use Rattle.link_endpoint.specs.Engine.{Engine, is_down, is_down_at, refused_after, IsNoteAt, offered, delivered}
 use Rattle.link_endpoint.specs.Stands.{StandsAt, IsAt, Takes, in_hand}
 use Rattle.link_endpoint.proofs.Opening.{at_place}
 use Rattle.link_endpoint.proofs.Notes.{IsOfPoll, poll_notes, poll_marks, refused_again, refused_kept}
@@ -45,8 +45,8 @@ sender_stays_at _ sender who end other at accepted freed entries phase = absurd 
 record Received (old : Engine) (value : ℕ) (notes : List Note) (next : Receiver) (who : Who) (end : End) (place : places.Place) : Type 0 where
   noted : IsNoted next.frame notes who end place value
   frames : All (IsNoteAt Polling) notes
-  sender : tx.StandsAt old.sender who (end_behind end (places.step_at who place value)) places.Closed
-  receiver : rx.StandsAt next who (end_behind end (places.step_at who place value)) (places.next_place who place value)
+  sender : tx.StandsAt old.sender who (end_after end (places.step_at who place value)) places.Closed
+  receiver : rx.StandsAt next who (end_after end (places.step_at who place value)) (places.next_place who place value)
 
 received : (old : Engine) (value : ℕ) (notes : List Note) (next : Receiver) (who : Who) (end : End) (place : places.Place) →
     old.place ≡ Polling → rx.Takes old.receiver value notes next → StandsAt old who end place → Received old value notes next who end place
@@ -65,8 +65,8 @@ received old value notes next who end place polls took stands =
 -- the step of an endpoint, which stands for some end
 takes : (old new : Engine) (value : ℕ) (notes : List Note) (next : Receiver) (who : Who) (end : End) (place : places.Place) →
     old.place ≡ Polling → rx.Takes old.receiver value notes next → StandsAt old who end place →
-    ((w : Who) (e : End) (p : places.Place) → StandsAt old w e p → Received old value notes next w e p → StandsAt new w (end_behind e (places.step_at w p value)) (places.next_place w p value)) →
-    new.who ≡ old.who → new.refused ≡ refused_behind notes old.refused → new.receiver ≡ next → new.sender ≡ old.sender →
+    ((w : Who) (e : End) (p : places.Place) → StandsAt old w e p → Received old value notes next w e p → StandsAt new w (end_after e (places.step_at w p value)) (places.next_place w p value)) →
+    new.who ≡ old.who → new.refused ≡ refused_after notes old.refused → new.receiver ≡ next → new.sender ≡ old.sender →
     is_down new ≡ false → Takes old value notes new
 takes old new value notes next who end place polls took stands goes same refused receiver sender down =
     let frames = (received old value notes next who end place polls took stands).frames in
@@ -85,7 +85,7 @@ takes old new value notes next who end place polls took stands goes same refused
 
 -- the step refused a value
 pub takes_refused : (old : Engine) (value : ℕ) (notes : List Note) (next : Receiver) (refused : Refused) (who : Who) (end : End) (place : places.Place) →
-    old.place ≡ Polling → rx.Takes old.receiver value notes next → StandsAt old who end place → refused_behind notes None ≡ Some refused →
+    old.place ≡ Polling → rx.Takes old.receiver value notes next → StandsAt old who end place → refused_after notes None ≡ Some refused →
     Takes old value notes (record old { refused = Some refused; place = Refusing; receiver = next })
 takes_refused old value notes next refused who end place polls took stands found =
     takes old _ value notes next who end place polls took stands
@@ -98,7 +98,7 @@ takes_refused old value notes next refused who end place polls took stands found
 
 -- the poll is over where the new receiver isn't busy
 pub takes_end : (old : Engine) (value : ℕ) (notes : List Note) (next : Receiver) (busy : Bool) (who : Who) (end : End) (place : places.Place) →
-    old.place ≡ Polling → rx.Takes old.receiver value notes next → StandsAt old who end place → refused_behind notes None ≡ None →
+    old.place ≡ Polling → rx.Takes old.receiver value notes next → StandsAt old who end place → refused_after notes None ≡ None →
     ((w : Who) (e : End) (p : places.Place) → rx.StandsAt next w e p → busy ≡ places.is_open p) → busy ≡ false →
     Takes old value notes (record old { place = Closed; receiver = next })
 takes_end old value notes next busy who end place polls took stands none busy_is over =
@@ -108,13 +108,13 @@ takes_end old value notes next busy who end place polls took stands none busy_is
     record {
       made = at.made;
       standing = kept_standing old next.frame notes w e p value at s.noted none;
-      at = (closed, record { sender = s.sender; receiver = subst (rx.StandsAt next w (end_behind e (places.step_at w p value))) closed s.receiver });
+      at = (closed, record { sender = s.sender; receiver = subst (rx.StandsAt next w (end_after e (places.step_at w p value))) closed s.receiver });
     })
     refl (sym (refused_kept notes old.refused none)) refl refl refl
 
 -- else it goes on
 pub takes_on : (old : Engine) (value : ℕ) (notes : List Note) (next : Receiver) (busy : Bool) (who : Who) (end : End) (place : places.Place) →
-    old.place ≡ Polling → rx.Takes old.receiver value notes next → StandsAt old who end place → refused_behind notes None ≡ None →
+    old.place ≡ Polling → rx.Takes old.receiver value notes next → StandsAt old who end place → refused_after notes None ≡ None →
     ((w : Who) (e : End) (p : places.Place) → rx.StandsAt next w e p → busy ≡ places.is_open p) → busy ≡ true →
     Takes old value notes (record old { receiver = next })
 takes_on old value notes next busy who end place polls took stands none busy_is on =
@@ -124,6 +124,6 @@ takes_on old value notes next busy who end place polls took stands none busy_is 
     record {
       made = at.made;
       standing = kept_standing old next.frame notes w e p value at s.noted none;
-      at = subst (λ q. IsAt q (record old { receiver = next }) w (end_behind e (places.step_at w p value)) (places.next_place w p value)) (sym polls) (goes, s.sender, s.receiver);
+      at = subst (λ q. IsAt q (record old { receiver = next }) w (end_after e (places.step_at w p value)) (places.next_place w p value)) (sym polls) (goes, s.sender, s.receiver);
     })
     refl (sym (refused_kept notes old.refused none)) refl refl (ap is_down_at polls)

@@ -8,10 +8,10 @@ use Rattle.rx_engine.specs.Receiver.{Receiver}
 use Rattle.rx_engine.specs.Receiver as receiver
 use Rattle.rx_engine.specs.Stands as rx
 use Rattle.split_ring.specs.declared.steps.Note.{Note}
-use Rattle.link_laws.specs.Ends.{End, end_behind}
-use Rattle.link_laws.specs.Reach.{HasSections}
-use Rattle.link_laws.specs.Calls.{Who}
-use Rattle.link_laws.specs.Places as places
+use Rattle.call_grammar.specs.Ends.{End, end_after}
+use Rattle.call_grammar.specs.Reach.{HasSections}
+use Rattle.call_grammar.specs.Calls.{Who}
+use Rattle.call_grammar.specs.Places as places
 use Rattle.link_endpoint.specs.declared.place.Place.{Place}
 use Rattle.link_endpoint.specs.declared.place.Place.TheVariants.{Refusing}
 use Rattle.link_endpoint.specs.declared.endpoint.Endpoint.TheInside.{Inside}
@@ -40,7 +40,7 @@ pub kept_sent : (i : Inside) (next : Sender) (refused : Option Refused) (place :
     IsKept (record i { refused = refused; place = place; tx = next })
 kept_sent i next refused place value notes kept keeps mark takes =
     let new : Inside = record i { refused = refused; place = place; tx = next } in
-    let end : End = end_behind kept.end (places.step_at (seen i).who kept.at value) in
+    let end : End = end_after kept.end (places.step_at (seen i).who kept.at value) in
     let at : places.Place = places.next_place (seen i).who kept.at value in
     record {
       sections = subst HasSections (who_stays i next keeps) kept.sections;
@@ -70,7 +70,7 @@ kept_received i next refused place value notes kept keeps mark takes = record {
     vector = kept.receiver.vector ∙ sym keeps.vector;
   };
   mark = mark;
-  end = end_behind kept.end (places.step_at (seen i).who kept.at value);
+  end = end_after kept.end (places.step_at (seen i).who kept.at value);
   at = places.next_place (seen i).who kept.at value;
   stands = takes.stands (seen i).who kept.end kept.at kept.stands;
 }

@@ -3,16 +3,16 @@ use Rattle.std.proofs.Common.{◌≡◌, ℕ, Bool, true, false, Some, None, Lis
 use Rattle.std.proofs.lemmas.Grind.{common_steps}
 use Rattle.split_ring.specs.declared.ranges.Refused.{Refused}
 use Rattle.split_ring.specs.declared.steps.Note.{Note}
-use Rattle.link_laws.specs.Steps.{marks_of}
-use Rattle.link_laws.specs.Ends.{End, end_behind}
-use Rattle.link_laws.specs.Calls.{Who}
-use Rattle.link_laws.specs.Places as places
+use Rattle.call_grammar.specs.Steps.{marks_of}
+use Rattle.call_grammar.specs.Ends.{End, end_after}
+use Rattle.call_grammar.specs.Calls.{Who}
+use Rattle.call_grammar.specs.Places as places
 use Rattle.tx_engine.specs.Sender.{Sender}
 use Rattle.tx_engine.specs.Stands as tx
 use Rattle.rx_engine.specs.Receiver.{Receiver}
 use Rattle.rx_engine.specs.Stands as rx
 use Rattle.link_endpoint.specs.declared.place.Place.TheVariants.{Closed, Refusing, Offering}
-use Rattle.link_endpoint.specs.Engine.{Engine, is_down, is_down_at, refused_behind, IsNoteAt, offered, delivered}
+use Rattle.link_endpoint.specs.Engine.{Engine, is_down, is_down_at, refused_after, IsNoteAt, offered, delivered}
 use Rattle.link_endpoint.specs.Stands.{StandsAt, IsAt, Takes, in_hand}
 use Rattle.link_endpoint.proofs.Opening.{at_place}
 use Rattle.link_endpoint.proofs.Notes.{IsOfOffer, offer_notes, offer_marks, refused_again, refused_kept}
@@ -28,8 +28,8 @@ receiver_stays receiver who end other stands delivered returned phase = grind (a
 record Sent (old : Engine) (value : ℕ) (notes : List Note) (next : Sender) (who : Who) (end : End) (place : places.Place) : Type 0 where
   noted : IsNoted (offered old) notes who end place value
   frames : All (IsNoteAt Offering) notes
-  sender : tx.StandsAt next who (end_behind end (places.step_at who place value)) (places.next_place who place value)
-  receiver : rx.StandsAt old.receiver who (end_behind end (places.step_at who place value)) places.Closed
+  sender : tx.StandsAt next who (end_after end (places.step_at who place value)) (places.next_place who place value)
+  receiver : rx.StandsAt old.receiver who (end_after end (places.step_at who place value)) places.Closed
 
 sent : (old : Engine) (value : ℕ) (notes : List Note) (next : Sender) (who : Who) (end : End) (place : places.Place) →
     old.place ≡ Offering → tx.Takes old.sender value notes next → StandsAt old who end place → Sent old value notes next who end place
@@ -47,8 +47,8 @@ sent old value notes next who end place offers took stands =
 -- the step of an endpoint, which stands for some end
 takes : (old new : Engine) (value : ℕ) (notes : List Note) (next : Sender) (who : Who) (end : End) (place : places.Place) →
     old.place ≡ Offering → tx.Takes old.sender value notes next → StandsAt old who end place →
-    ((w : Who) (e : End) (p : places.Place) → StandsAt old w e p → Sent old value notes next w e p → StandsAt new w (end_behind e (places.step_at w p value)) (places.next_place w p value)) →
-    new.who ≡ old.who → new.refused ≡ refused_behind notes old.refused → new.sender ≡ next →
+    ((w : Who) (e : End) (p : places.Place) → StandsAt old w e p → Sent old value notes next w e p → StandsAt new w (end_after e (places.step_at w p value)) (places.next_place w p value)) →
+    new.who ≡ old.who → new.refused ≡ refused_after notes old.refused → new.sender ≡ next →
     is_down new ≡ false → Takes old value notes new
 takes old new value notes next who end place offers took stands goes same refused sender down =
     let frames = (sent old value notes next who end place offers took stands).frames in
@@ -66,7 +66,7 @@ takes old new value notes next who end place offers took stands goes same refuse
 
 -- the step refused a value
 pub takes_refused : (old : Engine) (value : ℕ) (notes : List Note) (next : Sender) (refused : Refused) (who : Who) (end : End) (place : places.Place) →
-    old.place ≡ Offering → tx.Takes old.sender value notes next → StandsAt old who end place → refused_behind notes None ≡ Some refused →
+    old.place ≡ Offering → tx.Takes old.sender value notes next → StandsAt old who end place → refused_after notes None ≡ Some refused →
     Takes old value notes (record old { refused = Some refused; place = Refusing; sender = next })
 takes_refused old value notes next refused who end place offers took stands found =
     takes old _ value notes next who end place offers took stands
@@ -79,7 +79,7 @@ takes_refused old value notes next refused who end place offers took stands foun
 
 -- the offer is over where the new sender isn't busy
 pub takes_end : (old : Engine) (value : ℕ) (notes : List Note) (next : Sender) (busy : Bool) (who : Who) (end : End) (place : places.Place) →
-    old.place ≡ Offering → tx.Takes old.sender value notes next → StandsAt old who end place → refused_behind notes None ≡ None →
+    old.place ≡ Offering → tx.Takes old.sender value notes next → StandsAt old who end place → refused_after notes None ≡ None →
     ((w : Who) (e : End) (p : places.Place) → tx.StandsAt next w e p → busy ≡ places.is_open p) → busy ≡ false →
     Takes old value notes (record old { place = Closed; sender = next })
 takes_end old value notes next busy who end place offers took stands none busy_is over =
@@ -89,13 +89,13 @@ takes_end old value notes next busy who end place offers took stands none busy_i
     record {
       made = at.made;
       standing = kept_standing old (offered old) notes w e p value at s.noted none;
-      at = (closed, record { sender = subst (tx.StandsAt next w (end_behind e (places.step_at w p value))) closed s.sender; receiver = s.receiver });
+      at = (closed, record { sender = subst (tx.StandsAt next w (end_after e (places.step_at w p value))) closed s.sender; receiver = s.receiver });
     })
     refl (sym (refused_kept notes old.refused none)) refl refl
 
 -- else it goes on
 pub takes_on : (old : Engine) (value : ℕ) (notes : List Note) (next : Sender) (busy : Bool) (who : Who) (end : End) (place : places.Place) →
-    old.place ≡ Offering → tx.Takes old.sender value notes next → StandsAt old who end place → refused_behind notes None ≡ None →
+    old.place ≡ Offering → tx.Takes old.sender value notes next → StandsAt old who end place → refused_after notes None ≡ None →
     ((w : Who) (e : End) (p : places.Place) → tx.StandsAt next w e p → busy ≡ places.is_open p) → busy ≡ true →
     Takes old value notes (record old { sender = next })
 takes_on old value notes next busy who end place offers took stands none busy_is on =
@@ -105,6 +105,6 @@ takes_on old value notes next busy who end place offers took stands none busy_is
     record {
       made = at.made;
       standing = kept_standing old (offered old) notes w e p value at s.noted none;
-      at = subst (λ q. IsAt q (record old { sender = next }) w (end_behind e (places.step_at w p value)) (places.next_place w p value)) (sym offers) (goes, s.sender, s.receiver);
+      at = subst (λ q. IsAt q (record old { sender = next }) w (end_after e (places.step_at w p value)) (places.next_place w p value)) (sym offers) (goes, s.sender, s.receiver);
     })
     refl (sym (refused_kept notes old.refused none)) refl (ap is_down_at offers)

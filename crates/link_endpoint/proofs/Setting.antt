@@ -6,10 +6,10 @@ use Rattle.split_ring.specs.declared.steps.Note.TheVariants as note
 use Rattle.split_ring.proofs.Places.{places_lem}
 use Rattle.link_handshake.specs.PhaseTable.{phase_at}
 use Rattle.link_handshake.specs.declared.Phase.TheVariants.{Ready}
-use Rattle.link_laws.specs.Ends.{End, end_behind}
-use Rattle.link_laws.specs.Calls.{Who}
-use Rattle.link_laws.specs.Places as places
-use Rattle.link_laws.specs.Reach.{HasSections}
+use Rattle.call_grammar.specs.Ends.{End, end_after}
+use Rattle.call_grammar.specs.Calls.{Who}
+use Rattle.call_grammar.specs.Places as places
+use Rattle.call_grammar.specs.Reach.{HasSections}
 use Rattle.tx_engine.specs.Stands as tx
 use Rattle.rx_engine.specs.Stands as rx
 use Rattle.link_endpoint.specs.declared.place.Place.TheVariants.{Closed, Setting}
@@ -22,8 +22,8 @@ entry_inside : (who : Who) → HasSections who → (k : ℕ) → k < size_of who
 entry_inside who has k below = let inside = (places_lem who.sizes has.queue).inside (Entry k) below in let words = has.words in omega arith
 
 -- a session opens over a section that is clear
-fresh_behind : (who : Who) (end : End) (value : ℕ) → HasSections who → IsClearBefore who end (who.own + who.words) → tx.IsFreshSession who (end_behind end (places.step_at who (places.Setting 2) value))
-fresh_behind who end value has clear = record {
+fresh_after : (who : Who) (end : End) (value : ℕ) → HasSections who → IsClearBefore who end (who.own + who.words) → tx.IsFreshSession who (end_after end (places.step_at who (places.Setting 2) value))
+fresh_after who end value has clear = record {
   accepted = grind arith;
   freed = grind arith;
   blank = λ k below. let inside = entry_inside who has k below in clear (who.own + word_place who.sizes (Entry k)) (omega arith) (omega arith);
@@ -33,12 +33,12 @@ opened : (old new : Engine) (value : ℕ) (who : Who) (end : End) (place : place
     old.place ≡ Setting 2 →
     ((who : Who) (end : End) → tx.IsMadeFor old.sender who → tx.IsFreshSession who end → tx.StandsAt new.sender who end places.Closed) →
     ((who : Who) (end : End) → rx.IsMadeFor old.receiver who → rx.IsFreshSession end → rx.StandsAt new.receiver who end places.Closed) →
-    StandsAt old who end place → Rests new who (end_behind end (places.step_at who (places.Setting 2) value))
+    StandsAt old who end place → Rests new who (end_after end (places.step_at who (places.Setting 2) value))
 opened old new value who end place has sets sender receiver stands =
     let a = at_place (Setting 2) old who end place sets stands in
     let here : HasSections who = subst HasSections (sym stands.made) has in
     record {
-      sender = sender who _ a.2.sender.made (fresh_behind who end value here (a.1.opens (refl)));
+      sender = sender who _ a.2.sender.made (fresh_after who end value here (a.1.opens (refl)));
       receiver = receiver who _ a.2.receiver.made (grind (arith, common_steps));
     }
 

@@ -1,8 +1,8 @@
 -- An endpoint at its start.
 use Rattle.std.proofs.Common.{[], refl}
-use Rattle.link_laws.specs.Ends.{fresh}
-use Rattle.link_laws.specs.Calls.{Who}
-use Rattle.link_laws.specs.Places as places
+use Rattle.call_grammar.specs.Ends.{fresh}
+use Rattle.call_grammar.specs.Calls.{Who}
+use Rattle.call_grammar.specs.Places as places
 use Rattle.link_endpoint.specs.Engine.{fresh_engine}
 use Rattle.link_endpoint.specs.Stands.{StandsAt}
 

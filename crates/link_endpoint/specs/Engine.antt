@@ -8,8 +8,8 @@ use Rattle.split_ring.specs.declared.steps.Note.TheVariants as note
 use Rattle.link_handshake.specs.declared.Phase.{Phase}
 use Rattle.link_handshake.specs.declared.Phase.TheVariants.{Reset, Init, Ready, Run}
 use Rattle.link_handshake.specs.Standing.{Standing}
-use Rattle.link_laws.specs.Calls.{Who}
-use Rattle.link_laws.specs.Calls as calls
+use Rattle.call_grammar.specs.Calls.{Who}
+use Rattle.call_grammar.specs.Calls as calls
 use Rattle.tx_engine.specs.Sender.{Sender, fresh_sender}
 use Rattle.rx_engine.specs.Receiver.{Receiver, fresh_receiver}
 use Rattle.link_endpoint.specs.declared.place.Call.{Call}
@@ -96,11 +96,11 @@ comes_down Poll Ready = true
 comes_down Poll Run = false
 comes_down Stop phase = false
 
--- what was refused last behind these notes
-abbrev pub refused_behind : List Note → Option Refused → Option Refused
-refused_behind [] refused = refused
-refused_behind (note.Refuse found ∷ notes) refused = refused_behind notes (Some found)
-refused_behind (_ ∷ notes) refused = refused_behind notes refused
+-- what was refused last after these notes
+abbrev pub refused_after : List Note → Option Refused → Option Refused
+refused_after [] refused = refused
+refused_after (note.Refuse found ∷ notes) refused = refused_after notes (Some found)
+refused_after (_ ∷ notes) refused = refused_after notes refused
 
 -- a note of the open call: an offer notes no frame delivered, a poll none accepted, and any other call no frame at all
 abbrev pub IsNoteAt : Place → Note → Type 0

@@ -1,8 +1,8 @@
 -- What the fields of an endpoint are, and those of an automatic peer.
 use Rattle.std.specs.Prelude.{◌≡◌, ◌≢◌, ◌+◌, ◌*◌, ◌^◌, ◌≤◌, is_some}
-use Rattle.link_laws.specs.Ends.{End}
-use Rattle.link_laws.specs.Places as places
-use Rattle.link_laws.specs.Reach.{HasSections}
+use Rattle.call_grammar.specs.Ends.{End}
+use Rattle.call_grammar.specs.Places as places
+use Rattle.call_grammar.specs.Reach.{HasSections}
 use Rattle.tx_engine.specs.Stands as tx
 use Rattle.rx_engine.specs.Stands as rx
 use Rattle.link_endpoint.specs.declared.place.Place.TheVariants.{Refusing}

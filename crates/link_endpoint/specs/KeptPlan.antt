@@ -1,16 +1,16 @@
 -- What the fields of an automatic peer are.
 use Rattle.std.specs.Prelude.{◌≤◌}
-use Rattle.link_laws.specs.Automatic.{Round}
-use Rattle.link_laws.specs.Automatic as laws
+use Rattle.call_grammar.specs.Automatic.{Round}
+use Rattle.call_grammar.specs.Automatic as laws
 use Rattle.link_endpoint.specs.declared.auto.Auto.TheInside.{Inside}
 use Rattle.link_endpoint.specs.declared.auto.Round as auto
-use Rattle.link_endpoint.specs.declared.auto.Round.TheVariants.{Anew, BehindOffer, BehindPoll}
+use Rattle.link_endpoint.specs.declared.auto.Round.TheVariants.{Anew, AfterOffer, AfterPoll}
 use Rattle.link_endpoint.specs.Plan.{Plan}
 
 abbrev pub round_of : auto.Round → Round
 round_of Anew = laws.Anew
-round_of BehindOffer = laws.BehindOffer
-round_of BehindPoll = laws.BehindPoll
+round_of AfterOffer = laws.AfterOffer
+round_of AfterPoll = laws.AfterPoll
 
 abbrev pub plan_of : Inside → Plan
 plan_of i = record { frames = i.frames.items; expected = i.expected; delivered = i.delivered; round = round_of i.round }

@@ -1,7 +1,7 @@
 -- What an automatic peer has to do, as contracts see it.
 use Rattle.std.specs.Prelude.{ℕ, ◌≡◌, min, Option, Some, None, List, [], ◌∷◌}
-use Rattle.link_laws.specs.Automatic.{Round, Anew, BehindOffer, BehindPoll}
-use Rattle.link_laws.specs.Automatic as automatic
+use Rattle.call_grammar.specs.Automatic.{Round, Anew, AfterOffer, AfterPoll}
+use Rattle.call_grammar.specs.Automatic as automatic
 use Rattle.link_endpoint.specs.declared.auto.Choice.{Choice}
 use Rattle.link_endpoint.specs.declared.auto.Choice.TheVariants.{Tick, Offer, Poll, Finished}
 
@@ -16,7 +16,7 @@ pub record Plan : Type 0 where
 abbrev pub fresh_plan : ℕ → Plan
 fresh_plan expected = record { frames = []; expected = expected; delivered = 0; round = Anew }
 
--- so many frames were delivered in the whole run: the plan counts them up to the number expected, behind which no more make a difference
+-- so many frames were delivered in the whole run: the plan counts them up to the number expected, after which no more make a difference
 abbrev pub HasCounted : Plan → ℕ → Type 0
 HasCounted plan count = plan.delivered ≡ min count plan.expected
 
@@ -32,9 +32,9 @@ IsChoice Offer (frame ∷ frames) chosen = chosen ≡ automatic.ChoosesOffer fra
 IsChoice Poll frames chosen = chosen ≡ automatic.ChoosesPoll
 IsChoice Finished frames chosen = chosen ≡ automatic.IsFinished
 
--- the round behind an answer
-abbrev pub round_behind : Choice → Round → Round
-round_behind Tick round = Anew
-round_behind Offer round = BehindOffer
-round_behind Poll round = BehindPoll
-round_behind Finished round = round
+-- the round after an answer
+abbrev pub round_after : Choice → Round → Round
+round_after Tick round = Anew
+round_after Offer round = AfterOffer
+round_after Poll round = AfterPoll
+round_after Finished round = round

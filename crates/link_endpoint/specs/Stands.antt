@@ -3,15 +3,15 @@ use Rattle.std.specs.Prelude.{ℕ, ◌≡◌, ◌+◌, ◌-◌, ◌<◌, ◌≤�
 use Rattle.link_handshake.specs.declared.Phase.TheVariants.{Init}
 use Rattle.split_ring.specs.declared.steps.Note.{Note}
 use Rattle.split_ring.specs.declared.steps.Note.TheVariants as note
-use Rattle.link_laws.specs.Steps.{Mark, Saw, Accept, Over, mark_of, marks_of}
-use Rattle.link_laws.specs.Ends.{End, end_behind}
-use Rattle.link_laws.specs.Calls.{Who, Tick}
-use Rattle.link_laws.specs.Places as places
+use Rattle.call_grammar.specs.Steps.{Mark, Saw, Accept, Over, mark_of, marks_of}
+use Rattle.call_grammar.specs.Ends.{End, end_after}
+use Rattle.call_grammar.specs.Calls.{Who, Tick}
+use Rattle.call_grammar.specs.Places as places
 use Rattle.tx_engine.specs.Stands as tx
 use Rattle.rx_engine.specs.Stands as rx
 use Rattle.link_endpoint.specs.declared.place.Place.{Place}
 use Rattle.link_endpoint.specs.declared.place.Place.TheVariants.{Closed, Looking, Clearing, Setting, Refusing, Downed, Offering, Polling}
-use Rattle.link_endpoint.specs.Engine.{Engine, is_busy, is_down, standing_of, offered, delivered, refused_behind, IsNoteAt}
+use Rattle.link_endpoint.specs.Engine.{Engine, is_busy, is_down, standing_of, offered, delivered, refused_after, IsNoteAt}
 
 -- For which ends it stands
 
@@ -24,7 +24,7 @@ pub record Rests (e : Engine) (who : Who) (end : End) : Type 0 where
 abbrev pub IsClearBefore : Who → End → ℕ → Type 0
 IsClearBefore who end at = (word : ℕ) → who.own ≤ word → word < at → end.written word ≡ 0
 
--- an end in INIT writes 0 to this own word next, and opens a session behind the last one
+-- an end in INIT writes 0 to this own word next, and opens a session after the last one
 pub record IsClearing (who : Who) (end : End) (at state : ℕ) : Type 0 where
   pub phase : end.handshake.phase ≡ Init
   pub first : who.own ≤ at
@@ -80,9 +80,9 @@ pub record Takes (old : Engine) (value : ℕ) (notes : List Note) (new : Engine)
   pub marks : (who : Who) (end : End) (place : places.Place) → StandsAt old who end place → marks_of (in_hand old.place (offered old) (delivered new)) notes ≡ places.marks_at who place value
   pub marked : (who : Who) (end : End) (place : places.Place) → StandsAt old who end place → marks_between (offered old) (delivered new) notes ≡ places.marks_at who place value
   pub frames : All (IsNoteAt old.place) notes
-  pub stands : (who : Who) (end : End) (place : places.Place) → StandsAt old who end place → StandsAt new who (end_behind end (places.step_at who place value)) (places.next_place who place value)
+  pub stands : (who : Who) (end : End) (place : places.Place) → StandsAt old who end place → StandsAt new who (end_after end (places.step_at who place value)) (places.next_place who place value)
   pub who : new.who ≡ old.who
-  pub refused : new.refused ≡ refused_behind notes old.refused
+  pub refused : new.refused ≡ refused_after notes old.refused
   pub offered : is_busy new ≡ true → offered new ≡ offered old
   pub down : is_down new ≡ false
 

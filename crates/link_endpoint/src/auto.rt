@@ -1,7 +1,7 @@
 //! The automatic peer: which call comes next.
 ghost use Rattle.std.specs.Prelude.{ℕ, List, ◌≡◌, ◌≢◌, ◌+◌, ◌++◌, ◌≤◌, ◌↔◌, ◌∷◌, [], min, IsTrue, MatchOption, OnOk, IfErr};
-ghost use Rattle.link_laws.specs.Automatic.{choice_of, Anew};
-ghost use Rattle.link_endpoint.specs.Plan.{fresh_plan, HasCounted, IsChoice, head_of, round_behind};
+ghost use Rattle.call_grammar.specs.Automatic.{choice_of, Anew};
+ghost use Rattle.link_endpoint.specs.Plan.{fresh_plan, HasCounted, IsChoice, head_of, round_after};
 
 use ivs_base::{Frame, NoMemory};
 use link_handshake::Phase;
@@ -24,8 +24,8 @@ pub enum Choice {
 #[derive(Clone, Copy, Debug, PartialEq, Eq)]
 enum Round {
     Anew,
-    BehindOffer,
-    BehindPoll,
+    AfterOffer,
+    AfterPoll,
 }
 
 /// An automatic peer: the frames that are not accepted yet, how many deliveries it expects and how many came, and its round.
@@ -62,7 +62,7 @@ impl Auto {
         }
     }
 
-    /// Puts a frame behind those that wait. After NoMemory the list is unchanged, and the frame is dropped.
+    /// Puts a frame after those that wait. After NoMemory the list is unchanged, and the frame is dropped.
     pub fn add(&mut self, frame: Frame) -> Result<(), NoMemory>
         ensures added { OnOk result (self.new ≡ record self.old { frames = self.old.frames ++ frame ∷ [] }) }
         ensures unchanged { IfErr result (λ _. self.new ≡ self.old) }
@@ -83,13 +83,13 @@ impl Auto {
     /// What comes next, for an end in this phase. The round goes on with it.
     pub fn choose(&mut self, phase: Phase) -> Choice
         ensures choice { (count : ℕ) → HasCounted self.old count → IsChoice result self.old.frames (choice_of phase self.old.round self.old.frames count self.old.expected) }
-        ensures round { self.new ≡ record self.old { round = round_behind result self.old.round } }
+        ensures round { self.new ≡ record self.old { round = round_after result self.old.round } }
     {
         let choice = self.choice(phase);
         match choice {
             Choice::Tick => self.round = Round::Anew,
-            Choice::Offer => self.round = Round::BehindOffer,
-            Choice::Poll => self.round = Round::BehindPoll,
+            Choice::Offer => self.round = Round::AfterOffer,
+            Choice::Poll => self.round = Round::AfterPoll,
             Choice::Finished => {}
         }
         choice
@@ -136,7 +136,7 @@ impl Auto {
         }
         match (phase, self.round) {
             (Phase::Run, Round::Anew) if !self.frames.is_empty() => Choice::Offer,
-            (Phase::Run, Round::Anew | Round::BehindOffer) => Choice::Poll,
+            (Phase::Run, Round::Anew | Round::AfterOffer) => Choice::Poll,
             _ => Choice::Tick,
         }
     }

@@ -2,11 +2,11 @@
 ghost use Rattle.std.specs.Prelude.{◌≡◌, ℕ, ◌+◌, ◌*◌, ◌≤◌, ◌↔◌, not, is_some, None, [], ◌∷◌, true, false, IsTrue, IfOk, length};
 ghost use Rattle.link_handshake.specs.PhaseTable.{phase_at};
 ghost use Rattle.link_handshake.specs.declared.Phase.TheVariants.{Run};
-ghost use Rattle.link_laws.specs.Ends.{End, fresh, after_reset};
-ghost use Rattle.link_laws.specs.Calls.{Who, Offer, in_run};
-ghost use Rattle.link_laws.specs.Places as places;
-ghost use Rattle.link_laws.specs.Reach.{InReach};
-ghost use Rattle.link_endpoint.specs.Engine.{who_of, fresh_engine, is_busy, is_down, offered, delivered, call_of, comes_down, refused_behind};
+ghost use Rattle.call_grammar.specs.Ends.{End, fresh, after_reset};
+ghost use Rattle.call_grammar.specs.Calls.{Who, Offer, in_run};
+ghost use Rattle.call_grammar.specs.Places as places;
+ghost use Rattle.call_grammar.specs.Reach.{InReach};
+ghost use Rattle.link_endpoint.specs.Engine.{who_of, fresh_engine, is_busy, is_down, offered, delivered, call_of, comes_down, refused_after};
 ghost use Rattle.link_endpoint.specs.Stands.{StandsAt, Takes, Opens};
 
 use crate::place::{Call, Place};
@@ -125,7 +125,7 @@ impl Endpoint {
         self.tx.frame()
     }
 
-    /// The frame delivered last. It is empty before the first one, while the words of the next one are read, and behind a reset, a
+    /// The frame delivered last. It is empty before the first one, while the words of the next one are read, and after a reset, a
     /// refusal, or the State step that opens a session.
     pub fn delivered(&self) -> &[u8]
         ensures { result.now ≡ delivered self.now }
@@ -344,7 +344,7 @@ fn noted(note: Note) -> Notes
 
 /// What the last Refuse of these notes refused.
 fn refused_in(notes: &[Note]) -> Option<Refused>
-    ensures { result ≡ refused_behind notes.now None }
+    ensures { result ≡ refused_after notes.now None }
 {
     let mut refused = None;
     for note in notes {

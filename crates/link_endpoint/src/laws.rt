@@ -1,7 +1,7 @@
 //! What holds of the calls of an end, and of two ends that make calls. Each law is the contract of a function that does nothing.
 ghost use Rattle.link_endpoint.specs.Stands.{RefusedEndsStay};
 
-pub use link_laws::{
+pub use call_grammar::{
     calls_are_lists, calls_keep_rows, calls_meet_bounds, calls_stay_in_reach, calls_take_a_step,
     cuts_begin, fields_are_read_once, phase_follows_state, places_follow_trees,
 };

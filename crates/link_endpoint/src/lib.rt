@@ -1,5 +1,5 @@
 //! An end of the link: its handshake, its sender and its receiver, one access a step; and the automatic peer, which chooses the calls.
-//! It stands on `tx_engine` and `rx_engine` for offers and polls, on `link_handshake` for the phases, and on `link_laws` for the call
+//! It stands on `tx_engine` and `rx_engine` for offers and polls, on `link_handshake` for the phases, and on `call_grammar` for the call
 //! grammar. Its contracts promise that each call is one of the grammar's, for each end for which the endpoint stands, and that the
 //! choice of calls is the grammar's. `laws` holds what follows for two ends.
 #![tactic(auto)]

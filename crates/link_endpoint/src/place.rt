@@ -18,7 +18,7 @@ pub(crate) enum Place {
     Closed,
     /// Before the read of the other's state.
     Looking,
-    /// Before the write of 0 to the own word `at`; behind the last one comes the State step with this value.
+    /// Before the write of 0 to the own word `at`; after the last one comes the State step with this value.
     Clearing { at: u32, then: u32 },
     /// Before the State step with this value, which ends a Tick or a Stop.
     Setting(u32),

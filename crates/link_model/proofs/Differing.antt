@@ -1,4 +1,4 @@
--- Lines that leave the lawful history: what more lines behind them change, and what they rule out.
+-- Lines that leave the lawful history: what more lines after them change, and what they rule out.
 use Rattle.std.proofs.Common.{◌≡◌, ℕ, ◌+◌, ◌<◌, ◌≤◌, List, [], ◌∷◌, ◌++◌, length, arith, refl, sym, ◌∙◌, ap, append_assoc, length-append}
 use Rattle.std.proofs.lemmas.List.{append_cancel_left}
 use Rattle.scenario_text.specs.Scenario.{World}
@@ -16,7 +16,7 @@ head_more (line ∷ given) more some = refl
 some_given : (before given found : List Line) (line : ℕ) → found ≡ before ++ given → line ≡ length before + 1 → line ≤ length found → 0 < length given
 some_given before given found line is number within = omega (arith, ap length is, length-append before given)
 
--- lines behind the one that differs change nothing
+-- lines after the one that differs change nothing
 pub longer : (lawful found more : List Line) (fault : Unlawful) → DiffersAt lawful found fault → fault.line ≤ length found → DiffersAt lawful (found ++ more) fault
 longer lawful found more fault differs within =
     let head = head_more differs.given more (some_given differs.before differs.given found fault.line differs.found_is differs.line within) in

@@ -1,4 +1,4 @@
--- How the lawful history goes on behind the lines that a course took.
+-- How the lawful history goes on after the lines that a course took.
 use Rattle.std.proofs.Common.{◌≡◌, ◌≢◌, ℕ, zero, suc, ◌<◌, ◌≤◌, ◌+◌, ◌-◌, List, [], ◌∷◌, ◌++◌, length, get_or, take, drop, replicate, refl, sym, ◌∙◌, ap, subst, arith, append_assoc, inl, inr}
 use Rattle.std.specs.Prelude.{◌⊎◌, Some, None, reverse, slice_get}
 use Rattle.std.proofs.lemmas.List.{append-nil, length-append, reverse-append, take-append-drop, take_all, take_more}
@@ -12,8 +12,8 @@ use Rattle.lawful_history.specs.Schedule.{Event, Turned, events_of, schedule}
 use Rattle.lawful_history.specs.Lawful.{IsLawful, HasOneHistory}
 use Rattle.lawful_history.specs.History.{Moment, run, beginning, history, HistoryIsLawful}
 use Rattle.lawful_history.proofs.Begins.{run_on, grows}
-use Rattle.link_world.specs.Stage.{moment_of, RunsTo}
-use Rattle.link_world.specs.declared.stage.Stage.{Stage}
+use Rattle.stage.specs.Stage.{moment_of, RunsTo}
+use Rattle.stage.specs.declared.stage.Stage.{Stage}
 use Rattle.link_model.specs.declared.course.Course.{Course}
 use Rattle.link_model.specs.declared.fault.Law.TheVariants.{Order}
 use Rattle.link_model.specs.declared.fault.Unlawful.{Unlawful}
@@ -30,7 +30,7 @@ follows world gone events rest s runs all =
     let new = grows world rest (moment_of world events) in (
       reverse new.0,
       ap (λ (es : List Event). reverse (run world es (beginning world)).past) (sym all) ∙ ap (λ (m : Moment). reverse m.past) (run_on world events rest (beginning world))
-          ∙ ap reverse new.1 ∙ reverse-append new.0 (moment_of world events).past ∙ ap (λ ls. ls ++ reverse new.0) (sym runs.behind.lines),
+          ∙ ap reverse new.1 ∙ reverse-append new.0 (moment_of world events).past ∙ ap (λ ls. ls ++ reverse new.0) (sym runs.scene_stands.lines),
     )
 
 -- the events that are left
@@ -43,7 +43,7 @@ rest_is gone c played =
     let acts = (world_in c).acts in
     sym (append_assoc played.events (replicate c.left (Turned c.peer)) (schedule (drop c.at acts))) ∙ ap (λ es. es ++ schedule (drop c.at acts)) played.scheduled ∙ split_at acts c.at
 
--- the lines that weren't taken stand behind those that were
+-- the lines that weren't taken stand after those that were
 untaken : (gone kept lines : List Line) (passed : ℕ) → gone ++ take passed kept ≡ lines → gone ++ kept ≡ lines ++ drop passed kept
 untaken gone kept lines passed taken =
     ap (λ ls. gone ++ ls) (sym (take-append-drop passed kept)) ∙ sym (append_assoc gone (take passed kept) (drop passed kept)) ∙ ap (λ ls. ls ++ drop passed kept) taken
@@ -59,7 +59,7 @@ head_of_more [] more p inside = absurd (omega arith)
 head_of_more (x ∷ xs) more zero inside = refl
 head_of_more (x ∷ xs) more (suc p) inside = head_of_more xs more p (omega arith)
 
--- how the history goes on behind the lines taken: its next line is the one that waits on the stage
+-- how the history goes on after the lines taken: its next line is the one that waits on the stage
 abbrev GoesOnBy : List Line → Course → Type 0
 GoesOnBy lines c = (after : List Line) × (history (world_in c) ≡ lines ++ after) × (head_of after ≡ slice_get c.stage.scene.lines c.passed)
 
@@ -82,7 +82,7 @@ is_over lines c along over =
     no_turns played.events _ (Turned c.peer) c.left over.0 played.scheduled ∙ ap (λ (xs : List Act). schedule xs) (take_all c.at world.acts over.1) in
     let runs = subst (λ (es : List Event). RunsTo world along.gone es c.stage) all played.runs in (
       drop c.passed kept,
-      sym runs.behind.lines ∙ untaken along.gone kept lines c.passed along.taken,
+      sym runs.scene_stands.lines ∙ untaken along.gone kept lines c.passed along.taken,
       head_of_drop kept c.passed,
     )
 
@@ -96,7 +96,7 @@ expects lines c goes = expects_by lines c goes.along goes.settled
 -- each lawful history is the one that is expected
 lawful_is : HasOneHistory → HistoryIsLawful → (lines : List Line) (c : Course) (goes : GoesOn lines c) (lawful : List Line) → IsLawful (world_in c) lawful → lawful ≡ lines ++ (expects lines c goes).0
 lawful_is one exists lines c goes lawful is =
-    one (world_in c) lawful (history (world_in c)) is (exists (world_in c) goes.along.played.runs.behind.is_world) ∙ (expects lines c goes).1
+    one (world_in c) lawful (history (world_in c)) is (exists (world_in c) goes.along.played.runs.scene_stands.is_world) ∙ (expects lines c goes).1
 
 pub begins : HasOneHistory → HistoryIsLawful → (lines : List Line) (c : Course) → GoesOn lines c → Begins (world_in c) lines
 begins one exists lines c goes = λ lawful is. ((expects lines c goes).0, lawful_is one exists lines c goes lawful is)
@@ -145,7 +145,7 @@ pub is_whole : HistoryIsLawful → (lines : List Line) (c : Course) → GoesOn l
 is_whole exists lines c goes none =
     let after = expects lines c goes in
     let all : history (world_in c) ≡ lines = after.1 ∙ ap (λ ls. lines ++ ls) (no_head after.0 (after.2 ∙ none)) ∙ append-nil lines in
-    subst (λ ls. IsLawful (world_in c) ls) all (exists (world_in c) goes.along.played.runs.behind.is_world)
+    subst (λ ls. IsLawful (world_in c) ls) all (exists (world_in c) goes.along.played.runs.scene_stands.is_world)
 
 -- the line that waits is taken
 pub one_taken : (lines : List Line) (c : Course) (line : Line) → IsAlong lines c → slice_get c.stage.scene.lines c.passed ≡ Some line → IsAlong (lines ++ line ∷ []) (record c { passed = c.passed + 1 })

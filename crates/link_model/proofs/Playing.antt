@@ -7,9 +7,9 @@ use Rattle.scenario_text.specs.declared.acts.Act.{Act}
 use Rattle.scenario_text.specs.declared.acts.Act.TheVariants as act
 use Rattle.lawful_history.specs.declared.line.Line.{Line}
 use Rattle.lawful_history.specs.Schedule.{Event, Turned, events_of, schedule}
-use Rattle.link_world.specs.Stage.{Happens, Plays, RunsTo}
-use Rattle.link_world.specs.declared.stage.Stage.{Stage}
-use Rattle.link_world.proofs.Runs.{schedule_more, one_act, act_at, below_peers}
+use Rattle.stage.specs.Stage.{Happens, Plays, RunsTo}
+use Rattle.stage.specs.declared.stage.Stage.{Stage}
+use Rattle.stage.proofs.Runs.{schedule_more, one_act, act_at, below_peers}
 use Rattle.link_model.specs.declared.course.Course.{Course}
 use Rattle.link_model.specs.Course.{world_in, IsPlayed, IsAlong}
 
@@ -37,7 +37,7 @@ pub act_played : (gone : List Line) (c : Course) (a : Act) (s : Stage) → c.lef
 act_played gone c a s none inside is plays played =
     let world = world_in c in
     let before = no_turns played.events _ (Turned c.peer) c.left none played.scheduled in
-    let allowed = act_at world c.at a played.runs.behind.is_world inside is in
+    let allowed = act_at world c.at a played.runs.scene_stands.is_world inside is in
     record {
       events = schedule (take (c.at + 1) world.acts);
       runs = one_act world gone world.acts c.at a s inside is (plays world gone (schedule (take c.at world.acts)) allowed (subst (λ (es : List Event). RunsTo world gone es c.stage) before played.runs));
@@ -52,7 +52,7 @@ pub turns_noted : (gone : List Line) (c : Course) (p k : ℕ) → c.left ≡ 0 �
 turns_noted gone c p k none inside is played =
     let world = world_in c in
     let before = no_turns played.events _ (Turned c.peer) c.left none played.scheduled in
-    let allowed = act_at world c.at (act.Turn p k) played.runs.behind.is_world inside is in
+    let allowed = act_at world c.at (act.Turn p k) played.runs.scene_stands.is_world inside is in
     record {
       events = played.events;
       runs = played.runs;

@@ -12,7 +12,7 @@ use Rattle.link_model.specs.Taken.{Taking, IsCause}
 use Rattle.link_model.specs.Course.{world_in, GoesOn}
 use Rattle.link_model.proofs.Expecting.{begins, counted}
 
--- what is seen of a course behind which this line comes next
+-- what is seen of a course after which this line comes next
 abbrev pub seen : Course → ℕ → Option StepFault → Taking
 seen c next fault = record { world = world_in c; lines = take (next - 1) (history (world_in c)); fault = fault }
 

@@ -4,7 +4,7 @@ use Rattle.scenario_text.specs.Scenario.{World}
 use Rattle.lawful_history.specs.declared.line.Line.{Line}
 use Rattle.lawful_history.specs.Sides.{world_of}
 use Rattle.lawful_history.specs.Schedule.{Event, Turned, schedule}
-use Rattle.link_world.specs.Stage.{RunsTo}
+use Rattle.stage.specs.Stage.{RunsTo}
 use Rattle.link_model.specs.declared.course.Course.{Course}
 use Rattle.link_model.specs.declared.fault.StepFault.{StepFault}
 

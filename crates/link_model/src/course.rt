@@ -10,7 +10,7 @@ use crate::fault::{Law, StepFault, Unlawful};
 use crate::law::broken_law;
 use ivs_base::NoMemory;
 use lawful_history::{Line, history_is_lawful, one_history};
-use link_world::Stage;
+use stage::Stage;
 use scenario_text::{Act, Scenario};
 use std::alloc::Global;
 

@@ -1,5 +1,5 @@
 //! A history of a scenario, taken line by line and checked on the way. It stands on `lawful_history` for what a history and the law is, and
-//! on `link_world` for the stage on which the lawful history is played beside the lines taken. The contract of `Run` promises that a
+//! on `stage` for the stage on which the lawful history is played beside the lines taken. The contract of `Run` promises that a
 //! step is taken exactly where the lines so far begin the lawful history, and else the first line that differs and the law that it
 //! breaks.
 #![tactic(auto)]

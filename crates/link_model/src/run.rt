@@ -13,7 +13,7 @@ use scenario_text::Scenario;
 use std::alloc::Global;
 use std::marker::Model;
 
-/// A history of a scenario on its way, checked line by line. It keeps the words, the devices and the ends behind the lines that it
+/// A history of a scenario on its way, checked line by line. It keeps the words, the devices and the ends after the lines that it
 /// took, and none of these lines.
 #[derive(Drop)]
 pub struct Run<'a> {
@@ -48,7 +48,7 @@ impl<'a> Run<'a> {
     }
 
     /// Takes the next line of the history. Unlawful comes exactly where no lawful history of the scenario goes on with this line, with
-    /// its number and the law that it breaks. NoMemory comes only where memory ran out. Behind a fault each step answers that fault.
+    /// its number and the law that it breaks. NoMemory comes only where memory ran out. After a fault each step answers that fault.
     pub fn step(&mut self, line: &Line) -> Result<(), StepFault>
         ensures taken { OnOk result (self.new ≡ record self.old { lines = self.old.lines ++ line.now ∷ [] }) }
         ensures lawful { OnOk result (Begins self.new.world self.new.lines) }
@@ -62,13 +62,13 @@ impl<'a> Run<'a> {
             return Err(fault);
         }
         // A history of more lines than a u64 counts can't be held.
-        let Some(behind) = self.next.checked_add(1) else {
+        let Some(after) = self.next.checked_add(1) else {
             self.fault = Some(StepFault::NoMemory);
             return Err(StepFault::NoMemory);
         };
         match self.course.take(self.next, line) {
             Ok(()) => {
-                self.next = behind;
+                self.next = after;
                 Ok(())
             }
             Err(fault) => {

@@ -10,17 +10,17 @@ use Rattle.split_ring.specs.Spelling.{low_half, entry_half}
 use Rattle.link_handshake.specs.declared.Move.TheVariants.{Stay, Set, ClearThenSet}
 use Rattle.link_handshake.specs.PhaseTable.{move_on}
 use Rattle.link_handshake.specs.Standing.{move_of}
-use Rattle.link_laws.specs.Ends.{End, end_behind}
-use Rattle.link_laws.specs.Ticks.{Who}
-use Rattle.link_laws.specs.Calls.{Call, Tick, Stop, Offer, Poll, in_run, job_of}
-use Rattle.link_laws.specs.Words.{words_for, address_of}
-use Rattle.link_laws.specs.Rows.{MovesTo}
-use Rattle.link_laws.specs.Offers.{Job}
-use Rattle.link_laws.specs.Polls.{is_entry, is_address, is_length}
-use Rattle.link_laws.specs.Places.{Place, Closed, AtState, Clearing, Setting, Refusing, Downed, AtUsedIndex, AtUsedId, Filling, WritingLow, WritingHigh, WritingLength, WritingFlags, WritingEntry, WritingIndex, RingingOffer, AtAvailIndex, AtEntry, AtLow, AtHigh, AtLength, AtFlags, AtWord, GivingId, GivingLength, GivingIndex, RingingPoll, clear_place, fill_place, words_place, first_place, access_at, next_place, step_at, is_open}
-use Rattle.link_laws.specs.LinkMachine.{Side}
-use Rattle.link_laws.proofs.OfferLists.{yes, no}
-use Rattle.link_laws.proofs.PollLists.{entry_denies, address_denies, length_denies}
+use Rattle.call_grammar.specs.Ends.{End, end_after}
+use Rattle.call_grammar.specs.Ticks.{Who}
+use Rattle.call_grammar.specs.Calls.{Call, Tick, Stop, Offer, Poll, in_run, job_of}
+use Rattle.call_grammar.specs.Words.{words_for, address_of}
+use Rattle.call_grammar.specs.Rows.{MovesTo}
+use Rattle.call_grammar.specs.Offers.{Job}
+use Rattle.call_grammar.specs.Polls.{is_entry, is_address, is_length}
+use Rattle.call_grammar.specs.Places.{Place, Closed, AtState, Clearing, Setting, Refusing, Downed, AtUsedIndex, AtUsedId, Filling, WritingLow, WritingHigh, WritingLength, WritingFlags, WritingEntry, WritingIndex, RingingOffer, AtAvailIndex, AtEntry, AtLow, AtHigh, AtLength, AtFlags, AtWord, GivingId, GivingLength, GivingIndex, RingingPoll, clear_place, fill_place, words_place, first_place, access_at, next_place, step_at, is_open}
+use Rattle.link_machine.specs.LinkMachine.{Side}
+use Rattle.call_grammar.proofs.OfferLists.{yes, no}
+use Rattle.call_grammar.proofs.PollLists.{entry_denies, address_denies, length_denies}
 use Rattle.link_pair.specs.Standing as pair
 use Rattle.link_pair.specs.Standing.{Standing}
 use Rattle.link_pair.specs.Alone.{Alone}
@@ -67,10 +67,10 @@ same_side ground theirs other side end place place' si seen looked = silent grou
 
 rows_at : (ground : Ground) (p : ℕ) (memory : ℕ → ℕ) (standings : ℕ → Standing) (theirs : Bool) (other side : Side) (end : End) (place : Place) (value : ℕ) → IsGround ground → p < 2 → Alone (layout_of ground) memory p (standings p) → (theirs ≡ true → Other ground memory standings p other) → other.state ≡ memory (1 - p) →
     StandsAs ground p memory end place (standings p) → SideIs end place side → is_open place ≡ true → Meets memory (access_at (who_of ground p) place) value →
-    Follows ground theirs other side (told_by (step_at (who_of ground p) place value)) (end_behind end (step_at (who_of ground p) place value)) (next_place (who_of ground p) place value)
+    Follows ground theirs other side (told_by (step_at (who_of ground p) place value)) (end_after end (step_at (who_of ground p) place value)) (next_place (who_of ground p) place value)
 rows_at ground p memory standings theirs other side end Closed value is p2 alone known state stands si opened met = let f : false ≡ true = opened in absurd (cc)
 rows_at ground p memory standings theirs other side end (AtState handshake) value is p2 alone known state stands si opened met =
-    subst (λ h. Follows ground theirs other side (told_by (step_at (who_of ground p) (AtState h) value)) (end_behind end (step_at (who_of ground p) (AtState h) value)) (next_place (who_of ground p) (AtState h) value)) (sym stands.at.0)
+    subst (λ h. Follows ground theirs other side (told_by (step_at (who_of ground p) (AtState h) value)) (end_after end (step_at (who_of ground p) (AtState h) value)) (next_place (who_of ground p) (AtState h) value)) (sym stands.at.0)
     (saw ground theirs other side end (AtState handshake) (who_of ground p) value (move_of end.handshake value) si (met ∙ sym state) (moves_set end value) (moves_clear end value))
 rows_at ground p memory standings theirs other side end (Clearing at more n) value is p2 alone known state stands si opened met = let x = clear_on end (at + 1) more n side (length end.delivered) si.seen in silent ground theirs other side end _ (Clearing at more n) (clear_place (at + 1) more n) si refl refl refl refl refl x.0 x.1
 rows_at ground p memory standings theirs other side end (Setting n) value is p2 alone known state stands si opened met = wrote_state ground theirs other side end (Setting n) n si si.seen
@@ -82,7 +82,7 @@ rows_at ground p memory standings theirs other side end Downed value is p2 alone
 )
 rows_at ground p memory standings theirs other side end (AtUsedIndex job freed) value is p2 alone known state stands si opened met = used_index_rows ground p memory memory standings theirs other side end job freed value is p2 alone known stands si met (calls_lem.steps ground p memory memory end (AtUsedIndex job freed) value (standings p) is p2 alone stands refl met refl)
 rows_at ground p memory standings theirs other side end (AtUsedId job freed more) value is p2 alone known state stands si opened met = used_id_rows ground p memory memory standings theirs other side end job freed more value is p2 alone known stands si (calls_lem.steps ground p memory memory end (AtUsedId job freed more) value (standings p) is p2 alone stands refl met refl)
-rows_at ground p memory standings theirs other side end (Filling job at more) value is p2 alone known state stands si opened met = let x = fill_on end job (at + 1) more side (length end.delivered) in let y = fill_on (end_behind end (step_at (who_of ground p) (Filling job at more) value)) job (at + 1) more side (length end.delivered) in silent ground theirs other side end _ (Filling job at more) (fill_place job (at + 1) more) si refl refl refl refl refl y.0 x.1
+rows_at ground p memory standings theirs other side end (Filling job at more) value is p2 alone known state stands si opened met = let x = fill_on end job (at + 1) more side (length end.delivered) in let y = fill_on (end_after end (step_at (who_of ground p) (Filling job at more) value)) job (at + 1) more side (length end.delivered) in silent ground theirs other side end _ (Filling job at more) (fill_place job (at + 1) more) si refl refl refl refl refl y.0 x.1
 rows_at ground p memory standings theirs other side end (WritingLow job) value is p2 alone known state stands si opened met = silent ground theirs other side end _ (WritingLow job) (WritingHigh job) si refl refl refl refl refl tt tt
 rows_at ground p memory standings theirs other side end (WritingHigh job) value is p2 alone known state stands si opened met = silent ground theirs other side end _ (WritingHigh job) (WritingLength job) si refl refl refl refl refl tt tt
 rows_at ground p memory standings theirs other side end (WritingLength job) value is p2 alone known state stands si opened met = silent ground theirs other side end _ (WritingLength job) (WritingFlags job) si refl refl refl refl refl tt tt
@@ -126,7 +126,7 @@ honest_ones honest p p2 mine theirs = dite (ℕ_discrete p 0)
 step_follows : (ground : Ground) (honest : ℕ → Bool) (memory : ℕ → ℕ) (ends : ℕ → End) (places : ℕ → Place) (standings : ℕ → Standing) (p value : ℕ) (side other : Side) → IsGround ground → p < 2 → honest p ≡ true →
     BothStand ground honest memory ends places standings → SideIs (ends p) (places p) side → other.state ≡ memory (1 - p) → (honest (1 - p) ≡ true → SideIs (ends (1 - p)) (places (1 - p)) other) →
     is_open (places p) ≡ true → Meets memory (access_at (who_of ground p) (places p)) value →
-    Follows ground (honest (1 - p)) other side (told_by (step_at (who_of ground p) (places p) value)) (end_behind (ends p) (step_at (who_of ground p) (places p) value)) (next_place (who_of ground p) (places p) value)
+    Follows ground (honest (1 - p)) other side (told_by (step_at (who_of ground p) (places p) value)) (end_after (ends p) (step_at (who_of ground p) (places p) value)) (next_place (who_of ground p) (places p) value)
 step_follows ground honest memory ends places standings p value side other is p2 hp both si state theirs opened met = let o2 : 1 - p < 2 = omega arith in
     rows_at ground p memory standings (honest (1 - p)) other side (ends p) (places p) value is p2 (both.whole.alone p p2 hp)
     (λ ho. let hs = honest_ones honest p p2 hp ho in let stands = both.stands (1 - p) o2 ho in let s = theirs ho in record {

@@ -6,10 +6,10 @@ use Rattle.split_ring.specs.Layout.{size_of, word_place, AvailableIndex, UsedInd
 use Rattle.link_handshake.specs.declared.Phase.{Phase}
 use Rattle.link_handshake.specs.declared.Phase.TheVariants.{Reset, Init, Ready, Run}
 use Rattle.link_handshake.specs.PhaseTable.{state_of}
-use Rattle.link_laws.specs.Ends.{End, end_behind, after_reset}
-use Rattle.link_laws.specs.Offers.{Job}
-use Rattle.link_laws.specs.Calls.{Call, Tick, Stop, Offer, Poll, in_run, job_of}
-use Rattle.link_laws.specs.Places.{Place, Closed, AtState, Clearing, Setting, Refusing, Downed, AtUsedIndex, AtUsedId, Filling, WritingLow, WritingHigh, WritingLength, WritingFlags, WritingEntry, WritingIndex, RingingOffer, AtAvailIndex, AtEntry, AtLow, AtHigh, AtLength, AtFlags, AtWord, GivingId, GivingLength, GivingIndex, RingingPoll, first_place, access_at, next_place, step_at, is_open}
+use Rattle.call_grammar.specs.Ends.{End, end_after, after_reset}
+use Rattle.call_grammar.specs.Offers.{Job}
+use Rattle.call_grammar.specs.Calls.{Call, Tick, Stop, Offer, Poll, in_run, job_of}
+use Rattle.call_grammar.specs.Places.{Place, Closed, AtState, Clearing, Setting, Refusing, Downed, AtUsedIndex, AtUsedId, Filling, WritingLow, WritingHigh, WritingLength, WritingFlags, WritingEntry, WritingIndex, RingingOffer, AtAvailIndex, AtEntry, AtLow, AtHigh, AtLength, AtFlags, AtWord, GivingId, GivingLength, GivingIndex, RingingPoll, first_place, access_at, next_place, step_at, is_open}
 use Rattle.link_pair.specs.Layout.{Stored}
 use Rattle.link_pair.specs.Layout as field
 use Rattle.link_pair.specs.Standing as pair
@@ -34,7 +34,7 @@ quiet ground p memory after end s place made stands mark left closed = (s, inr (
 
 steps_lem : (ground : Ground) (p : ℕ) (memory after : ℕ → ℕ) (end : End) (place : Place) (value : ℕ) (s : Standing) → IsGround ground → p < 2 → Alone (layout_of ground) memory p s →
     StandsAs ground p memory end place s → is_open place ≡ true → Meets memory (access_at (who_of ground p) place) value → Leaves p memory (access_at (who_of ground p) place) after →
-    (t : Standing) × ComesTo ground p memory after s t × StandsAs ground p after (end_behind end (step_at (who_of ground p) place value)) (next_place (who_of ground p) place value) t
+    (t : Standing) × ComesTo ground p memory after s t × StandsAs ground p after (end_after end (step_at (who_of ground p) place value)) (next_place (who_of ground p) place value) t
 steps_lem ground p memory after end Closed value s is p2 alone stands opened met left = let f : false ≡ true = opened in absurd (cc)
 steps_lem ground p memory after end (AtState handshake) value s is p2 alone stands opened met left = read_comes ground p memory after _ s _ left (at_state ground p memory end s handshake value alone stands met)
 steps_lem ground p memory after end (Clearing at more state) value s is p2 alone stands opened met left = clearing ground p memory after end s at more state value stands left

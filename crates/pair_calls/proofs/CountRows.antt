@@ -4,12 +4,12 @@ use Rattle.std.specs.Prelude.{◌==◌, if◌then◌else◌, Option, map}
 use Rattle.std.proofs.lemmas.Bool.Decides.{nat_tests}
 use Rattle.split_ring.specs.declared.ranges.FieldName.{FieldName}
 use Rattle.split_ring.specs.Layout.{limit_of}
-use Rattle.link_laws.specs.Steps.{Mark, Reclaim, Full}
-use Rattle.link_laws.specs.Ends.{End, noted_all}
-use Rattle.link_laws.specs.Words.{words_for}
-use Rattle.link_laws.specs.Offers.{Job, refusal}
-use Rattle.link_laws.specs.Places.{Place, Closed, Refusing, fill_place, ids_place}
-use Rattle.link_laws.specs.LinkMachine.{Side, Marked, MayReclaim, IsBeyond}
+use Rattle.call_grammar.specs.Steps.{Mark, Reclaim, Full}
+use Rattle.call_grammar.specs.Ends.{End, noted_all}
+use Rattle.call_grammar.specs.Words.{words_for}
+use Rattle.call_grammar.specs.Offers.{Job, refusal}
+use Rattle.call_grammar.specs.Places.{Place, Closed, Refusing, fill_place, ids_place}
+use Rattle.link_machine.specs.LinkMachine.{Side, Marked, MayReclaim, IsBeyond}
 use Rattle.link_pair.specs.Layout.{at}
 use Rattle.link_pair.specs.Standing as pair
 use Rattle.link_pair.specs.Standing.{WordFrame, word_frame, Standing, accepted_count, delivered_count, distance, frame_at}

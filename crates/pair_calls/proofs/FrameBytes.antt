@@ -3,7 +3,7 @@ use Rattle.std.proofs.Common.{◌≡◌, ℕ, suc, ◌+◌, ◌*◌, ◌/◌, �
 use Rattle.std.proofs.lemmas.List.Elements.{All-head, All-tail}
 use Rattle.ivs_base.specs.Numbers.{word_of}
 use Rattle.split_ring.specs.Spelling.{byte_at, bytes_from}
-use Rattle.link_laws.specs.Words.{words_for, frame_word}
+use Rattle.call_grammar.specs.Words.{words_for, frame_word}
 
 abbrev IsByte : ℕ → Type 0
 IsByte byte = byte < 256

@@ -3,7 +3,7 @@ use Rattle.std.proofs.Common.{◌≡◌, ℕ, zero, suc, ◌+◌, ◌*◌, ◌/�
 use Rattle.std.specs.Prelude.{flat_map}
 use Rattle.std.proofs.lemmas.List.Elements.{All-head, All-tail}
 use Rattle.ivs_base.specs.Numbers.{word_of}
-use Rattle.link_laws.specs.Words.{word_bytes, words_for, frame_word}
+use Rattle.call_grammar.specs.Words.{word_bytes, words_for, frame_word}
 use Rattle.pair_calls.specs.Ground.{first_words}
 use Rattle.pair_calls.specs.Both.{FramesComeWhole}
 

@@ -6,7 +6,7 @@ use Rattle.std.specs.Prelude.{◌==◌, if◌then◌else◌}
 use Rattle.std.proofs.Math.Nat.{mul_assoc}
 use Rattle.split_ring.specs.Layout.{HasBounds, size_of, limit_of, slot_of, place_of, word_place, Address, Length, Flags, AvailableIndex, Entry, UsedIndex, Id, Amount, Slot}
 use Rattle.split_ring.proofs.Bounds.{bounds}
-use Rattle.link_laws.proofs.OfferLists.{yes, no}
+use Rattle.call_grammar.proofs.OfferLists.{yes, no}
 use Rattle.link_pair.specs.Layout.{Layout, Field, is_field, at, IsLayout, Stored}
 use Rattle.link_pair.specs.Layout as pair
 use Rattle.link_pair.specs.RingLayout.{data_word, part_of, put_in, bound_of}
@@ -79,7 +79,7 @@ field_read ground memory q f x value field place met = at_is (layout_of ground) 
 pub field_put : (ground : Ground) (memory after : ℕ → ℕ) (p : ℕ) (f : Field) (x word n : ℕ) → n < bound_of f → x ≡ section_of ground p + (layout_of ground).word_of f → word ≡ put_in f (memory x) n → Stored memory after x word → Changes (layout_of ground) p memory (Puts f n) after
 field_put ground memory after p f x word n fits place put stored = (fits, subst (λ (k : ℕ). Stored memory after k (put_in f (memory k) n)) place (subst (λ (w : ℕ). Stored memory after x w) put stored))
 
--- the words that an end wrote last, behind one more write
+-- the words that an end wrote last, after one more write
 pub written_kept : (memory after : ℕ → ℕ) (own x v words : ℕ) (written : ℕ → ℕ) → Stored memory after x v → ((j : ℕ) → j < words → memory (own + j) ≡ written (own + j)) →
     (j : ℕ) → j < words → after (own + j) ≡ (if own + j == x then v else written (own + j))
 written_kept memory after own x v words written stored same j lt = dite (ℕ_discrete (own + j) x)

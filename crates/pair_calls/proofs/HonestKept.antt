@@ -4,12 +4,12 @@ use mathlib.Core.Logic.{dite}
 use native.Mathlib.Decide.{ℕ_discrete}
 use Rattle.std.specs.Prelude.{◌==◌, if◌then◌else◌}
 use Rattle.split_ring.specs.Layout.{Sizes}
-use Rattle.link_laws.specs.Ends.{End, fresh, after_reset}
-use Rattle.link_laws.specs.Places.{Place, Closed, first_place, step_at}
-use Rattle.link_laws.specs.LinkMachine.{Side, fresh_side, Told, WasReset, Row, Log, no_sessions, log_behind, MachineRuns, DeliversInOrder}
-use Rattle.link_laws.specs.LinkMachine as machine
-use Rattle.link_laws.proofs.OfferLists.{yes, no}
-use Rattle.link_laws.proofs.MachineLaws.{machine as machine_lem}
+use Rattle.call_grammar.specs.Ends.{End, fresh, after_reset}
+use Rattle.call_grammar.specs.Places.{Place, Closed, first_place, step_at}
+use Rattle.link_machine.specs.LinkMachine.{Side, fresh_side, Told, WasReset, Row, Log, no_sessions, log_after, MachineRuns, DeliversInOrder}
+use Rattle.link_machine.specs.LinkMachine as machine
+use Rattle.call_grammar.proofs.OfferLists.{yes, no}
+use Rattle.link_machine.proofs.MachineLaws.{machine as machine_lem}
 use Rattle.pair_calls.specs.Ground.{Ground, IsGround, who_of}
 use Rattle.pair_calls.specs.Both.{Holds, OnlyComes}
 use Rattle.pair_calls.specs.Sides.{told_by, RowsAlong, SideIs}
@@ -42,7 +42,7 @@ changed_beside f p q x ne = no (q == p) x (f q) (ne_eqb q p ne)
 -- a row of p goes on with the run
 row_runs : (sizes : Sizes) (sides : ℕ → Side) (logs : ℕ → Log) (p : ℕ) (told : Told) (new : Side) → p < 2 → MachineRuns sizes (λ p. true) sides logs → Row sizes true true (sides p) (sides (1 - p)) told new →
     (sides' : ℕ → Side) × (logs' : ℕ → Log) × MachineRuns sizes (λ p. true) sides' logs' × (sides' p ≡ new) × ((q : ℕ) → q ≢ p → sides' q ≡ sides q)
-row_runs sizes sides logs p told new p2 runs row = let l = log_behind (logs p) (logs (1 - p)) (sides p) told in let ne : 1 - p ≢ p = λ e. omega arith in (
+row_runs sizes sides logs p told new p2 runs row = let l = log_after (logs p) (logs (1 - p)) (sides p) told in let ne : 1 - p ≢ p = λ e. omega arith in (
   changed sides p new,
   changed logs p l,
   machine.goes sides (changed sides p new) logs (changed logs p l) p told runs p2 (subst (λ (x : Side). Row sizes true true (sides p) (sides (1 - p)) told x) (sym (changed_here sides p new)) row)
@@ -61,7 +61,7 @@ along_runs sizes (told ∷ tolds) sides logs p new p2 runs along = let r = row_r
 side_like : (end end' : End) (place place' : Place) (side side' : Side) → end' ≡ end → place' ≡ place → side' ≡ side → SideIs end place side → SideIs end' place' side'
 side_like end end' place place' side side' e f g h = subst (λ (x : End). SideIs x place' side') (sym e) (subst (λ (x : Place). SideIs end x side') (sym f) (subst (λ (x : Side). SideIs end place x) (sym g) h))
 
--- the sides behind a step of p
+-- the sides after a step of p
 moved : (ground : Ground) (ends after_ends : ℕ → End) (places after_places : ℕ → Place) (p : ℕ) (end : End) (place : Place) (tolds : List Told) (new : Side) → p < 2 → (r : Runs ground ends places) → RowsAlong ground.sizes true (r.sides (1 - p)) (r.sides p) tolds new → SideIs end place new →
     OnlyComes ends after_ends places after_places p end place → Runs ground after_ends after_places
 moved ground ends after_ends places after_places p end place tolds new p2 r along is only = let x = along_runs ground.sizes tolds r.sides r.logs p new p2 r.runs along in record {

@@ -3,10 +3,10 @@ use Rattle.std.proofs.Common.{◌≡◌, ◌≢◌, ℕ, ◌+◌, ◌-◌, ◌<�
 use mathlib.Core.Logic.{dite}
 use native.Mathlib.Decide.{ℕ_discrete}
 use Rattle.std.specs.Prelude.{map, ◌==◌, if◌then◌else◌}
-use Rattle.link_laws.proofs.OfferLists.{yes, no}
-use Rattle.link_laws.specs.Ends.{End, fresh, after_reset, end_behind}
-use Rattle.link_laws.specs.Calls.{Call}
-use Rattle.link_laws.specs.Places.{Place, Closed, Refusing, first_place, access_at, next_place, step_at, is_open}
+use Rattle.call_grammar.proofs.OfferLists.{yes, no}
+use Rattle.call_grammar.specs.Ends.{End, fresh, after_reset, end_after}
+use Rattle.call_grammar.specs.Calls.{Call}
+use Rattle.call_grammar.specs.Places.{Place, Closed, Refusing, first_place, access_at, next_place, step_at, is_open}
 use Rattle.link_pair.specs.Layout.{Stored}
 use Rattle.link_pair.specs.Standing.{WordFrame, Standing, fresh_standing, having_stopped}
 use Rattle.link_pair.specs.Moves.{TakesTurn, States}
@@ -42,7 +42,7 @@ untouched ground p q memory after s t is p2 q2 ne (inl h) = let lay = is_layout 
       (λ nz. let one : p ≡ 1 = omega arith in let z : q ≡ 0 = omega arith in lay.apart j i lt low (ap (λ k. section_of ground k + j) (sym z) ∙ (e ∙ ap (λ k. section_of ground k + i) one))));
 }
 
--- the two ends behind a move of p to t
+-- the two ends after a move of p to t
 moved : (ground : Ground) (honest : ℕ → Bool) (memory after : ℕ → ℕ) (ends after_ends : ℕ → End) (places after_places : ℕ → Place) (standings : ℕ → Standing) (p : ℕ) (t : Standing) (end : End) (place : Place) → IsGround ground → p < 2 → honest p ≡ true →
     ComesTo ground p memory after (standings p) t → StandsAs ground p after end place t → OnlyComes ends after_ends places after_places p end place → BothStand ground honest memory ends places standings → Holds ground honest after after_ends after_places
 moved ground honest memory after ends after_ends places after_places standings p t end place is p2 hp comes stands only both = by_kind comes
@@ -98,7 +98,7 @@ begins_lem ground honest memory ends after_ends places after_places p call is p2
 
 steps_lem : (ground : Ground) (honest : ℕ → Bool) (memory after : ℕ → ℕ) (ends after_ends : ℕ → End) (places after_places : ℕ → Place) (p value : ℕ) → IsGround ground → p < 2 → honest p ≡ true →
     is_open (places p) ≡ true → Meets memory (access_at (who_of ground p) (places p)) value → Leaves p memory (access_at (who_of ground p) (places p)) after →
-    OnlyComes ends after_ends places after_places p (end_behind (ends p) (step_at (who_of ground p) (places p) value)) (next_place (who_of ground p) (places p) value) → Holds ground honest memory ends places → Holds ground honest after after_ends after_places
+    OnlyComes ends after_ends places after_places p (end_after (ends p) (step_at (who_of ground p) (places p) value)) (next_place (who_of ground p) (places p) value) → Holds ground honest memory ends places → Holds ground honest after after_ends after_places
 steps_lem ground honest memory after ends after_ends places after_places p value is p2 hp opened met left only held = let standings = held.0 in let both = held.1 in
     let r = calls_lem.steps ground p memory after (ends p) (places p) value (standings p) is p2 (both.whole.alone p p2 hp) (both.stands p p2 hp) opened met left in
     moved ground honest memory after ends after_ends places after_places standings p r.0 _ _ is p2 hp r.1 r.2 only both

@@ -6,12 +6,12 @@ use Rattle.link_handshake.specs.declared.Phase.TheVariants.{Reset, Init, Ready, 
 use Rattle.link_handshake.specs.declared.Move.{Move}
 use Rattle.link_handshake.specs.declared.Move.TheVariants.{Stay, Set, ClearThenSet}
 use Rattle.link_handshake.specs.PhaseTable.{phase_at, state_of}
-use Rattle.link_laws.specs.Steps.{Over}
-use Rattle.link_laws.specs.Ends.{End, with_state, noted_all}
-use Rattle.link_laws.specs.Rows.{MovesTo}
-use Rattle.link_laws.specs.Ticks.{Who, tick_marks}
-use Rattle.link_laws.specs.Places.{Place, Closed, clear_place, tick_place}
-use Rattle.link_laws.specs.LinkMachine.{Side, Told, Wrote, Marked, side_with}
+use Rattle.call_grammar.specs.Steps.{Over}
+use Rattle.call_grammar.specs.Ends.{End, with_state, noted_all}
+use Rattle.call_grammar.specs.Rows.{MovesTo}
+use Rattle.call_grammar.specs.Ticks.{Who, tick_marks}
+use Rattle.call_grammar.specs.Places.{Place, Closed, clear_place, tick_place}
+use Rattle.link_machine.specs.LinkMachine.{Side, Told, Wrote, Marked, side_with}
 use Rattle.pair_calls.specs.Ground.{Ground}
 use Rattle.pair_calls.specs.Sides.{RowsAlong, SeenIs, LookedIs, SideIs}
 

@@ -8,12 +8,12 @@ use Rattle.std.proofs.lemmas.Nat.{mod_below}
 use Rattle.split_ring.specs.declared.ranges.FieldName.TheVariants as field_name
 use Rattle.split_ring.specs.Layout.{size_of, limit_of, word_place, UsedIndex, Id}
 use Rattle.split_ring.specs.Spelling.{high_half}
-use Rattle.link_laws.specs.Steps.{Mark, Reclaim, Full}
-use Rattle.link_laws.specs.Ends.{End, noted_all, end_behind}
-use Rattle.link_laws.specs.Words.{words_for, frame_word}
-use Rattle.link_laws.specs.Offers.{Job, refusal, full_marks, returned_by, reclaim_marks}
-use Rattle.link_laws.proofs.OfferLists.{yes, no}
-use Rattle.link_laws.specs.Places.{Place, Closed, Refusing, AtUsedIndex, AtUsedId, fill_place, ids_place, next_place, step_at}
+use Rattle.call_grammar.specs.Steps.{Mark, Reclaim, Full}
+use Rattle.call_grammar.specs.Ends.{End, noted_all, end_after}
+use Rattle.call_grammar.specs.Words.{words_for, frame_word}
+use Rattle.call_grammar.specs.Offers.{Job, refusal, full_marks, returned_by, reclaim_marks}
+use Rattle.call_grammar.proofs.OfferLists.{yes, no}
+use Rattle.call_grammar.specs.Places.{Place, Closed, Refusing, AtUsedIndex, AtUsedId, fill_place, ids_place, next_place, step_at}
 use Rattle.link_pair.specs.Layout.{Field, at, Stored}
 use Rattle.link_pair.specs.Layout as field
 use Rattle.link_pair.specs.Standing as pair
@@ -36,7 +36,7 @@ words_length frame (suc count) = let e = words_length frame count in omega (arit
 pub one_more : (frame : List ℕ) (count : ℕ) → first_words frame (count + 1) ≡ first_words frame count ++ frame_word frame count ∷ []
 one_more frame count = let e : count + 1 ≡ suc count = omega arith in ap (first_words frame) e
 
--- The place of an offer behind its ids
+-- The place of an offer after its ids
 
 abbrev IdsAt : Ground → ℕ → (ℕ → ℕ) → End → Standing → ℕ → Place → Type 0
 IdsAt ground p memory end t count place = PlaceIs ground p memory end t place × MarkIs place t.refused end.handshake.mark × (ids_left place ≡ count)
@@ -67,7 +67,7 @@ freed_by end (suc count) full quiet = ap (noted_all end) (no (suc count == 0) (R
 -- The used index and the ids
 
 pub used_index : (ground : Ground) (p : ℕ) (memory : ℕ → ℕ) (end : End) (s : Standing) (job : Job) (freed value : ℕ) → IsGround ground → Alone (layout_of ground) memory p s → StandsAs ground p memory end (AtUsedIndex job freed) s → value ≡ memory (section_of ground (1 - p) + word_place ground.sizes UsedIndex) →
-    ReadsTo ground p memory (end_behind end (step_at (who_of ground p) (AtUsedIndex job freed) value)) s (next_place (who_of ground p) (AtUsedIndex job freed) value)
+    ReadsTo ground p memory (end_after end (step_at (who_of ground p) (AtUsedIndex job freed) value)) s (next_place (who_of ground p) (AtUsedIndex job freed) value)
 used_index ground p memory end s job freed value is alone stands met = let h = stands.at in let d = returned_by freed value in let run = h.1.0.run in let number = h.1.0.number in
     let index : at (layout_of ground) memory (1 - p) field.UsedIndex ≡ high_half value = field_read ground memory (1 - p) field.UsedIndex (section_of ground (1 - p) + word_place ground.sizes UsedIndex) value refl (ap (λ w. section_of ground (1 - p) + w) (used_place ground)) met in
     let far : d ≡ distance s.freed (at (layout_of ground) memory (1 - p) field.UsedIndex) = ap (λ t. (high_half value + 65536 - t % 65536) % 65536) h.2 ∙ ap (distance s.freed) (sym index) in
@@ -93,7 +93,7 @@ used_index ground p memory end s job freed value is alone stands met = let h = s
     (λ test. let beyond : job.number - freed < d = grind (arith, nat_tests) in (at_place s pair.Refusing, move.refuse_used_index run h.0 (subst (λ k. accepted_count s - s.freed < k) far (omega arith)), stands_refused ground p memory end s (AtUsedIndex job freed) stands run))
 
 pub used_id : (ground : Ground) (p : ℕ) (memory : ℕ → ℕ) (end : End) (s : Standing) (job : Job) (freed more value : ℕ) → IsGround ground → Alone (layout_of ground) memory p s → StandsAs ground p memory end (AtUsedId job freed more) s → value ≡ memory (section_of ground (1 - p) + word_place ground.sizes (Id (freed % size_of ground.sizes))) →
-    ReadsTo ground p memory (end_behind end (step_at (who_of ground p) (AtUsedId job freed more) value)) s (next_place (who_of ground p) (AtUsedId job freed more) value)
+    ReadsTo ground p memory (end_after end (step_at (who_of ground p) (AtUsedId job freed more) value)) s (next_place (who_of ground p) (AtUsedId job freed more) value)
 used_id ground p memory end s job freed more value is alone stands met = let h = stands.at in let n = size_of ground.sizes in let c = limit_of ground.sizes in let run = h.1.0.run in let least = (numbers ground is).size_least in
     let same : freed % n ≡ s.freed % n = ap (λ t. t % n) h.2 in let expected : freed % c ≡ s.freed % c = ap (λ t. t % c) h.2 in
     let read : at (layout_of ground) memory (1 - p) (field.UsedId (s.freed % n)) ≡ value = field_read ground memory (1 - p) (field.UsedId (s.freed % n)) (section_of ground (1 - p) + word_place ground.sizes (Id (freed % n))) value (one_test _ _ (mod_below s.freed n (omega arith)))
@@ -124,7 +124,7 @@ used_id ground p memory end s job freed more value is alone stands met = let h =
 
 -- The writes
 
--- words apart in a section of a queue of n, whose slots stand behind the rings
+-- words apart in a section of a queue of n, whose slots stand after the rings
 pub descriptor_apart : (own n i k : ℕ) → i < n → k ≤ 3 → (own + (4 * i + k) ≢ own + (16 * n + 2) / 4) × (own + (4 * i + k) ≢ own + ((18 * n + 6 + 63) / 64 * 64 + 2) / 4)
 descriptor_apart own n i k lt few = ((λ e. omega arith), (λ e. omega arith))
 
@@ -140,6 +140,6 @@ slot_entry own n d j lt low e = omega arith
 pub entry_apart : (own n j : ℕ) → j < n → (own + (16 * n + 4 + 2 * j) / 4 ≢ own + (16 * n + 2) / 4) × (own + (16 * n + 4 + 2 * j) / 4 ≢ own + ((18 * n + 6 + 63) / 64 * 64 + 2) / 4)
 entry_apart own n j lt = ((λ e. omega arith), (λ e. omega arith))
 
--- the job behind a write of another word than the entry's
+-- the job after a write of another word than the entry's
 pub job_kept : (ground : Ground) (p : ℕ) (memory after : ℕ → ℕ) (s t : Standing) (job : Job) (x v : ℕ) → Stored memory after x v → entry_word ground p job.number ≢ x → t.accepted ≡ s.accepted → t.phase ≡ s.phase → IsJobFrom ground p memory s job → IsJobFrom ground p after t job
 job_kept ground p memory after s t job x v stored apart same phase from = (record { frame = from.0.frame; number = from.0.number ∙ sym (ap length same); run = phase ∙ from.0.run }, from.1 ∙ sym (stored.beside _ apart))

@@ -6,14 +6,14 @@ use Rattle.std.proofs.lemmas.Option.{slice_get-get_or}
 use Rattle.split_ring.specs.declared.ranges.FieldName.TheVariants as field_name
 use Rattle.split_ring.specs.Layout.{size_of, limit_of, word_place, AvailableIndex, UsedIndex}
 use Rattle.split_ring.specs.Spelling.{high_half}
-use Rattle.link_laws.specs.Steps.{Full, Look, Deliver, Done}
-use Rattle.link_laws.specs.Ends.{End, noted_all, end_behind}
-use Rattle.link_laws.specs.Words.{words_for, frame_in}
-use Rattle.link_laws.specs.Offers.{Job, full_marks, returned_by, reclaim_marks}
-use Rattle.link_laws.specs.Polls.{published_by, look_marks}
-use Rattle.link_laws.specs.Places.{Place, Closed, AtUsedIndex, AtUsedId, WritingIndex, RingingOffer, AtAvailIndex, AtWord, GivingIndex, ids_place, items_place, words_place, next_place, step_at}
-use Rattle.link_laws.specs.LinkMachine.{Side, Marked, MayReclaim, MayLook, MayDeliver}
-use Rattle.link_laws.proofs.Bounding.{frame_length}
+use Rattle.call_grammar.specs.Steps.{Full, Look, Deliver, Done}
+use Rattle.call_grammar.specs.Ends.{End, noted_all, end_after}
+use Rattle.call_grammar.specs.Words.{words_for, frame_in}
+use Rattle.call_grammar.specs.Offers.{Job, full_marks, returned_by, reclaim_marks}
+use Rattle.call_grammar.specs.Polls.{published_by, look_marks}
+use Rattle.call_grammar.specs.Places.{Place, Closed, AtUsedIndex, AtUsedId, WritingIndex, RingingOffer, AtAvailIndex, AtWord, GivingIndex, ids_place, items_place, words_place, next_place, step_at}
+use Rattle.link_machine.specs.LinkMachine.{Side, Marked, MayReclaim, MayLook, MayDeliver}
+use Rattle.call_grammar.proofs.Bounding.{frame_length}
 use Rattle.link_pair.specs.Layout.{at}
 use Rattle.link_pair.specs.Layout as field
 use Rattle.link_pair.specs.Standing as pair
@@ -53,7 +53,7 @@ done_is ground p memory end place s stands = ap length stands.delivered ∙ map_
 
 pub used_index_rows : (ground : Ground) (p : ℕ) (memory after : ℕ → ℕ) (standings : ℕ → Standing) (theirs : Bool) (other side : Side) (end : End) (job : Job) (freed value : ℕ) → IsGround ground → p < 2 → Alone (layout_of ground) memory p (standings p) → (theirs ≡ true → Other ground memory standings p other) →
     StandsAs ground p memory end (AtUsedIndex job freed) (standings p) → SideIs end (AtUsedIndex job freed) side → value ≡ memory (section_of ground (1 - p) + word_place ground.sizes UsedIndex) → StepsTo ground p memory after end (AtUsedIndex job freed) value (standings p) →
-    Follows ground theirs other side (map Marked (step_at (who_of ground p) (AtUsedIndex job freed) value).marks) (end_behind end (step_at (who_of ground p) (AtUsedIndex job freed) value)) (next_place (who_of ground p) (AtUsedIndex job freed) value)
+    Follows ground theirs other side (map Marked (step_at (who_of ground p) (AtUsedIndex job freed) value).marks) (end_after end (step_at (who_of ground p) (AtUsedIndex job freed) value)) (next_place (who_of ground p) (AtUsedIndex job freed) value)
 used_index_rows ground p memory after standings theirs other side end job freed value is p2 alone known stands si met r = let s = standings p in let h = stands.at in let d = returned_by freed value in let run = h.1.0.run in let number = h.1.0.number in
     let state = run_state ground p memory end (AtUsedIndex job freed) s side stands si run in let count = count_is ground p memory end (AtUsedIndex job freed) s side stands si in
     let freed_is : s.freed + 0 ≡ end.freed = stands.freed (omega arith) (run_mark ground p memory end s (AtUsedIndex job freed) alone run stands.mark) in
@@ -81,7 +81,7 @@ id_marks ground theirs other side end place next more number freed false c none_
 
 pub used_id_rows : (ground : Ground) (p : ℕ) (memory after : ℕ → ℕ) (standings : ℕ → Standing) (theirs : Bool) (other side : Side) (end : End) (job : Job) (freed more value : ℕ) → IsGround ground → p < 2 → Alone (layout_of ground) memory p (standings p) → (theirs ≡ true → Other ground memory standings p other) →
     StandsAs ground p memory end (AtUsedId job freed more) (standings p) → SideIs end (AtUsedId job freed more) side → StepsTo ground p memory after end (AtUsedId job freed more) value (standings p) →
-    Follows ground theirs other side (map Marked (step_at (who_of ground p) (AtUsedId job freed more) value).marks) (end_behind end (step_at (who_of ground p) (AtUsedId job freed more) value)) (next_place (who_of ground p) (AtUsedId job freed more) value)
+    Follows ground theirs other side (map Marked (step_at (who_of ground p) (AtUsedId job freed more) value).marks) (end_after end (step_at (who_of ground p) (AtUsedId job freed more) value)) (next_place (who_of ground p) (AtUsedId job freed more) value)
 used_id_rows ground p memory after standings theirs other side end job freed more value is p2 alone known stands si r = let s = standings p in let h = stands.at in let run = h.1.0.run in let number = h.1.0.number in
     let state = run_state ground p memory end (AtUsedId job freed more) s side stands si run in let count = count_is ground p memory end (AtUsedId job freed more) s side stands si in
     let freed_is : s.freed + suc more ≡ end.freed = stands.freed (omega arith) (run_mark ground p memory end s (AtUsedId job freed more) alone run stands.mark) in let x = ids_seen ground p end job (freed + 1) more side.seen (length end.delivered) side.looked in
@@ -93,7 +93,7 @@ used_id_rows ground p memory after standings theirs other side end job freed mor
 -- The publication
 
 pub accept_rows : (ground : Ground) (p : ℕ) (memory : ℕ → ℕ) (s : Standing) (theirs : Bool) (other side : Side) (end : End) (job : Job) (value : ℕ) → Alone (layout_of ground) memory p s → StandsAs ground p memory end (WritingIndex job) s → SideIs end (WritingIndex job) side →
-    Follows ground theirs other side (map Marked (step_at (who_of ground p) (WritingIndex job) value).marks) (end_behind end (step_at (who_of ground p) (WritingIndex job) value)) RingingOffer
+    Follows ground theirs other side (map Marked (step_at (who_of ground p) (WritingIndex job) value).marks) (end_after end (step_at (who_of ground p) (WritingIndex job) value)) RingingOffer
 accept_rows ground p memory s theirs other side end job value alone stands si = let h = stands.at in let run = h.1.run in let state = run_state ground p memory end (WritingIndex job) s side stands si run in let count = count_is ground p memory end (WritingIndex job) s side stands si in
     let freed_is : s.freed + 0 ≡ end.freed = stands.freed (omega arith) (run_mark ground p memory end s (WritingIndex job) alone run stands.mark) in let room = (within_at (pair.AfterEntry (first_words job.frame (words_for (length job.frame))) (length job.frame)) h.0 alone).0 in
     let new = record side { accepted = side.accepted ++ job.frame ∷ [] } in
@@ -117,7 +117,7 @@ look_rows ground theirs other side end place taken count false test si run may =
 
 pub avail_index_rows : (ground : Ground) (p : ℕ) (memory after : ℕ → ℕ) (standings : ℕ → Standing) (theirs : Bool) (other side : Side) (end : End) (taken value : ℕ) → IsGround ground → p < 2 → (theirs ≡ true → Other ground memory standings p other) →
     StandsAs ground p memory end (AtAvailIndex taken) (standings p) → SideIs end (AtAvailIndex taken) side → value ≡ memory (section_of ground (1 - p) + word_place ground.sizes AvailableIndex) → StepsTo ground p memory after end (AtAvailIndex taken) value (standings p) →
-    Follows ground theirs other side (map Marked (step_at (who_of ground p) (AtAvailIndex taken) value).marks) (end_behind end (step_at (who_of ground p) (AtAvailIndex taken) value)) (next_place (who_of ground p) (AtAvailIndex taken) value)
+    Follows ground theirs other side (map Marked (step_at (who_of ground p) (AtAvailIndex taken) value).marks) (end_after end (step_at (who_of ground p) (AtAvailIndex taken) value)) (next_place (who_of ground p) (AtAvailIndex taken) value)
 avail_index_rows ground p memory after standings theirs other side end taken value is p2 known stands si met r = let s = standings p in let h = stands.at in let d = published_by taken value in
     let state = run_state ground p memory end (AtAvailIndex taken) s side stands si h.1 in let done = done_is ground p memory end (AtAvailIndex taken) s stands in let mine : length side.delivered ≡ delivered_count s = ap length si.delivered ∙ done in
     let index : at (layout_of ground) memory (1 - p) field.AvailIndex ≡ high_half value = field_read ground memory (1 - p) field.AvailIndex (section_of ground (1 - p) + word_place ground.sizes AvailableIndex) value refl (ap (λ w. section_of ground (1 - p) + w) (avail_place ground)) met in
@@ -138,7 +138,7 @@ offered_at ground [] k all lt = absurd (omega arith)
 offered_at ground (frame ∷ frames) zero all lt = frames_lem frame all.0.bytes
 offered_at ground (frame ∷ frames) (suc k) all lt = offered_at ground frames k all.1 (omega arith)
 
--- a frame of a list under a map, whatever stands behind its end
+-- a frame of a list under a map, whatever stands after its end
 mapped_at : (frames : List (List ℕ)) (k : ℕ) → k < length frames → get_or (map offered_frame frames) k (word_frame 0 []) ≡ offered_frame (get_or frames k [])
 mapped_at [] k lt = absurd (omega arith)
 mapped_at (frame ∷ frames) zero lt = refl
@@ -176,13 +176,13 @@ word_rows ground p memory standings theirs other side end number more e a l read
 
 pub deliver_rows : (ground : Ground) (p : ℕ) (memory : ℕ → ℕ) (standings : ℕ → Standing) (theirs : Bool) (other side : Side) (end : End) (number more e a l : ℕ) (read : List ℕ) (words value : ℕ) → IsGround ground → p < 2 → Alone (layout_of ground) memory p (standings p) → (theirs ≡ true → Other ground memory standings p other) →
     StandsAs ground p memory end (AtWord number more e a l read words) (standings p) → SideIs end (AtWord number more e a l read words) side → value ≡ memory (section_of ground (1 - p) + (a / 4 + length read)) →
-    Follows ground theirs other side (map Marked (step_at (who_of ground p) (AtWord number more e a l read words) value).marks) (end_behind end (step_at (who_of ground p) (AtWord number more e a l read words) value)) (next_place (who_of ground p) (AtWord number more e a l read words) value)
+    Follows ground theirs other side (map Marked (step_at (who_of ground p) (AtWord number more e a l read words) value).marks) (end_after end (step_at (who_of ground p) (AtWord number more e a l read words) value)) (next_place (who_of ground p) (AtWord number more e a l read words) value)
 deliver_rows ground p memory standings theirs other side end number more e a l read words value is p2 alone known stands si met = word_rows ground p memory standings theirs other side end number more e a l read words value (words == 0) refl is p2 alone known stands si met
 
 -- The return
 
 pub return_rows : (ground : Ground) (p : ℕ) (memory : ℕ → ℕ) (s : Standing) (theirs : Bool) (other side : Side) (end : End) (number more value : ℕ) → Alone (layout_of ground) memory p s → StandsAs ground p memory end (GivingIndex number more) s → SideIs end (GivingIndex number more) side →
-    Follows ground theirs other side (map Marked (step_at (who_of ground p) (GivingIndex number more) value).marks) (end_behind end (step_at (who_of ground p) (GivingIndex number more) value)) (next_place (who_of ground p) (GivingIndex number more) value)
+    Follows ground theirs other side (map Marked (step_at (who_of ground p) (GivingIndex number more) value).marks) (end_after end (step_at (who_of ground p) (GivingIndex number more) value)) (next_place (who_of ground p) (GivingIndex number more) value)
 return_rows ground p memory s theirs other side end number more value alone stands si = let h = stands.at in let state = run_state ground p memory end (GivingIndex number more) s side stands si h.1 in let flat = level ground p memory s (pair.AtUsedIndex (suc more)) alone h.1 h.0 in
     let mine : length side.delivered ≡ delivered_count s = ap length si.delivered ∙ done_is ground p memory end (GivingIndex number more) s stands in let new = record side { returned = side.returned + 1 } in let x = looked_at (number + 1) more (length end.delivered) side.looked end side.seen si.looked in
     (new, (new, (refl, (state, (let r = si.returned in let q = stands.returned in omega arith), refl)), refl), record { state = si.state; seen = x.0; refused = si.refused; accepted = si.accepted; delivered = si.delivered; returned = ap (λ k. k + 1) si.returned; freed = si.freed; looked = x.1 })

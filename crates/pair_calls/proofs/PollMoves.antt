@@ -7,13 +7,13 @@ use Rattle.split_ring.specs.declared.ranges.FieldName.TheVariants as field_name
 use Rattle.split_ring.specs.Layout.{size_of, word_place, Address, Length, Flags, AvailableIndex, Entry}
 use Rattle.split_ring.specs.Ranges.{IsDescAddress}
 use Rattle.split_ring.specs.Spelling.{low_half, high_half, entry_half}
-use Rattle.link_laws.specs.Steps.{Mark, Look, Done}
-use Rattle.link_laws.specs.Ends.{End, noted_all, end_behind}
-use Rattle.link_laws.specs.Words.{words_for}
-use Rattle.link_laws.specs.Offers.{refusal}
-use Rattle.link_laws.specs.Polls.{is_entry, is_address, is_length, published_by, look_marks}
-use Rattle.link_laws.specs.Places.{Place, Closed, Refusing, AtAvailIndex, AtEntry, AtLow, AtHigh, AtLength, AtFlags, AtWord, items_place, words_place, next_place, step_at}
-use Rattle.link_laws.proofs.PollLists.{entry_tells, address_tells, address_denies, length_tells, length_denies}
+use Rattle.call_grammar.specs.Steps.{Mark, Look, Done}
+use Rattle.call_grammar.specs.Ends.{End, noted_all, end_after}
+use Rattle.call_grammar.specs.Words.{words_for}
+use Rattle.call_grammar.specs.Offers.{refusal}
+use Rattle.call_grammar.specs.Polls.{is_entry, is_address, is_length, published_by, look_marks}
+use Rattle.call_grammar.specs.Places.{Place, Closed, Refusing, AtAvailIndex, AtEntry, AtLow, AtHigh, AtLength, AtFlags, AtWord, items_place, words_place, next_place, step_at}
+use Rattle.call_grammar.proofs.PollLists.{entry_tells, address_tells, address_denies, length_tells, length_denies}
 use Rattle.link_pair.specs.Layout.{Field, is_field, at, Stored}
 use Rattle.link_pair.specs.Layout as field
 use Rattle.link_pair.specs.Standing as pair
@@ -33,7 +33,7 @@ ReadsTo ground p memory end s place = (t : Standing) × MovesIn (layout_of groun
 
 -- what a step of a place comes to
 abbrev pub StepsTo : Ground → ℕ → (memory after : ℕ → ℕ) → End → Place → ℕ → Standing → Type 0
-StepsTo ground p memory after end place value s = (t : Standing) × ComesTo ground p memory after s t × StandsAs ground p after (end_behind end (step_at (who_of ground p) place value)) (next_place (who_of ground p) place value) t
+StepsTo ground p memory after end place value s = (t : Standing) × ComesTo ground p memory after s t × StandsAs ground p after (end_after end (step_at (who_of ground p) place value)) (next_place (who_of ground p) place value) t
 
 pub read_comes : (ground : Ground) (p : ℕ) (memory after : ℕ → ℕ) (end : End) (s : Standing) (place : Place) → after ≡ memory → ReadsTo ground p memory end s place → (t : Standing) × ComesTo ground p memory after s t × StandsAs ground p after end place t
 read_comes ground p memory after end s place made r = (r.0, inl (Nothing, r.1, made), subst (λ (k : ℕ → ℕ). StandsAs ground p k end place r.0) (sym made) r.2)
@@ -69,7 +69,7 @@ more_entries ground p memory end s taken (suc more) is stands read few false zer
 )
 
 pub avail_index : (ground : Ground) (p : ℕ) (memory : ℕ → ℕ) (end : End) (s : Standing) (taken value : ℕ) → IsGround ground → StandsAs ground p memory end (AtAvailIndex taken) s → value ≡ memory (section_of ground (1 - p) + word_place ground.sizes AvailableIndex) →
-    ReadsTo ground p memory (end_behind end (step_at (who_of ground p) (AtAvailIndex taken) value)) s (next_place (who_of ground p) (AtAvailIndex taken) value)
+    ReadsTo ground p memory (end_after end (step_at (who_of ground p) (AtAvailIndex taken) value)) s (next_place (who_of ground p) (AtAvailIndex taken) value)
 avail_index ground p memory end s taken value is stands met = let h = stands.at in let d = published_by taken value in
     let index : at (layout_of ground) memory (1 - p) field.AvailIndex ≡ high_half value = field_read ground memory (1 - p) field.AvailIndex (section_of ground (1 - p) + word_place ground.sizes AvailableIndex) value refl (ap (λ w. section_of ground (1 - p) + w) (avail_place ground)) met in
     let far : d ≡ distance (delivered_count s) (at (layout_of ground) memory (1 - p) field.AvailIndex) = ap (λ t. (high_half value + 65536 - t % 65536) % 65536) h.2 ∙ ap (distance (delivered_count s)) (sym index) in
@@ -80,7 +80,7 @@ avail_index ground p memory end s taken value is stands met = let h = stands.at 
 -- The fields of an item
 
 pub entry : (ground : Ground) (p : ℕ) (memory : ℕ → ℕ) (end : End) (s : Standing) (number more value : ℕ) → IsGround ground → StandsAs ground p memory end (AtEntry number more) s → value ≡ memory (section_of ground (1 - p) + word_place ground.sizes (Entry (number % size_of ground.sizes))) →
-    ReadsTo ground p memory (end_behind end (step_at (who_of ground p) (AtEntry number more) value)) s (next_place (who_of ground p) (AtEntry number more) value)
+    ReadsTo ground p memory (end_after end (step_at (who_of ground p) (AtEntry number more) value)) s (next_place (who_of ground p) (AtEntry number more) value)
 entry ground p memory end s number more value is stands met = let h = stands.at in let n = size_of ground.sizes in let k = delivered_count s % n in let least = (numbers ground is).size_least in
     let same : number % n ≡ k = ap (λ t. t % n) h.2 in let e = entry_half (number % n) value in
     let read : e ≡ at (layout_of ground) memory (1 - p) (field.AvailEntry k) = ap (λ i. entry_half i value) same ∙
@@ -106,7 +106,7 @@ pub address_back : (ground : Ground) (a : ℕ) → IsGround ground → IsAddress
 address_back ground a is h = let payload = payload_words (size_of ground.sizes) in let words = is.words in let low = h.1 in let high = h.2 in (h.0, omega arith, omega arith)
 
 pub high : (ground : Ground) (p : ℕ) (memory : ℕ → ℕ) (end : End) (s : Standing) (number more e lo value : ℕ) → IsGround ground → Alone (layout_of ground) memory p s → StandsAs ground p memory end (AtHigh number more e lo) s → value ≡ memory (section_of ground (1 - p) + word_place ground.sizes (Address e) + 1) →
-    ReadsTo ground p memory (end_behind end (step_at (who_of ground p) (AtHigh number more e lo) value)) s (next_place (who_of ground p) (AtHigh number more e lo) value)
+    ReadsTo ground p memory (end_after end (step_at (who_of ground p) (AtHigh number more e lo) value)) s (next_place (who_of ground p) (AtHigh number more e lo) value)
 high ground p memory end s number more e lo value is alone stands met = let h = stands.at in let w = within_at (pair.AtHigh (suc more) e lo) h.0 alone in
     let place : section_of ground (1 - p) + word_place ground.sizes (Address e) + 1 ≡ section_of ground (1 - p) + (layout_of ground).word_of (field.AddressHigh e) = let x = high_place ground e in omega arith in
     let read = field_read ground memory (1 - p) (field.AddressHigh e) (section_of ground (1 - p) + word_place ground.sizes (Address e) + 1) value (one_test _ _ w.1) place met in
@@ -120,7 +120,7 @@ high ground p memory end s number more e lo value is alone stands met = let h = 
     (λ test. (at_place s pair.Refusing, move.refuse_address (suc more) e lo h.0 (λ good. address_denies ground.sizes a test (address_back ground a is (subst (IsAddress (layout_of ground)) (sym same) good))), stands_refused ground p memory end s (AtHigh number more e lo) stands h.1))
 
 pub bytes : (ground : Ground) (p : ℕ) (memory : ℕ → ℕ) (end : End) (s : Standing) (number more e a value : ℕ) → IsGround ground → Alone (layout_of ground) memory p s → StandsAs ground p memory end (AtLength number more e a) s → value ≡ memory (section_of ground (1 - p) + word_place ground.sizes (Length e)) →
-    ReadsTo ground p memory (end_behind end (step_at (who_of ground p) (AtLength number more e a) value)) s (next_place (who_of ground p) (AtLength number more e a) value)
+    ReadsTo ground p memory (end_after end (step_at (who_of ground p) (AtLength number more e a) value)) s (next_place (who_of ground p) (AtLength number more e a) value)
 bytes ground p memory end s number more e a value is alone stands met = let h = stands.at in let w = within_at (pair.AtLength (suc more) e a) h.0 alone in let words = is.words in
     let read = field_read ground memory (1 - p) (field.DescLength e) (section_of ground (1 - p) + word_place ground.sizes (Length e)) value (one_test _ _ w.1) (ap (λ w. section_of ground (1 - p) + w) (length_place ground e)) met in
     by_test ground p memory end s (is_length ground.sizes a value) [] (refusal field_name.DescLength value) (AtFlags number more e a value) Refusing
@@ -136,7 +136,7 @@ first_word ground p memory end s number more e a l zero stands is some = absurd 
 first_word ground p memory end s number more e a l (suc m) stands is some = let h = stands.at in stands_read ground p memory end s (AtFlags number more e a l) (AtWord number more e a l [] m) (pair.AtWord (suc more) e a l []) stands stands.mark refl (refl, h.1, h.2, omega arith)
 
 pub flags : (ground : Ground) (p : ℕ) (memory : ℕ → ℕ) (end : End) (s : Standing) (number more e a l value : ℕ) → Alone (layout_of ground) memory p s → StandsAs ground p memory end (AtFlags number more e a l) s → value ≡ memory (section_of ground (1 - p) + word_place ground.sizes (Flags e)) →
-    ReadsTo ground p memory (end_behind end (step_at (who_of ground p) (AtFlags number more e a l) value)) s (next_place (who_of ground p) (AtFlags number more e a l) value)
+    ReadsTo ground p memory (end_after end (step_at (who_of ground p) (AtFlags number more e a l) value)) s (next_place (who_of ground p) (AtFlags number more e a l) value)
 flags ground p memory end s number more e a l value alone stands met = let h = stands.at in let w = within_at (pair.AtFlags (suc more) e a l) h.0 alone in let least = w.3.0 in
     let read : at (layout_of ground) memory (1 - p) (field.DescFlags e) ≡ low_half value = field_read ground memory (1 - p) (field.DescFlags e) (section_of ground (1 - p) + word_place ground.sizes (Flags e)) value (one_test _ _ w.1) (ap (λ w. section_of ground (1 - p) + w) (flags_place ground e)) met in
     by_test ground p memory end s (low_half value == 0) [] (refusal field_name.DescFlags (low_half value)) (words_place number more e a l [] (words_for l)) Refusing

@@ -3,10 +3,10 @@ use Rattle.std.proofs.Common.{◌≡◌, ◌≢◌, ℕ, zero, suc, ◌+◌, ◌
 use Rattle.std.specs.Prelude.{◌==◌, if◌then◌else◌, map}
 use Rattle.std.proofs.lemmas.Bool.Decides.{nat_tests}
 use Rattle.split_ring.specs.Layout.{size_of, word_place, UsedIndex, Id, Amount}
-use Rattle.link_laws.specs.Steps.{Deliver, Return}
-use Rattle.link_laws.specs.Ends.{End, noted_all, end_behind}
-use Rattle.link_laws.specs.Words.{index_word, frame_in}
-use Rattle.link_laws.specs.Places.{AtWord, GivingId, GivingLength, GivingIndex, items_place, words_place, next_place, step_at}
+use Rattle.call_grammar.specs.Steps.{Deliver, Return}
+use Rattle.call_grammar.specs.Ends.{End, noted_all, end_after}
+use Rattle.call_grammar.specs.Words.{index_word, frame_in}
+use Rattle.call_grammar.specs.Places.{AtWord, GivingId, GivingLength, GivingIndex, items_place, words_place, next_place, step_at}
 use Rattle.link_pair.specs.Layout.{Stored}
 use Rattle.link_pair.specs.Layout as field
 use Rattle.link_pair.specs.Standing as pair
@@ -20,7 +20,7 @@ use Rattle.pair_calls.specs.Ground.{Ground, IsGround, section_of, who_of, layout
 use Rattle.pair_calls.proofs.Grounds.{numbers, used_place, id_place, amount_place, field_put, written_kept}
 use Rattle.pair_calls.proofs.Steps.{wrote, stands_read, stands_written}
 use Rattle.pair_calls.proofs.PollMoves.{ReadsTo, StepsTo, put_comes}
-use Rattle.link_laws.proofs.OfferLists.{no}
+use Rattle.call_grammar.proofs.OfferLists.{no}
 
 -- one more of a list under a map
 pub map_last : {A B : Type 0} → (f : A → B) → (xs : List A) (x : A) → map f (xs ++ x ∷ []) ≡ map f xs ++ f x ∷ []
@@ -60,7 +60,7 @@ next_word ground p memory end s number more e a l read (suc words) value alone s
     )
 
 pub word : (ground : Ground) (p : ℕ) (memory : ℕ → ℕ) (end : End) (s : Standing) (number more e a l : ℕ) (read : List ℕ) (words value : ℕ) → Alone (layout_of ground) memory p s → StandsAs ground p memory end (AtWord number more e a l read words) s → value ≡ memory (section_of ground (1 - p) + (a / 4 + length read)) →
-    ReadsTo ground p memory (end_behind end (step_at (who_of ground p) (AtWord number more e a l read words) value)) s (next_place (who_of ground p) (AtWord number more e a l read words) value)
+    ReadsTo ground p memory (end_after end (step_at (who_of ground p) (AtWord number more e a l read words) value)) s (next_place (who_of ground p) (AtWord number more e a l read words) value)
 word ground p memory end s number more e a l read words value alone stands met = next_word ground p memory end s number more e a l read words value alone stands met (words == 0) refl
 
 -- Words of the used ring are no indices
@@ -103,7 +103,7 @@ indices_apart own n e = omega arith
 pub index_put : (w n m : ℕ) → w % 65536 ≡ 0 → n ≡ m → index_word n ≡ w % 65536 + 65536 * (m % 65536)
 index_put w n m low same = omega (arith, ap (λ k. k % 65536) same)
 
--- the place of a poll behind a return
+-- the place of a poll after a return
 return_place : (ground : Ground) (p : ℕ) (memory : ℕ → ℕ) (end : End) (s : Standing) (number more : ℕ) → s.phase ≡ 3 → number + 1 ≡ delivered_count s → s.place ≡ place_after_items more → PlaceIs ground p memory end s (items_place (number + 1) more)
 return_place ground p memory end s number zero run next here = (here, run)
 return_place ground p memory end s number (suc more) run next here = (here ∙ no (suc more == 0) pair.Closed (pair.AtEntry (suc more)) (ne_eqb (suc more) 0 (λ e. omega arith)), run, next)

@@ -10,13 +10,13 @@ use Rattle.split_ring.specs.Spelling.{low_half, entry_half, address_at, bytes_fr
 use Rattle.link_handshake.specs.declared.Move.{Move}
 use Rattle.link_handshake.specs.declared.Move.TheVariants.{Stay, Set, ClearThenSet}
 use Rattle.link_handshake.specs.Standing.{move_of}
-use Rattle.link_laws.specs.Ends.{End}
-use Rattle.link_laws.specs.Words.{words_for, frame_word, with_entry, address_of}
-use Rattle.link_laws.specs.Ticks.{Who}
-use Rattle.link_laws.specs.Offers.{Job, returned_by, descriptor_of, entry_of}
-use Rattle.link_laws.specs.Polls.{is_entry, is_address, is_length, published_by}
-use Rattle.link_laws.specs.Calls.{Call, Tick, Stop, Offer, Poll, in_run, job_of}
-use Rattle.link_laws.specs.Places.{Place, Closed, AtState, Clearing, Setting, Refusing, Downed, AtUsedIndex, AtUsedId, Filling, WritingLow, WritingHigh, WritingLength, WritingFlags, WritingEntry, WritingIndex, RingingOffer, AtAvailIndex, AtEntry, AtLow, AtHigh, AtLength, AtFlags, AtWord, GivingId, GivingLength, GivingIndex, RingingPoll, clear_place, tick_place, fill_place, ids_place, items_place, words_place, first_place, access_at, next_place}
+use Rattle.call_grammar.specs.Ends.{End}
+use Rattle.call_grammar.specs.Words.{words_for, frame_word, with_entry, address_of}
+use Rattle.call_grammar.specs.Ticks.{Who}
+use Rattle.call_grammar.specs.Offers.{Job, returned_by, descriptor_of, entry_of}
+use Rattle.call_grammar.specs.Polls.{is_entry, is_address, is_length, published_by}
+use Rattle.call_grammar.specs.Calls.{Call, Tick, Stop, Offer, Poll, in_run, job_of}
+use Rattle.call_grammar.specs.Places.{Place, Closed, AtState, Clearing, Setting, Refusing, Downed, AtUsedIndex, AtUsedId, Filling, WritingLow, WritingHigh, WritingLength, WritingFlags, WritingEntry, WritingIndex, RingingOffer, AtAvailIndex, AtEntry, AtLow, AtHigh, AtLength, AtFlags, AtWord, GivingId, GivingLength, GivingIndex, RingingPoll, clear_place, tick_place, fill_place, ids_place, items_place, words_place, first_place, access_at, next_place}
 use Rattle.link_pair.specs.Layout.{Stored}
 use Rattle.link_pair.specs.Standing.{Standing}
 use Rattle.link_pair.specs.Laws.{IsUntouched}

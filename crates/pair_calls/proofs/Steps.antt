@@ -2,8 +2,8 @@
 use Rattle.std.proofs.Common.{◌≡◌, ◌≢◌, ℕ, ◌+◌, ◌%◌, true, false, refl, sym, ap, ◌∙◌, arith}
 use Rattle.std.specs.Prelude.{◌==◌, if◌then◌else◌}
 use Rattle.split_ring.specs.Layout.{word_place, AvailableIndex, UsedIndex}
-use Rattle.link_laws.specs.Ends.{End}
-use Rattle.link_laws.specs.Places.{Place, Refusing}
+use Rattle.call_grammar.specs.Ends.{End}
+use Rattle.call_grammar.specs.Places.{Place, Refusing}
 use Rattle.link_pair.specs.Layout.{Stored}
 use Rattle.link_pair.specs.Standing as pair
 use Rattle.link_pair.specs.Standing.{Standing, at_place}
@@ -18,7 +18,7 @@ wrote end x v = record end { written = λ w. if w == x then v else end.written w
 abbrev pub refuses : End → End
 refuses end = record end { handshake = record (end.handshake) { mark = true } }
 
--- a read, behind which the call is at another place
+-- a read, after which the call is at another place
 pub stands_read : (ground : Ground) (p : ℕ) (memory : ℕ → ℕ) (end : End) (s : Standing) (place place' : Place) (x : pair.Place) → StandsAs ground p memory end place s →
     MarkIs place' s.refused end.handshake.mark → ids_left place' ≡ ids_left place → PlaceIs ground p memory end (at_place s x) place' → StandsAs ground p memory end place' (at_place s x)
 stands_read ground p memory end s place place' x stands mark left at = record {
@@ -50,7 +50,7 @@ stands_refused ground p memory end s place stands run = record {
   at = (refl, run);
 }
 
--- a write of a word of the own section that is no index, behind which the call is at another place
+-- a write of a word of the own section that is no index, after which the call is at another place
 pub stands_written : (ground : Ground) (p : ℕ) (memory after : ℕ → ℕ) (end : End) (s : Standing) (place place' : Place) (x : pair.Place) (word v : ℕ) → Stored memory after word v →
     word ≢ section_of ground p + word_place ground.sizes AvailableIndex → word ≢ section_of ground p + word_place ground.sizes UsedIndex → StandsAs ground p memory end place s →
     MarkIs place' s.refused end.handshake.mark → ids_left place' ≡ ids_left place → PlaceIs ground p after (wrote end word v) (at_place s x) place' → StandsAs ground p after (wrote end word v) place' (at_place s x)

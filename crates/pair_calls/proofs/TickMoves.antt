@@ -1,4 +1,4 @@
--- The steps of a Tick, of a Stop and behind a refusal are moves of the pair.
+-- The steps of a Tick, of a Stop and after a refusal are moves of the pair.
 use Rattle.std.proofs.Common.{◌≡◌, ◌≢◌, ℕ, zero, suc, ◌+◌, ◌-◌, ◌%◌, ◌<◌, ◌≤◌, ◌⊎◌, inl, inr, Bool, true, false, [], cond, refl, sym, ap, ◌∙◌, subst, arith, eq-eqb, ne_eqb}
 use mathlib.Core.Logic.{dite}
 use native.Mathlib.Decide.{ℕ_discrete}
@@ -11,10 +11,10 @@ use Rattle.link_handshake.specs.declared.Move.{Move}
 use Rattle.link_handshake.specs.declared.Move.TheVariants.{Stay, Set, ClearThenSet}
 use Rattle.link_handshake.specs.PhaseTable.{move_on, phase_at, state_of}
 use Rattle.link_handshake.specs.Standing.{move_of, Standing as Handshake}
-use Rattle.link_laws.specs.Ends.{End, with_state, noted_all, end_behind}
-use Rattle.link_laws.specs.Ticks.{tick_marks}
-use Rattle.link_laws.specs.Places.{Place, Closed, AtState, Clearing, Setting, Refusing, clear_place, tick_place, next_place, step_at}
-use Rattle.link_laws.proofs.OfferLists.{yes, no}
+use Rattle.call_grammar.specs.Ends.{End, with_state, noted_all, end_after}
+use Rattle.call_grammar.specs.Ticks.{tick_marks}
+use Rattle.call_grammar.specs.Places.{Place, Closed, AtState, Clearing, Setting, Refusing, clear_place, tick_place, next_place, step_at}
+use Rattle.call_grammar.proofs.OfferLists.{yes, no}
 use Rattle.link_pair.specs.Layout.{Field, Stored}
 use Rattle.link_pair.specs.Layout as field
 use Rattle.link_pair.specs.Standing as pair
@@ -106,7 +106,7 @@ tick_to ground p memory end s v (ClearThenSet n) stands refused few is = let tar
     (stands_read ground p memory end s Closed (clear_place (section_of ground p) ground.words n) (pair.Ticking v 0) stands (c.1 s.refused end.handshake.mark stands.mark) c.2 c.0)
 
 pub at_state : (ground : Ground) (p : ℕ) (memory : ℕ → ℕ) (end : End) (s : Standing) (handshake : Handshake) (value : ℕ) → Alone (layout_of ground) memory p s → StandsAs ground p memory end (AtState handshake) s → value ≡ memory (1 - p) →
-    ReadsTo ground p memory (end_behind end (step_at (who_of ground p) (AtState handshake) value)) s (next_place (who_of ground p) (AtState handshake) value)
+    ReadsTo ground p memory (end_after end (step_at (who_of ground p) (AtState handshake) value)) s (next_place (who_of ground p) (AtState handshake) value)
 at_state ground p memory end s handshake value alone stands met = let h = stands.at in
     let closed = same_stands ground p memory end s (AtState handshake) Closed stands stands.mark refl h.1 in (
       having_seen s value,

@@ -5,10 +5,10 @@ use Rattle.std.proofs.lemmas.List.{length-take}
 use Rattle.std.proofs.lemmas.List.Elements.{All-take, All-drop, All-head, All-tail}
 use Rattle.ivs_base.specs.Numbers.{word_of}
 use Rattle.split_ring.specs.Layout.{size_of, limit_of, slot_of, payload_of, place_of, word_place, Address, Length, Flags, AvailableIndex, Entry, Slot}
-use Rattle.link_laws.specs.Ends.{End}
-use Rattle.link_laws.specs.Words.{index_word, with_entry, words_for, frame_word}
-use Rattle.link_laws.specs.Offers.{Job}
-use Rattle.link_laws.specs.Places.{Place, Filling, WritingLow, WritingHigh, WritingLength, WritingFlags, WritingEntry, WritingIndex, RingingOffer, fill_place}
+use Rattle.call_grammar.specs.Ends.{End}
+use Rattle.call_grammar.specs.Words.{index_word, with_entry, words_for, frame_word}
+use Rattle.call_grammar.specs.Offers.{Job}
+use Rattle.call_grammar.specs.Places.{Place, Filling, WritingLow, WritingHigh, WritingLength, WritingFlags, WritingEntry, WritingIndex, RingingOffer, fill_place}
 use Rattle.link_pair.specs.Layout.{Field, Stored}
 use Rattle.link_pair.specs.Layout as field
 use Rattle.link_pair.specs.Standing as pair

@@ -1,8 +1,8 @@
 -- Two ends on their ground, each honest or not: what every step keeps, and what follows for their calls and frames.
 use Rattle.std.specs.Prelude.{ℕ, ◌≡◌, ◌≢◌, ◌-◌, ◌<◌, ◌⊎◌, Bool, true, false, List, ◌++◌, All}
-use Rattle.link_laws.specs.Ends.{End, fresh, after_reset, end_behind}
-use Rattle.link_laws.specs.Calls.{Call}
-use Rattle.link_laws.specs.Places.{Place, Closed, Refusing, first_place, access_at, next_place, step_at, is_open}
+use Rattle.call_grammar.specs.Ends.{End, fresh, after_reset, end_after}
+use Rattle.call_grammar.specs.Calls.{Call}
+use Rattle.call_grammar.specs.Places.{Place, Closed, Refusing, first_place, access_at, next_place, step_at, is_open}
 use Rattle.link_pair.specs.Layout.{Stored}
 use Rattle.link_pair.specs.Standing.{Standing}
 use Rattle.link_pair.specs.Pair.{Attends}
@@ -36,7 +36,7 @@ pub record EndsAreKept : Type 0 where
       places p ≡ Closed → OnlyComes ends after_ends places after_places p (ends p) (first_place (who_of ground p) (ends p) call) → Holds ground honest memory ends places → Holds ground honest memory after_ends after_places
   pub steps : (ground : Ground) (honest : ℕ → Bool) (memory after : ℕ → ℕ) (ends after_ends : ℕ → End) (places after_places : ℕ → Place) (p value : ℕ) → IsGround ground → p < 2 → honest p ≡ true →
       is_open (places p) ≡ true → Meets memory (access_at (who_of ground p) (places p)) value → Leaves p memory (access_at (who_of ground p) (places p)) after →
-      OnlyComes ends after_ends places after_places p (end_behind (ends p) (step_at (who_of ground p) (places p) value)) (next_place (who_of ground p) (places p) value) →
+      OnlyComes ends after_ends places after_places p (end_after (ends p) (step_at (who_of ground p) (places p) value)) (next_place (who_of ground p) (places p) value) →
       Holds ground honest memory ends places → Holds ground honest after after_ends after_places
   pub resets : (ground : Ground) (honest : ℕ → Bool) (memory after : ℕ → ℕ) (ends after_ends : ℕ → End) (places after_places : ℕ → Place) (p : ℕ) → IsGround ground → p < 2 → honest p ≡ true → Stored memory after p 0 →
       OnlyComes ends after_ends places after_places p (after_reset (ends p)) Closed → Holds ground honest memory ends places → Holds ground honest after after_ends after_places

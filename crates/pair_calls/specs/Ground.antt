@@ -4,25 +4,25 @@ use Rattle.split_ring.specs.declared.steps.Access.{Access}
 use Rattle.split_ring.specs.declared.steps.Access.TheVariants as access
 use Rattle.split_ring.specs.Layout.{Sizes, IsQueue, size_of, limit_of, slot_of, word_place, AvailableIndex, UsedIndex, Entry}
 use Rattle.link_handshake.specs.PhaseTable.{state_of}
-use Rattle.link_laws.specs.Ends.{End}
-use Rattle.link_laws.specs.Words.{words_for, frame_word, frame_in}
-use Rattle.link_laws.specs.Ticks.{Who}
-use Rattle.link_laws.specs.Offers.{Job}
-use Rattle.link_laws.specs.Places.{Place, Closed, AtState, Clearing, Setting, Refusing, Downed, AtUsedIndex, AtUsedId, Filling, WritingLow, WritingHigh, WritingLength, WritingFlags, WritingEntry, WritingIndex, RingingOffer, AtAvailIndex, AtEntry, AtLow, AtHigh, AtLength, AtFlags, AtWord, GivingId, GivingLength, GivingIndex, RingingPoll}
+use Rattle.call_grammar.specs.Ends.{End}
+use Rattle.call_grammar.specs.Words.{words_for, frame_word, frame_in}
+use Rattle.call_grammar.specs.Ticks.{Who}
+use Rattle.call_grammar.specs.Offers.{Job}
+use Rattle.call_grammar.specs.Places.{Place, Closed, AtState, Clearing, Setting, Refusing, Downed, AtUsedIndex, AtUsedId, Filling, WritingLow, WritingHigh, WritingLength, WritingFlags, WritingEntry, WritingIndex, RingingOffer, AtAvailIndex, AtEntry, AtLow, AtHigh, AtLength, AtFlags, AtWord, GivingId, GivingLength, GivingIndex, RingingPoll}
 use Rattle.link_pair.specs.Layout.{Layout, Stored}
 use Rattle.link_pair.specs.RingLayout.{ring_layout}
 use Rattle.link_pair.specs.Standing as pair
 use Rattle.link_pair.specs.Standing.{WordFrame, word_frame, Standing, accepted_count, delivered_count, phase_after}
 use Rattle.link_pair.specs.Moves.{Effect, MovesIn, Changes}
 
--- The ground of a link: the first word of section 0, behind which section 1 stands, the words of a section, the sizes of the queue in it, and the traffic vector
+-- The ground of a link: the first word of section 0, after which section 1 stands, the words of a section, the sizes of the queue in it, and the traffic vector
 pub record Ground : Type 0 where
   pub first : ℕ
   pub words : ℕ
   pub sizes : Sizes
   pub vector : ℕ
 
--- what a ground has to keep: its sizes have a queue, a section has a quarter as many words as bytes, and both sections stand behind the two state words
+-- what a ground has to keep: its sizes have a queue, a section has a quarter as many words as bytes, and both sections stand after the two state words
 pub record IsGround (ground : Ground) : Type 0 where
   pub queue : IsQueue ground.sizes
   pub words : ground.sizes.out ≡ 4 * ground.words
@@ -111,7 +111,7 @@ PlaceIs ground p memory end s (GivingLength number more) = (s.place ≡ pair.AtU
 PlaceIs ground p memory end s (GivingIndex number more) = (s.place ≡ pair.AtUsedIndex (suc more)) × (s.phase ≡ 3) × (number ≡ s.returned)
 PlaceIs ground p memory end s RingingPoll = (s.place ≡ pair.Closed) × (s.phase ≡ 3)
 
--- the mark of an end is set on the step that refuses, and the pair's with the State step behind it
+-- the mark of an end is set on the step that refuses, and the pair's with the State step after it
 abbrev pub MarkIs : Place → Bool → Bool → Type 0
 MarkIs Refusing refused mark = mark ≡ true
 MarkIs _ refused mark = refused ≡ mark

@@ -1,8 +1,8 @@
 -- The laws between the grammar and the pair.
 use Rattle.std.specs.Prelude.{ℕ, ◌≡◌, ◌<◌, true, false}
-use Rattle.link_laws.specs.Ends.{End, after_reset, end_behind}
-use Rattle.link_laws.specs.Calls.{Call, Tick, Stop, Offer, Poll}
-use Rattle.link_laws.specs.Places.{Place, Closed, first_place, access_at, next_place, step_at, is_open}
+use Rattle.call_grammar.specs.Ends.{End, after_reset, end_after}
+use Rattle.call_grammar.specs.Calls.{Call, Tick, Stop, Offer, Poll}
+use Rattle.call_grammar.specs.Places.{Place, Closed, first_place, access_at, next_place, step_at, is_open}
 use Rattle.link_pair.specs.Layout.{Stored}
 use Rattle.link_pair.specs.Standing.{Standing, having_stopped}
 use Rattle.link_pair.specs.Moves.{States, MovesIn}
@@ -24,7 +24,7 @@ pub record CallsAreMoves : Type 0 where
       StandsAs ground p memory end Closed s → StandsAs ground p memory end (first_place (who_of ground p) end call) s
   pub steps : (ground : Ground) (p : ℕ) (memory after : ℕ → ℕ) (end : End) (place : Place) (value : ℕ) (s : Standing) → IsGround ground → p < 2 → Alone (layout_of ground) memory p s →
       StandsAs ground p memory end place s → is_open place ≡ true → Meets memory (access_at (who_of ground p) place) value → Leaves p memory (access_at (who_of ground p) place) after →
-      (t : Standing) × ComesTo ground p memory after s t × StandsAs ground p after (end_behind end (step_at (who_of ground p) place value)) (next_place (who_of ground p) place value) t
+      (t : Standing) × ComesTo ground p memory after s t × StandsAs ground p after (end_after end (step_at (who_of ground p) place value)) (next_place (who_of ground p) place value) t
   pub resets : (ground : Ground) (p : ℕ) (memory after : ℕ → ℕ) (end : End) (place : Place) (s : Standing) → IsGround ground → p < 2 → StandsAs ground p memory end place s → Stored memory after p 0 →
       MovesIn (layout_of ground) memory p s (States 0) (having_stopped s false) × StandsAs ground p after (after_reset end) Closed (having_stopped s false)
   pub others : (ground : Ground) (p : ℕ) (memory after : ℕ → ℕ) (end : End) (place : Place) (s : Standing) → IsGround ground → StandsAs ground p memory end place s → IsUntouched (layout_of ground) memory after p →

@@ -4,13 +4,13 @@ use Rattle.split_ring.specs.declared.steps.Access.{Access}
 use Rattle.split_ring.specs.declared.steps.Access.TheVariants as access
 use Rattle.split_ring.specs.Layout.{Sizes}
 use Rattle.link_handshake.specs.PhaseTable.{state_of}
-use Rattle.link_laws.specs.Steps.{Step}
-use Rattle.link_laws.specs.Ends.{End, fresh, after_reset, end_behind}
-use Rattle.link_laws.specs.Ticks.{Who}
-use Rattle.link_laws.specs.Calls.{Call}
-use Rattle.link_laws.specs.Rows.{MovesTo}
-use Rattle.link_laws.specs.Places.{Place, Closed, Clearing, Setting, AtEntry, AtLow, AtHigh, AtLength, AtFlags, AtWord, GivingId, GivingLength, GivingIndex, RingingPoll, first_place, access_at, next_place, step_at, is_open}
-use Rattle.link_laws.specs.LinkMachine.{Side, fresh_side, Told, Wrote, Marked, WasReset, Row}
+use Rattle.call_grammar.specs.Steps.{Step}
+use Rattle.call_grammar.specs.Ends.{End, fresh, after_reset, end_after}
+use Rattle.call_grammar.specs.Ticks.{Who}
+use Rattle.call_grammar.specs.Calls.{Call}
+use Rattle.call_grammar.specs.Rows.{MovesTo}
+use Rattle.call_grammar.specs.Places.{Place, Closed, Clearing, Setting, AtEntry, AtLow, AtHigh, AtLength, AtFlags, AtWord, GivingId, GivingLength, GivingIndex, RingingPoll, first_place, access_at, next_place, step_at, is_open}
+use Rattle.link_machine.specs.LinkMachine.{Side, fresh_side, Told, Wrote, Marked, WasReset, Row}
 use Rattle.link_pair.specs.Standing.{Standing}
 use Rattle.pair_calls.specs.Ground.{Ground, IsGround, who_of, Meets}
 use Rattle.pair_calls.specs.Both.{BothStand}
@@ -70,6 +70,6 @@ pub record StepsFollowRows : Type 0 where
   pub steps : (ground : Ground) (honest : ℕ → Bool) (memory : ℕ → ℕ) (ends : ℕ → End) (places : ℕ → Place) (standings : ℕ → Standing) (p value : ℕ) (side other : Side) → IsGround ground → p < 2 → honest p ≡ true →
       BothStand ground honest memory ends places standings → SideIs (ends p) (places p) side → other.state ≡ memory (1 - p) → (honest (1 - p) ≡ true → SideIs (ends (1 - p)) (places (1 - p)) other) →
       is_open (places p) ≡ true → Meets memory (access_at (who_of ground p) (places p)) value →
-      (new : Side) × RowsAlong ground.sizes (honest (1 - p)) other side (told_by (step_at (who_of ground p) (places p) value)) new × SideIs (end_behind (ends p) (step_at (who_of ground p) (places p) value)) (next_place (who_of ground p) (places p) value) new
+      (new : Side) × RowsAlong ground.sizes (honest (1 - p)) other side (told_by (step_at (who_of ground p) (places p) value)) new × SideIs (end_after (ends p) (step_at (who_of ground p) (places p) value)) (next_place (who_of ground p) (places p) value) new
   pub resets : (sizes : Sizes) (theirs : Bool) (end : End) (place : Place) (side other : Side) → SideIs end place side →
       (new : Side) × Row sizes true theirs side other WasReset new × SideIs (after_reset end) Closed new

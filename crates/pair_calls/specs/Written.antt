@@ -2,12 +2,12 @@
 use Rattle.std.specs.Prelude.{ℕ, ◌≡◌, ◌+◌, ◌%◌, ◌<◌, length}
 use Rattle.split_ring.specs.Layout.{size_of, limit_of, place_of, word_place, Address, Length, Flags, Entry, Slot}
 use Rattle.split_ring.specs.Spelling.{entry_half, Spells}
-use Rattle.link_laws.specs.Ends.{End}
-use Rattle.link_laws.specs.Words.{words_for, frame_word}
-use Rattle.link_laws.specs.Ticks.{Who}
-use Rattle.link_laws.specs.Offers.{Job}
-use Rattle.link_laws.specs.Calls.{Call}
-use Rattle.link_laws.specs.Places.{Place, Filling, WritingLow, WritingHigh, WritingLength, WritingFlags, WritingEntry, WritingIndex, first_place, access_at, next_place}
+use Rattle.call_grammar.specs.Ends.{End}
+use Rattle.call_grammar.specs.Words.{words_for, frame_word}
+use Rattle.call_grammar.specs.Ticks.{Who}
+use Rattle.call_grammar.specs.Offers.{Job}
+use Rattle.call_grammar.specs.Calls.{Call}
+use Rattle.call_grammar.specs.Places.{Place, Filling, WritingLow, WritingHigh, WritingLength, WritingFlags, WritingEntry, WritingIndex, first_place, access_at, next_place}
 use Rattle.link_pair.specs.Standing.{Standing}
 use Rattle.link_pair.specs.Laws.{IsUntouched}
 use Rattle.pair_calls.specs.Ground.{Ground, IsGround, section_of, who_of, layout_of, StandsAs, Leaves}
@@ -58,7 +58,7 @@ HasWritten ground words place = Unit {0}
 abbrev pub IsSpelled : Ground → (ℕ → ℕ) → Job → Type 0
 IsSpelled ground words job = Spells ground.sizes words job.number (descriptor_in ground job) job.frame
 
--- A call has written nothing where it begins; each step of the end keeps what it has written, and so does a change of words elsewhere; and behind the write of the index,
+-- A call has written nothing where it begins; each step of the end keeps what it has written, and so does a change of words elsewhere; and after the write of the index,
 -- with which the frame is accepted, the frame is spelled
 pub record AcceptedFramesAreSpelled : Type 0 where
   pub begins : (ground : Ground) (words : ℕ → ℕ) (who : Who) (end : End) (call : Call) → HasWritten ground words (first_place who end call)

@@ -1,5 +1,5 @@
 //! The calls of the two ends and the invariant of the pair: each step that the call grammar allows is a step over which the pair is
-//! stated, or touches no word at all. It stands on `link_laws` for the grammar and on `link_pair` for the invariant. It holds no code:
+//! stated, or touches no word at all. It stands on `call_grammar` for the grammar and on `link_pair` for the invariant. It holds no code:
 //! each law is the contract of a function with an empty body.
 #![tactic(auto)]
 
@@ -49,7 +49,7 @@ pub fn honest_runs_deliver()
     ensures { HonestRunsDeliver }
 {}
 
-/// Right behind the step with which an honest end accepts a frame, its section spells the frame, whatever the other side stores.
+/// Right after the step with which an honest end accepts a frame, its section spells the frame, whatever the other side stores.
 pub fn accepted_frames_are_spelled()
     ensures { AcceptedFramesAreSpelled }
 {}

@@ -14,7 +14,7 @@ number_byte-past n i small past =
     let none : n / 256 ^ i ≡ 0 = div-eq_of_lt (omega arith) in
     sym (ap (λ q. q % 256) none)
 
--- The number in the bytes behind a place.
+-- The number in the bytes after a place.
 pub little_from-drop : (at i n : ℕ) (xs : List ℕ) → little_from i n (drop at xs) ≡ number_from (slice_index xs) (at + i) n
 little_from-drop at i zero xs = refl
 little_from-drop at i (suc n) xs =

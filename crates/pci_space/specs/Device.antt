@@ -12,7 +12,7 @@ use Rattle.pci_space.specs.Wiring.{if_msix, last_vector}
 abbrev pub row : ℕ → ℕ → ℕ → ℕ → Field
 row place width reset mask = record { place = place; width = width; reset = reset; mask = mask }
 
--- The rows of a device. Sizes are in bytes. The places of the two capabilities, the base address, the sizes behind the Base
+-- The rows of a device. Sizes are in bytes. The places of the two capabilities, the base address, the sizes after the Base
 -- Address Registers and Command bits 2 and 3 side by side are profile.
 abbrev pub device_rows : Shape → ℕ → Wiring → List Field
 device_rows shape protocol wiring =

@@ -37,9 +37,9 @@ merged old new mask = bit_or (bit_and old (255 - mask)) (bit_and new mask)
 abbrev pub reaches : ℕ → ℕ → ℕ → Bool
 reaches offset width k = nat_le offset k && nat_lt k (offset + width)
 
--- Byte k of the space behind a write, where it was `old` before: its masked bits are the value's, if the write reaches it.
-abbrev pub byte_behind : List Field → ℕ → ℕ → ℕ → ℕ → ℕ → ℕ
-byte_behind rows offset width value k old =
+-- Byte k of the space after a write, where it was `old` before: its masked bits are the value's, if the write reaches it.
+abbrev pub merged_byte : List Field → ℕ → ℕ → ℕ → ℕ → ℕ → ℕ
+merged_byte rows offset width value k old =
     if reaches offset width k then merged old (number_byte value (k - offset)) (mask_byte rows k) else old
 
 -- An access is allowed: its width is 1, 2 or 4, its offset is a multiple of that, and it ends inside the space.
@@ -63,7 +63,7 @@ abbrev pub overlap : Field → ℕ → ℕ → List Field → Option FieldFault
 overlap f n m [] = None
 overlap f n m (g ∷ gs) = if shares g f then Some (Overlap n m) else overlap f n (m + 1) gs
 
--- What is wrong with row n behind the earlier rows: its width, then its numbers, then its end, then a row that it overlaps.
+-- What is wrong with row n after the earlier rows: its width, then its numbers, then its end, then a row that it overlaps.
 abbrev pub row_fault : ℕ → List Field → ℕ → Field → Option FieldFault
 row_fault size earlier n f =
     if not (is_width f.width) then Some (BadWidth n)
@@ -76,7 +76,7 @@ abbrev pub or_else : Option FieldFault → Option FieldFault → Option FieldFau
 or_else (Some fault) next = Some fault
 or_else None next = next
 
--- The first fault of the rows from number n on, behind the earlier ones.
+-- The first fault of the rows from number n on, after the earlier ones.
 abbrev pub first_fault : ℕ → List Field → ℕ → List Field → Option FieldFault
 first_fault size earlier n [] = None
 first_fault size earlier n (f ∷ fs) = or_else (row_fault size earlier n f) (first_fault size (earlier ++ f ∷ []) (n + 1) fs)

@@ -62,7 +62,7 @@ listed_with bytes p so_far =
 abbrev pub is_met : List ℕ → ℕ → Bool
 is_met met p = list_any (λ q. q == p) met
 
--- The list goes on at pointer p, behind the pointers met, and comes to this end. Pointer 0 ends it; one below 40h, one that was
+-- The list goes on at pointer p, after the pointers met, and comes to this end. Pointer 0 ends it; one below 40h, one that was
 -- met before, and a capability with a fault do so with a fault; any other capability leads to the next pointer.
 pub data Comes (bytes : List ℕ) : List ℕ → ℕ → Listed → Result Listed CapabilityFault → Type 0 where
   ends : (met : List ℕ) (so_far : Listed) → Comes bytes met 0 so_far (Ok so_far)

@@ -1,7 +1,7 @@
 use thiserror::Error;
 
 /// What a walk found of MSI-X. The two words are kept as they were read: the low three bits of each name a
-/// Base Address Register, the rest is an offset behind it.
+/// Base Address Register, the rest is an offset after it.
 #[derive(Clone, Copy, Debug, PartialEq, Eq)]
 pub struct MsixFound {
     /// The number of vectors, 1 to 2,048.

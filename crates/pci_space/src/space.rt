@@ -1,6 +1,6 @@
 ghost use Rattle.std.specs.Prelude.{◌≡◌, ℕ, ◌+◌, ◌<◌, ◌≤◌, ◌↔◌, length, slice_index, IfOk, IfErr, OnOk, IsOk, IsTrue};
 ghost use Rattle.pci_space.specs.Numbers.{number_from};
-ghost use Rattle.pci_space.specs.Fields.{reset_byte, mask_byte, merged, is_access, byte_behind, KeepsUnmasked};
+ghost use Rattle.pci_space.specs.Fields.{reset_byte, mask_byte, merged, is_access, merged_byte, KeepsUnmasked};
 
 use crate::field::Field;
 use crate::number::{byte_of, number_in};
@@ -85,7 +85,7 @@ impl<const N: usize, const B: usize> Space<N, B> {
     /// Nothing else changes, and after BadAccess nothing at all.
     pub fn write(&mut self, offset: u16, width: u16, value: u32) -> Result<(), BadAccess>
         ensures allowed { IsOk result ↔ IsTrue (is_access B offset width) }
-        ensures written { OnOk result ((k : ℕ) → slice_index self.new.bytes k ≡ byte_behind self.old.rows offset width value k (slice_index self.old.bytes k)) }
+        ensures written { OnOk result ((k : ℕ) → slice_index self.new.bytes k ≡ merged_byte self.old.rows offset width value k (slice_index self.old.bytes k)) }
         ensures rows { self.new.rows ≡ self.old.rows }
         ensures refused { IfErr result (λ e. (e ≡ record { offset = offset; width = width }) × (self.new ≡ self.old)) }
     {
@@ -116,7 +116,7 @@ fn is_allowed(size: usize, offset: u16, width: u16) -> bool
 fn write_bytes(bytes: &mut [u8], rows: &[Field], at: usize, count: usize, value: u32)
     requires inside { at + count ≤ length bytes.old }
     requires small { at + count < 65536 }
-    ensures { (k : ℕ) → slice_index bytes.new k ≡ byte_behind rows.now at count value k (slice_index bytes.old k) }
+    ensures { (k : ℕ) → slice_index bytes.new k ≡ merged_byte rows.now at count value k (slice_index bytes.old k) }
 {
     for k in at..at + count {
         let new = byte_of(u64::from(value), k - at);

@@ -54,7 +54,7 @@ impl<const N: usize> FieldTable<N> {
     }
 }
 
-/// What is wrong with row n, behind the earlier rows?
+/// What is wrong with row n, after the earlier rows?
 fn fault_of_row(bytes: u16, earlier: &[Field], n: u32, row: &Field) -> Option<FieldFault>
     requires { n ≡ length earlier.now }
     ensures { result ≡ row_fault bytes earlier.now n row.now }

@@ -1,19 +1,19 @@
--- The marks and the lines of a step, one behind the other.
+-- The marks and the lines of a step, one after the other.
 use Rattle.std.proofs.Common.{◌≡◌, ℕ, ◌+◌, ◌<◌, List, [], ◌∷◌, ◌++◌, length, take, drop, get_or, refl, sym, ap, ◌∙◌, subst}
 use Rattle.std.specs.Prelude.{Some, None, reverse, map}
 use Rattle.std.proofs.lemmas.List.{reverse-append, take_more, take-append-drop, map-append}
 use Rattle.split_ring.specs.declared.steps.Access.{Access}
 use Rattle.split_ring.specs.declared.steps.Access.TheVariants as access
 use Rattle.scenario_text.specs.Scenario.{World}
-use Rattle.link_laws.specs.Steps as laws
-use Rattle.link_plain.specs.declared.steps.Mark.{Mark}
-use Rattle.link_plain.specs.Seen.{mark_seen, marks_seen}
+use Rattle.call_grammar.specs.Steps as laws
+use Rattle.plain_calls.specs.declared.steps.Mark.{Mark}
+use Rattle.plain_calls.specs.Seen.{mark_seen, marks_seen}
 use Rattle.lawful_history.specs.declared.line.Line.{Line}
 use Rattle.lawful_history.specs.Entries.{access_lines, mark_line, step_lines}
 use Rattle.lawful_history.specs.Device.{devices_of, device_events, arrived, brought_by, step_interrupts}
 use Rattle.plain_history.specs.Reading.{Reads}
 use Rattle.plain_history.specs.Told.{brought, told_by_access}
-use Rattle.plain_history.proofs.Reading.{behind, none_more}
+use Rattle.plain_history.proofs.Reading.{reversed_after, none_more}
 
 -- the lines of these marks of a peer
 abbrev lines_by : ℕ → List Mark → List Line
@@ -35,7 +35,7 @@ not_all_marked lines past me marks i none =
     let first = lines_by me (take i marks) in
     let more = lines_by me (drop i marks) in
     let whole : reverse (lines_by me marks) ++ past ≡ reverse more ++ (reverse first ++ past) =
-    ap (λ (xs : List Mark). reverse (lines_by me xs) ++ past) (sym (take-append-drop i marks)) ∙ ap (λ ls. reverse ls ++ past) (lines-append me (take i marks) (drop i marks)) ∙ behind first more past in
+    ap (λ (xs : List Mark). reverse (lines_by me xs) ++ past) (sym (take-append-drop i marks)) ∙ ap (λ ls. reverse ls ++ past) (lines-append me (take i marks) (drop i marks)) ∙ reversed_after first more past in
     subst (λ (ls : List Line). Reads lines ls None) (sym whole) (none_more lines (reverse first ++ past) more none)
 
 -- the interrupts of an access are those of what it tells
@@ -47,13 +47,13 @@ interrupts_are world past losses me (access.State state) value = refl
 interrupts_are world past losses me (access.Ring target vector) value = refl
 interrupts_are world past losses me access.Nothing value = refl
 
--- the lines of a step stand where its access, its interrupts and its marks stand, one behind the other
-pub step_behind : (world : World) (past : List Line) (losses : ℕ → ℕ) (me : ℕ) (step : laws.Step) →
+-- the lines of a step stand where its access, its interrupts and its marks stand, one after the other
+pub step_after : (world : World) (past : List Line) (losses : ℕ → ℕ) (me : ℕ) (step : laws.Step) →
     reverse (step_lines me step (step_interrupts world past losses me (Some step))) ++ past ≡
     reverse (map (mark_line me) step.marks) ++ (reverse (arrived (reverse (access_lines me step.access step.value) ++ past) losses (brought (devices_of world) (device_events past) (told_by_access me step.access)))
     ++ (reverse (access_lines me step.access step.value) ++ past))
-step_behind world past losses me step =
+step_after world past losses me step =
     let first = access_lines me step.access step.value in
     let dev = brought_by world past losses first in
     let marks = map (mark_line me) step.marks in
-    behind first (dev ++ marks) past ∙ behind dev marks (reverse first ++ past) ∙ ap (λ ls. reverse marks ++ (reverse ls ++ (reverse first ++ past))) (interrupts_are world past losses me step.access step.value)
+    reversed_after first (dev ++ marks) past ∙ reversed_after dev marks (reverse first ++ past) ∙ ap (λ ls. reverse marks ++ (reverse ls ++ (reverse first ++ past))) (interrupts_are world past losses me step.access step.value)

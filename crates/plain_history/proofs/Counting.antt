@@ -12,18 +12,18 @@ use Rattle.split_ring.specs.declared.ranges.FieldName.{FieldName}
 use Rattle.split_ring.specs.declared.ranges.FieldName.TheVariants as field_name
 use Rattle.split_ring.specs.Layout.{size_of, limit_of}
 use Rattle.split_ring.specs.Spelling.{high_half, entry_half}
-use Rattle.link_laws.specs.Words.{words_for, address_of}
-use Rattle.link_laws.specs.Steps.{Mark, Reclaim, Full, Accept, Look, Deliver, Return, Done, Down, Over}
-use Rattle.link_laws.specs.Ends as ends
-use Rattle.link_laws.specs.Ticks.{tick_marks}
-use Rattle.link_laws.specs.Offers.{Job, entry_of, full_marks, reclaim_marks, refusal, returned_by}
-use Rattle.link_laws.specs.Polls.{is_entry, is_address, is_length, published_by}
-use Rattle.link_laws.specs.Calls.{Who, Call, Tick, Stop, Offer, Poll, in_run, job_of}
-use Rattle.link_laws.specs.Places.{Place, Closed, AtState, Clearing, Setting, Refusing, Downed, AtUsedIndex, AtUsedId, Filling, WritingLow, WritingHigh, WritingLength, WritingFlags, WritingEntry, WritingIndex, RingingOffer, AtAvailIndex, AtEntry, AtLow, AtHigh, AtLength, AtFlags, AtWord, GivingId, GivingLength, GivingIndex, RingingPoll, clear_place, tick_place, fill_place, ids_place, items_place, words_place, first_place, marks_at, next_place}
-use Rattle.link_plain.specs.declared.ends.End.{End}
-use Rattle.link_plain.specs.declared.steps.Mark as plain
-use Rattle.link_plain.specs.Seen.{mark_seen, marks_seen, IsSeenAs}
-use Rattle.link_plain.specs.Following.{freed_in, HasCounted}
+use Rattle.call_grammar.specs.Words.{words_for, address_of}
+use Rattle.call_grammar.specs.Steps.{Mark, Reclaim, Full, Accept, Look, Deliver, Return, Done, Down, Over}
+use Rattle.call_grammar.specs.Ends as ends
+use Rattle.call_grammar.specs.Ticks.{tick_marks}
+use Rattle.call_grammar.specs.Offers.{Job, entry_of, full_marks, reclaim_marks, refusal, returned_by}
+use Rattle.call_grammar.specs.Polls.{is_entry, is_address, is_length, published_by}
+use Rattle.call_grammar.specs.Calls.{Who, Call, Tick, Stop, Offer, Poll, in_run, job_of}
+use Rattle.call_grammar.specs.Places.{Place, Closed, AtState, Clearing, Setting, Refusing, Downed, AtUsedIndex, AtUsedId, Filling, WritingLow, WritingHigh, WritingLength, WritingFlags, WritingEntry, WritingIndex, RingingOffer, AtAvailIndex, AtEntry, AtLow, AtHigh, AtLength, AtFlags, AtWord, GivingId, GivingLength, GivingIndex, RingingPoll, clear_place, tick_place, fill_place, ids_place, items_place, words_place, first_place, marks_at, next_place}
+use Rattle.plain_calls.specs.declared.ends.End.{End}
+use Rattle.plain_calls.specs.declared.steps.Mark as plain
+use Rattle.plain_calls.specs.Seen.{mark_seen, marks_seen, IsSeenAs}
+use Rattle.plain_calls.specs.Following.{freed_in, HasCounted}
 use Rattle.lawful_history.specs.Peers.{Auto, counted, counted_all}
 use Rattle.plain_history.specs.Peers.{AreFew, IsFresh}
 
@@ -245,7 +245,7 @@ fresh_first most end who seen (Offer frame) is few =
     fresh_run most end seen.handshake.phase (AtUsedIndex (job_of who seen frame) seen.freed) (omega arith, is.freed)
 fresh_first most end who seen Poll is few = fresh_run most end seen.handshake.phase (AtAvailIndex (length seen.delivered)) tt
 
--- and few are counted behind it
+-- and few are counted after it
 pub still_few : (most : ℕ) (end new : End) (who : Who) (place : Place) (value : ℕ) (marks : List Mark) → marks ≡ marks_at who place value → IsFresh most end place → AreFew most end → HasCounted end marks new → AreFew (most + 2) new
 still_few most end new who place value marks is fresh few counts =
     let all : length marks ≤ 2 = rw is (marks_few who place value) in

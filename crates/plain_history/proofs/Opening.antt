@@ -2,21 +2,21 @@
 use Rattle.std.proofs.Common.{◌≡◌, ℕ, ◌+◌, ◌<◌, ◌≤◌, false, List, [], ◌∷◌, length, get_or, remove, refl, sym, ap, ◌∙◌, arith, subst}
 use Rattle.std.specs.Prelude.{map}
 use Rattle.link_handshake.specs.declared.Phase.{Phase}
-use Rattle.link_laws.specs.Automatic as laws
-use Rattle.link_laws.specs.Automatic.{choice_of}
-use Rattle.link_laws.specs.Steps.{Step}
-use Rattle.link_laws.specs.Trees.{CallTree, Ended}
-use Rattle.link_laws.specs.Ends as ends
-use Rattle.link_laws.specs.Ends.{end_behind}
-use Rattle.link_laws.specs.Calls.{Who, tree_of}
-use Rattle.link_laws.specs.Calls as calls
-use Rattle.link_laws.specs.Places.{Place, Closed, AtState, Clearing, Setting, Refusing, Downed, AtUsedIndex, AtUsedId, Filling, WritingLow, WritingHigh, WritingLength, WritingFlags, WritingEntry, WritingIndex, RingingOffer, AtAvailIndex, AtEntry, AtLow, AtHigh, AtLength, AtFlags, AtWord, GivingId, GivingLength, GivingIndex, RingingPoll, remaining, first_place, step_at, next_place, is_open, PlacesFollowTrees}
-use Rattle.link_plain.specs.declared.ends.Call.{Call}
-use Rattle.link_plain.specs.declared.ends.End.{End}
-use Rattle.link_plain.specs.Seen.{call_seen, IsSeenAs}
-use Rattle.link_plain.specs.Following.{HasCounted}
+use Rattle.call_grammar.specs.Automatic as laws
+use Rattle.call_grammar.specs.Automatic.{choice_of}
+use Rattle.call_grammar.specs.Steps.{Step}
+use Rattle.call_grammar.specs.Trees.{CallTree, Ended}
+use Rattle.call_grammar.specs.Ends as ends
+use Rattle.call_grammar.specs.Ends.{end_after}
+use Rattle.call_grammar.specs.Calls.{Who, tree_of}
+use Rattle.call_grammar.specs.Calls as calls
+use Rattle.call_grammar.specs.Places.{Place, Closed, AtState, Clearing, Setting, Refusing, Downed, AtUsedIndex, AtUsedId, Filling, WritingLow, WritingHigh, WritingLength, WritingFlags, WritingEntry, WritingIndex, RingingOffer, AtAvailIndex, AtEntry, AtLow, AtHigh, AtLength, AtFlags, AtWord, GivingId, GivingLength, GivingIndex, RingingPoll, remaining, first_place, step_at, next_place, is_open, PlacesFollowTrees}
+use Rattle.plain_calls.specs.declared.ends.Call.{Call}
+use Rattle.plain_calls.specs.declared.ends.End.{End}
+use Rattle.plain_calls.specs.Seen.{call_seen, IsSeenAs}
+use Rattle.plain_calls.specs.Following.{HasCounted}
 use Rattle.lawful_history.specs.Peers as history
-use Rattle.lawful_history.specs.Peers.{with_choice, chosen, opened_by, opened, driver_behind, stepped}
+use Rattle.lawful_history.specs.Peers.{with_choice, chosen, opened_by, opened, driver_after, stepped}
 use Rattle.plain_history.specs.declared.peers.Driver.{Driver}
 use Rattle.plain_history.specs.declared.peers.Driver.TheVariants.{Waits, Chooses, Storms}
 use Rattle.plain_history.specs.declared.peers.Peer.{Peer}
@@ -118,17 +118,17 @@ oldest_is [] call some is = absurd (omega arith)
 oldest_is (x ∷ calls) call some is = ap (λ (c : Call). c ∷ calls) (sym is)
 
 -- a step that is taken
-pub followed : (who : Who) (most : ℕ) (s s' : Peer) (peer : history.Peer) (step : Step) (met : ℕ) (e : End) → IsPeer who most s peer → step ≡ step_at who s.call met → ((seen : ends.End) → IsSeenAs s.end seen → IsSeenAs e (end_behind seen step)) →
-    HasCounted s.end step.marks e → s'.end ≡ e → s'.call ≡ next_place who s.call met → s'.waiting ≡ s.waiting → driver_seen s'.driver ≡ driver_behind (driver_seen s.driver) step.marks → HasFew (most + length step.marks) s'.driver →
+pub followed : (who : Who) (most : ℕ) (s s' : Peer) (peer : history.Peer) (step : Step) (met : ℕ) (e : End) → IsPeer who most s peer → step ≡ step_at who s.call met → ((seen : ends.End) → IsSeenAs s.end seen → IsSeenAs e (end_after seen step)) →
+    HasCounted s.end step.marks e → s'.end ≡ e → s'.call ≡ next_place who s.call met → s'.waiting ≡ s.waiting → driver_seen s'.driver ≡ driver_after (driver_seen s.driver) step.marks → HasFew (most + length step.marks) s'.driver →
     IsPeer who (most + 2) s' (stepped peer step (remaining who (next_place who s.call met)))
 followed who most s s' peer step met e stands is end counts same call waiting driver few =
     let marks = ap (λ (x : Step). x.marks) is in
     let two : length step.marks ≤ 2 = rw marks (marks_few who s.call met) in
     record {
-      end = subst (λ (x : End). IsSeenAs x (end_behind peer.end step)) (sym same) (end peer.end stands.end);
+      end = subst (λ (x : End). IsSeenAs x (end_after peer.end step)) (sym same) (end peer.end stands.end);
       left = ap (remaining who) call;
       waiting = ap (λ w. map call_seen w.items) waiting ∙ stands.waiting;
-      driver = driver ∙ ap (λ (d : history.Driver). driver_behind d step.marks) stands.driver;
+      driver = driver ∙ ap (λ (d : history.Driver). driver_after d step.marks) stands.driver;
       few = subst (λ (x : End). AreFew (most + 2) x) (sym same) (still_few most s.end e who s.call met step.marks marks stands.fresh stands.few counts);
       fresh = subst (λ (p : Place). IsFresh (most + 2) s'.end p) (sym call) (fresh_next (most + 2) s'.end who s.call met);
       delivered = few_wider (most + length step.marks) (most + 2) s'.driver (omega arith) few;

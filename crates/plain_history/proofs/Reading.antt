@@ -10,9 +10,9 @@ pub newest : (lines : List Line) (i : ℕ) (line : Line) → i < length lines �
 newest lines i line inside is =
     ap (λ (ls : List Line). reverse ls) (take_more lines i line inside ∙ ap (λ (l : Line). take i lines ++ l ∷ []) (sym is)) ∙ reverse-append (take i lines) (line ∷ [])
 
--- what is told behind a past
-pub behind : (first more past : List Line) → reverse (first ++ more) ++ past ≡ reverse more ++ (reverse first ++ past)
-behind first more past = ap (λ ls. ls ++ past) (reverse-append first more) ∙ append_assoc (reverse more) (reverse first) past
+-- what is told after a past
+pub reversed_after : (first more past : List Line) → reverse (first ++ more) ++ past ≡ reverse more ++ (reverse first ++ past)
+reversed_after first more past = ap (λ ls. ls ++ past) (reverse-append first more) ∙ append_assoc (reverse more) (reverse first) past
 
 oldest : (more past rest : List Line) → reverse (reverse more ++ past) ++ rest ≡ reverse past ++ (more ++ rest)
 oldest more past rest =

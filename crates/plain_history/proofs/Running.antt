@@ -12,7 +12,7 @@ use Rattle.scenario_text.specs.declared.acts.Act.{Act}
 use Rattle.scenario_text.specs.declared.acts.Act.TheVariants as act
 use Rattle.scenario_text.specs.Acts.{cost, turns_of}
 use Rattle.scenario_text.specs.Scenario.{World, IsWorld, is_aligned}
-use Rattle.link_laws.specs.Calls.{Who}
+use Rattle.call_grammar.specs.Calls.{Who}
 use Rattle.lawful_history.specs.declared.line.Line.{Line}
 use Rattle.lawful_history.specs.Schedule.{Event, Asked, Automated, Stormed, Turned, Acted, WasReset, Reached, Loses, Repeated, event_peer, register_event, events_of, schedule}
 use Rattle.lawful_history.specs.Given.{IsThere}
@@ -21,7 +21,7 @@ use Rattle.lawful_history.specs.Device.{losses_with}
 use Rattle.lawful_history.specs.Peers as history
 use Rattle.lawful_history.specs.Peers.{at_start}
 use Rattle.lawful_history.specs.Entries.{lines_of}
-use Rattle.lawful_history.specs.History.{Moment, peer_at, entry_of, peer_behind, happens, run, beginning, history}
+use Rattle.lawful_history.specs.History.{Moment, peer_at, entry_of, peer_after, happens, run, beginning, history}
 use Rattle.lawful_history.proofs.Owners.{is_same, is_other}
 use Rattle.lawful_history.proofs.There.{there_below, act_there}
 use Rattle.plain_history.specs.declared.peers.Peer.{Peer}
@@ -57,27 +57,27 @@ last_or [] x (suc k) found at P all here = absurd (cc)
 last_or (y ∷ xs) x zero found at P all here = all 0 found at
 last_or (y ∷ xs) x (suc k) found at P all here = last_or xs x k found at P (λ q s is. all (suc q) s is) here
 
--- The peers behind an event
+-- The peers after an event
 
 two_more : (count : ℕ) → 2 * count + 2 ≡ 2 * (count + 1)
 two_more count = omega arith
 
 peers_on : (world : World) (count : ℕ) (event : Event) (moment : Moment) (items : List Peer) (new : Peer) → length items ≡ length moment.peers → event_peer event < length moment.peers →
     ((p : ℕ) (peer : Peer) → slice_get items p ≡ Some peer → IsPeer (who_of world p) (2 * count) peer (peer_at moment p)) →
-    IsPeer (who_of world (event_peer event)) (2 * count + 2) new (peer_behind world moment event) →
+    IsPeer (who_of world (event_peer event)) (2 * count + 2) new (peer_after world moment event) →
     (k : ℕ) (found : Peer) (b : Bool) → (event_peer event == k) ≡ b → slice_get (slice_set items (event_peer event) new) k ≡ Some found → IsPeer (who_of world k) (2 * (count + 1)) found (peer_at (happens world moment event) k)
 peers_on world count event moment items new same inside stands here k found true is at =
     let p = event_peer event in
     let at_p : p ≡ k = is_same p k is in
-    let now : peer_at (happens world moment event) p ≡ peer_behind world moment event = get_or-set_same moment.peers p (peer_behind world moment event) at_start inside in
+    let now : peer_at (happens world moment event) p ≡ peer_after world moment event = get_or-set_same moment.peers p (peer_after world moment event) at_start inside in
     let new_is : new ≡ found = set_at items p k new found (sym at_p) at in
     let P : ℕ → Peer → Type 0 = λ q x. IsPeer (who_of world q) (2 * (count + 1)) x (peer_at (happens world moment event) q) in
-    let all : P p new = subst (λ (x : history.Peer). IsPeer (who_of world p) (2 * (count + 1)) new x) (sym now) (subst (λ n. IsPeer (who_of world p) n new (peer_behind world moment event)) (two_more count) here) in
+    let all : P p new = subst (λ (x : history.Peer). IsPeer (who_of world p) (2 * (count + 1)) new x) (sym now) (subst (λ n. IsPeer (who_of world p) n new (peer_after world moment event)) (two_more count) here) in
     subst (λ q. P q found) at_p (subst (λ (x : Peer). P p x) new_is all)
 peers_on world count event moment items new same inside stands here k found false is at =
     let p = event_peer event in
     let other : k ≢ p = is_other p k is in
-    let now : peer_at (happens world moment event) k ≡ peer_at moment k = get_or-set_other moment.peers p k (peer_behind world moment event) at_start other in
+    let now : peer_at (happens world moment event) k ≡ peer_at moment k = get_or-set_other moment.peers p k (peer_after world moment event) at_start other in
     let old : slice_get items k ≡ Some found = sym (set_beside items p k new other) ∙ at in
     peer_wider (who_of world k) (2 * count) (2 * (count + 1)) found (peer_at (happens world moment event) k) (omega arith) (subst (λ (x : history.Peer). IsPeer (who_of world k) (2 * count) found x) (sym now) (stands k found old))
 
@@ -100,15 +100,15 @@ losses_few (Repeated p vector) losses count q few = omega arith
 pub moment_on : (world : World) (lines : List Line) (count : ℕ) (event : Event) (moment : Moment) (s s' : plain.Moment) (new : Peer) → IsMoment world lines count moment s → event_peer event < world.geometry.peers →
     Reads lines (happens world moment event).past (Some s'.read) → AreTold world.geometry.peers (happens world moment event).past →
     ((lost : ℕ → ℕ) → HasLosses s.losses lost → HasLosses s'.losses (losses_with event lost)) → length s'.losses ≡ 8 → s'.peers.items ≡ slice_set s.peers.items (event_peer event) new →
-    IsPeer (who_of world (event_peer event)) (2 * count + 2) new (peer_behind world moment event) → IsMoment world lines (count + 1) (happens world moment event) s'
+    IsPeer (who_of world (event_peer event)) (2 * count + 2) new (peer_after world moment event) → IsMoment world lines (count + 1) (happens world moment event) s'
 moment_on world lines count event moment s s' new is there reads told losses seats items here = record {
   reads = reads;
   told = told;
   losses = losses moment.losses is.losses;
   seats = seats;
   few = λ q. losses_few event moment.losses count q (is.few q);
-  same = ap length items ∙ length-set s.peers.items (event_peer event) new ∙ is.same ∙ sym (length-set moment.peers (event_peer event) (peer_behind world moment event));
-  all = length-set moment.peers (event_peer event) (peer_behind world moment event) ∙ is.all;
+  same = ap length items ∙ length-set s.peers.items (event_peer event) new ∙ is.same ∙ sym (length-set moment.peers (event_peer event) (peer_after world moment event));
+  all = length-set moment.peers (event_peer event) (peer_after world moment event) ∙ is.all;
   peers = λ k found at. peers_on world count event moment s.peers.items new is.same (omega (arith, is.all)) is.peers here k found (event_peer event == k) refl (subst (λ (xs : List Peer). slice_get xs k ≡ Some found) items at);
 }
 
@@ -140,7 +140,7 @@ moment_at_start world lines s read losses count start = record {
       subst (λ (x : history.Peer). IsPeer (who_of world p) (2 * 0) peer x) (sym (get_or-replicate world.geometry.peers p at_start at_start (omega arith))) (start p peer at (who_of world p) (2 * 0));
 }
 
--- Events one behind the other
+-- Events one after the other
 
 run-append : (world : World) (xs ys : List Event) (moment : Moment) → run world (xs ++ ys) moment ≡ run world ys (run world xs moment)
 run-append world [] ys moment = refl
@@ -305,7 +305,7 @@ all_read world lines count s is same =
     let taken : length (take s.read lines) ≡ length lines = ap length (is.reads.1 ∙ sym same) in
     let count_is = length-take s.read lines in omega arith
 
--- the moment behind all acts
+-- the moment after all acts
 pub all_acts : (world : World) (lines : List Line) (i : ℕ) (s : plain.Moment) → length world.acts ≤ i → IsMoment world lines (turns_of (take i world.acts)) (run world (schedule (take i world.acts)) (beginning world)) s →
     IsMoment world lines (turns_of world.acts) (run world (schedule world.acts) (beginning world)) s
 all_acts world lines i s whole is = subst (λ (acts : List Act). IsMoment world lines (turns_of acts) (run world (schedule acts) (beginning world)) s) (take_all i world.acts whole) is

@@ -7,14 +7,14 @@ use Rattle.doorbell_irq.specs.DeviceRules.{effect_of}
 use Rattle.split_ring.specs.declared.steps.Access.{Access}
 use Rattle.split_ring.specs.declared.steps.Access.TheVariants as access
 use Rattle.scenario_text.specs.Scenario.{World}
-use Rattle.link_laws.specs.Steps.{Mark, Saw, Reclaim, Full, Accept, Look, Deliver, Return, Done, Down, Refuse, Over, Step}
+use Rattle.call_grammar.specs.Steps.{Mark, Saw, Reclaim, Full, Accept, Look, Deliver, Return, Done, Down, Refuse, Over, Step}
 use Rattle.lawful_history.specs.declared.line.Line.{Line}
 use Rattle.lawful_history.specs.declared.line.Line.TheVariants as line
 use Rattle.lawful_history.specs.Entries.{access_lines, mark_line, step_lines}
 use Rattle.lawful_history.specs.Device.{devices_of, device_events, told_by, lost_count, arrival, arrived, arrivals_by, arrivals, brought_by, step_interrupts}
 use Rattle.std.proofs.lemmas.Bool.Decides.{nat_tests}
 use Rattle.pci_space.specs.Fields.{is_access}
-use Rattle.link_laws.specs.Steps.{step_of}
+use Rattle.call_grammar.specs.Steps.{step_of}
 use Rattle.lawful_history.specs.Memory.{last_write}
 use Rattle.lawful_history.specs.Entries.{acted_lines}
 use Rattle.lawful_history.specs.Schedule.{DeviceAccess, ReadsConfig, WritesConfig, ReadsRegister, WritesRegister, ReadsMsix, WritesMsix}
@@ -23,16 +23,16 @@ use Rattle.lawful_history.specs.History.{may_write, acted_step}
 use Rattle.plain_history.specs.Events.{IsPlaced}
 use Rattle.plain_history.specs.Told.{IsTold, AreTold, FitsDoorbell}
 use Rattle.std.proofs.lemmas.List.{reverse-append, take-append-drop}
-use Rattle.plain_history.proofs.Reading.{behind, newest}
+use Rattle.plain_history.proofs.Reading.{reversed_after, newest}
 
 pub told-append : (peers : ℕ) (xs ys : List Line) → AreTold peers xs → AreTold peers ys → AreTold peers (xs ++ ys)
 told-append peers [] ys here more = more
 told-append peers (x ∷ xs) ys here more = (here.0, told-append peers xs ys here.1 more)
 
 -- the same lines the other way round
-pub told-behind : (peers : ℕ) (xs past : List Line) → AreTold peers xs → AreTold peers past → AreTold peers (reverse xs ++ past)
-told-behind peers [] past here more = more
-told-behind peers (x ∷ xs) past here more = subst (λ (ls : List Line). AreTold peers ls) (sym (behind (x ∷ []) xs past)) (told-behind peers xs (x ∷ past) here.1 (here.0, more))
+pub told-after : (peers : ℕ) (xs past : List Line) → AreTold peers xs → AreTold peers past → AreTold peers (reverse xs ++ past)
+told-after peers [] past here more = more
+told-after peers (x ∷ xs) past here more = subst (λ (ls : List Line). AreTold peers ls) (sym (reversed_after (x ∷ []) xs past)) (told-after peers xs (x ∷ past) here.1 (here.0, more))
 
 one_told : (peers : ℕ) (b : Bool) (p vector : ℕ) → IsTold peers (if b then line.Lost p vector else line.Interrupt p vector)
 one_told peers true p vector = tt
@@ -80,7 +80,7 @@ pub step_told : (world : World) (peers p : ℕ) (past : List Line) (losses : ℕ
 step_told world peers p past losses step there fits told =
     let first = access_lines p step.access step.value in
     let dev = brought_by world past losses first in
-    told-behind peers (step_lines p step dev) past
+    told-after peers (step_lines p step dev) past
     (told-append peers first (dev ++ map (mark_line p) step.marks) (access_told peers p step.access step.value there fits)
     (told-append peers dev (map (mark_line p) step.marks) (brought_told world peers past losses first) (marks_told peers p step.marks))) told
 
@@ -113,7 +113,7 @@ acted_told world p past losses access.Nothing there fits told = step_told world 
 pub reset_told : (world : World) (p : ℕ) (past : List Line) (losses : ℕ → ℕ) → p < world.geometry.peers → AreTold world.geometry.peers past →
     AreTold world.geometry.peers (reverse (line.Reset p ∷ arrivals world past losses (line.Reset p)) ++ past)
 reset_told world p past losses there told =
-    told-behind world.geometry.peers (line.Reset p ∷ arrivals world past losses (line.Reset p)) past (there, arrivals_told world world.geometry.peers past losses (line.Reset p) (told_by (line.Reset p))) told
+    told-after world.geometry.peers (line.Reset p ∷ arrivals world past losses (line.Reset p)) past (there, arrivals_told world world.geometry.peers past losses (line.Reset p) (told_by (line.Reset p))) told
 
 within : (offset width : ℕ) → is_access 256 offset width ≡ true → offset + width ≤ 256
 within offset width is = grind (arith, nat_tests)

@@ -4,16 +4,16 @@ use Rattle.std.specs.Prelude.{Option, Some, None, reverse}
 use Rattle.split_ring.specs.declared.steps.Access.{Access}
 use Rattle.split_ring.specs.declared.steps.Access.TheVariants as access
 use Rattle.scenario_text.specs.Scenario.{World}
-use Rattle.link_laws.specs.Steps.{Step, value_given, step_of}
-use Rattle.link_laws.specs.Trees.{CallTree, Ended, Does, Goes}
-use Rattle.link_laws.specs.Trees as trees
-use Rattle.link_laws.specs.Calls.{Who}
-use Rattle.link_laws.specs.Places.{Place, Closed, AtState, Clearing, Setting, Refusing, Downed, AtUsedIndex, AtUsedId, Filling, WritingLow, WritingHigh, WritingLength, WritingFlags, WritingEntry, WritingIndex, RingingOffer, AtAvailIndex, AtEntry, AtLow, AtHigh, AtLength, AtFlags, AtWord, GivingId, GivingLength, GivingIndex, RingingPoll, remaining, access_at, next_place, step_at, is_open, PlacesFollowTrees}
+use Rattle.call_grammar.specs.Steps.{Step, value_given, step_of}
+use Rattle.call_grammar.specs.Trees.{CallTree, Ended, Does, Goes}
+use Rattle.call_grammar.specs.Trees as trees
+use Rattle.call_grammar.specs.Calls.{Who}
+use Rattle.call_grammar.specs.Places.{Place, Closed, AtState, Clearing, Setting, Refusing, Downed, AtUsedIndex, AtUsedId, Filling, WritingLow, WritingHigh, WritingLength, WritingFlags, WritingEntry, WritingIndex, RingingOffer, AtAvailIndex, AtEntry, AtLow, AtHigh, AtLength, AtFlags, AtWord, GivingId, GivingLength, GivingIndex, RingingPoll, remaining, access_at, next_place, step_at, is_open, PlacesFollowTrees}
 use Rattle.lawful_history.specs.declared.line.Line.{Line}
 use Rattle.lawful_history.specs.Memory.{last_write}
 use Rattle.lawful_history.specs.Peers.{Driver, Peer, stepped}
 use Rattle.lawful_history.specs.History.{step_by, moved_by}
-use Rattle.lawful_history.specs.Storm.{storm_step, storm_behind}
+use Rattle.lawful_history.specs.Storm.{storm_step, storm_after}
 use Rattle.lawful_history.specs.Entries.{acted_lines, step_lines, turn_lines}
 use Rattle.lawful_history.specs.Peers.{Storms}
 use Rattle.lawful_history.specs.Device.{step_interrupts}
@@ -92,7 +92,7 @@ carried follow world lines past lost me it who most new place met step r left op
 
 -- a step of a storm
 pub storm_goes : (world : World) (lines past : List Line) (lost : ℕ → ℕ) (me x : ℕ) (it : Peer) (who : Who) (most : ℕ) (new : plain.Peer) (step : Step) (r : Option ℕ) → it.driver ≡ Storms x → step ≡ storm_step world me x →
-    GoesTo world lines (reverse (step_lines me step (step_interrupts world past lost me (Some step))) ++ past) who most (record it { driver = Storms (storm_behind x) }) new r →
+    GoesTo world lines (reverse (step_lines me step (step_interrupts world past lost me (Some step))) ++ past) who most (record it { driver = Storms (storm_after x) }) new r →
     GoesTo world lines (reverse (turn_lines me (driven_step world me it.driver) (step_interrupts world past lost me (driven_step world me it.driver))) ++ past) who most (driven it it.driver) new r
 storm_goes world lines past lost me x it who most new step r driver is goes =
     let P : Option Step → Peer → Type 0 = λ w y. GoesTo world lines (reverse (turn_lines me w (step_interrupts world past lost me w)) ++ past) who most y new r in

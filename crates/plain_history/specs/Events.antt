@@ -5,7 +5,7 @@ use Rattle.split_ring.specs.declared.steps.Access.{Access}
 use Rattle.split_ring.specs.declared.steps.Access.TheVariants as access
 use Rattle.scenario_text.specs.declared.acts.Act.{Act}
 use Rattle.scenario_text.specs.Scenario.{World, IsAllowed}
-use Rattle.link_laws.specs.Steps.{step_of}
+use Rattle.call_grammar.specs.Steps.{step_of}
 use Rattle.lawful_history.specs.declared.line.Line.{Line}
 use Rattle.lawful_history.specs.declared.line.Line.TheVariants.{Denied}
 use Rattle.lawful_history.specs.Entries.{denied_lines}
@@ -13,7 +13,7 @@ use Rattle.lawful_history.specs.History.{acted_step}
 use Rattle.plain_history.specs.Reading.{Meets}
 use Rattle.lawful_history.specs.Schedule as schedule
 use Rattle.lawful_history.specs.Schedule.{event_peer}
-use Rattle.link_plain.specs.Seen.{call_seen, access_seen}
+use Rattle.plain_calls.specs.Seen.{call_seen, access_seen}
 use Rattle.plain_history.specs.Told.{FitsDoorbell}
 use Rattle.plain_history.specs.declared.events.Event.{Event}
 use Rattle.plain_history.specs.declared.events.Event.TheVariants.{Asked, Automated, Stormed, Turned, Acted, WasReset, Reached, Loses, Repeated}

@@ -3,7 +3,7 @@ use Rattle.std.specs.Prelude.{ℕ, ◌≡◌, ◌+◌, ◌*◌, ◌≤◌, Bool,
 use Rattle.scenario_text.specs.Scenario.{World}
 use Rattle.lawful_history.specs.declared.line.Line.{Line}
 use Rattle.lawful_history.specs.Sides.{who_of}
-use Rattle.link_laws.specs.Calls.{Who}
+use Rattle.call_grammar.specs.Calls.{Who}
 use Rattle.lawful_history.specs.Peers as history_peers
 use Rattle.lawful_history.specs.History as history
 use Rattle.lawful_history.specs.History.{peer_at, step_in, peer_in}
@@ -21,7 +21,7 @@ abbrev pub GoesTo : World → List Line → List Line → Who → ℕ → histor
 GoesTo world lines past who most peer seen None = Reads lines past None
 GoesTo world lines past who most peer seen (Some read) = Reads lines past (Some read) × AreTold world.geometry.peers past × IsPeer who most seen peer
 
--- behind an event of a peer, the lines and the peer go on to its own
+-- after an event of a peer, the lines and the peer go on to its own
 abbrev pub GoesBy : World → List Line → List ℕ → Event → ℕ → Peer → Peer → Option ℕ → Type 0
 GoesBy world lines losses event read old new to =
     (past : List Line) (lost : ℕ → ℕ) (most : ℕ) (peer : history_peers.Peer) → Reads lines past (Some read) → AreTold world.geometry.peers past → HasLosses losses lost →
@@ -29,7 +29,7 @@ GoesBy world lines losses event read old new to =
     GoesTo world lines (reverse (lines_by event (step_in world peer past event) (device_lines world past lost event (step_in world peer past event))) ++ past)
     (who_of world (event_peer event)) (most + 2) (peer_in world peer past event) new to
 
--- behind so many events: the lines tell the past of the moment, and the losses and the peers are its own
+-- after so many events: the lines tell the past of the moment, and the losses and the peers are its own
 pub record IsMoment (world : World) (lines : List Line) (count : ℕ) (moment : history.Moment) (seen : Moment) : Type 0 where
   pub reads : Reads lines moment.past (Some seen.read)
   pub told : AreTold world.geometry.peers moment.past

@@ -1,13 +1,13 @@
 -- How the peers of this crate are seen: as the peers of a history.
 use Rattle.std.specs.Prelude.{ℕ, ◌≡◌, ◌≤◌, map}
-use Rattle.link_laws.specs.Automatic as laws
-use Rattle.link_laws.specs.Calls.{Who}
-use Rattle.link_laws.specs.Places.{Place, AtUsedIndex, remaining}
-use Rattle.link_plain.specs.declared.ends.End.{End}
-use Rattle.link_plain.specs.Seen.{call_seen, IsSeenAs}
+use Rattle.call_grammar.specs.Automatic as laws
+use Rattle.call_grammar.specs.Calls.{Who}
+use Rattle.call_grammar.specs.Places.{Place, AtUsedIndex, remaining}
+use Rattle.plain_calls.specs.declared.ends.End.{End}
+use Rattle.plain_calls.specs.Seen.{call_seen, IsSeenAs}
 use Rattle.lawful_history.specs.Peers as history
 use Rattle.plain_history.specs.declared.peers.Round.{Round}
-use Rattle.plain_history.specs.declared.peers.Round.TheVariants.{Anew, BehindOffer, BehindPoll}
+use Rattle.plain_history.specs.declared.peers.Round.TheVariants.{Anew, AfterOffer, AfterPoll}
 use Rattle.plain_history.specs.declared.peers.Choice.{Choice}
 use Rattle.plain_history.specs.declared.peers.Choice.TheVariants.{Tick, Offer, Poll, Finished}
 use Rattle.plain_history.specs.declared.peers.Auto.{Auto}
@@ -17,8 +17,8 @@ use Rattle.plain_history.specs.declared.peers.Peer.{Peer}
 
 abbrev pub round_seen : Round → laws.Round
 round_seen Anew = laws.Anew
-round_seen BehindOffer = laws.BehindOffer
-round_seen BehindPoll = laws.BehindPoll
+round_seen AfterOffer = laws.AfterOffer
+round_seen AfterPoll = laws.AfterPoll
 
 abbrev pub choice_seen : Choice → laws.Choice
 choice_seen Tick = laws.ChoosesTick

@@ -1,4 +1,4 @@
--- Lines that are read from the first to the last, over the history that stands behind them.
+-- Lines that are read from the first to the last, over the history that stands after them.
 use Rattle.split_ring.specs.declared.steps.Access.{Access}
 use Rattle.split_ring.specs.declared.steps.Access.TheVariants as access
 use Rattle.lawful_history.specs.Memory.{last_write}

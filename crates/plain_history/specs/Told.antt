@@ -39,7 +39,7 @@ told_by_access peer (access.State state) = Some (device.RegisterWritten peer 0x1
 told_by_access peer (access.Ring target vector) = Some (device.RegisterWritten peer 0x0C (65536 * target + vector))
 told_by_access peer access.Nothing = None
 
--- the interrupts that an event brings behind others
+-- the interrupts that an event brings after others
 abbrev pub brought : device.World → List device.Event → Option device.Event → List Delivery
 brought world events None = []
 brought world events (Some event) = (effect_of world events event).deliveries.items

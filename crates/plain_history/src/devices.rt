@@ -1,10 +1,10 @@
-//! Where the devices stand behind the lines before, and whom they interrupt then.
+//! Where the devices stand after the lines before, and whom they interrupt then.
 ghost use Rattle.std.specs.Prelude.{◌≡◌, ℕ, ◌<◌, Some, List, reverse};
 ghost use Rattle.doorbell_irq.specs.Events as device;
 ghost use Rattle.doorbell_irq.specs.Events.{WasReset};
 ghost use Rattle.doorbell_irq.specs.Stands.{Stands, peer_count};
 ghost use Rattle.doorbell_irq.specs.DeviceRules.{effect_of};
-ghost use Rattle.link_plain.specs.Seen.{access_seen};
+ghost use Rattle.plain_calls.specs.Seen.{access_seen};
 ghost use Rattle.lawful_history.specs.Sides.{world_of};
 ghost use Rattle.lawful_history.specs.Device.{devices_of, told_by, told_before, device_events};
 ghost use Rattle.plain_history.specs.Told.{IsTold, AreTold, FitsDoorbell, told_by_access, brought};
@@ -12,7 +12,7 @@ ghost use Rattle.plain_history.specs.Told.{IsTold, AreTold, FitsDoorbell, told_b
 use arrayvec::ArrayVec;
 use doorbell_irq::{Delivery, Device};
 use lawful_history::Line;
-use link_plain::Access;
+use plain_calls::Access;
 use scenario_text::Scenario;
 
 /// Tells the devices what a line says of them.
@@ -59,8 +59,8 @@ fn tell(devices: &mut Device, line: &Line)
     }
 }
 
-/// The devices behind these lines.
-pub fn devices_behind(scenario: &Scenario, lines: &[Line]) -> Device
+/// The devices after these lines.
+pub fn devices_after(scenario: &Scenario, lines: &[Line]) -> Device
     requires { AreTold scenario.now.geometry.peers (reverse lines.now) }
     ensures stands { Stands (devices_of (world_of scenario.now)) (device_events (reverse lines.now)) result }
     ensures peers { peer_count result ≡ scenario.now.geometry.peers }
@@ -72,7 +72,7 @@ pub fn devices_behind(scenario: &Scenario, lines: &[Line]) -> Device
     devices
 }
 
-/// Whom an access of a peer interrupts behind these lines.
+/// Whom an access of a peer interrupts after these lines.
 pub fn interrupted_by(
     scenario: &Scenario,
     me: u32,
@@ -86,12 +86,12 @@ pub fn interrupted_by(
 {
     match access {
         Access::State(state) => {
-            let mut devices = devices_behind(scenario, lines);
+            let mut devices = devices_after(scenario, lines);
             let effect = devices.register_write(me, 0x10, state);
             effect.deliveries
         }
         Access::Ring { target, vector } => {
-            let mut devices = devices_behind(scenario, lines);
+            let mut devices = devices_after(scenario, lines);
             let effect = devices.register_write(me, 0x0C, 65536 * target + vector);
             effect.deliveries
         }
@@ -99,13 +99,13 @@ pub fn interrupted_by(
     }
 }
 
-/// Whom a device reset of a peer interrupts behind these lines.
+/// Whom a device reset of a peer interrupts after these lines.
 pub fn interrupted_by_reset(scenario: &Scenario, me: u32, lines: &[Line]) -> ArrayVec<Delivery, 8>
     requires peer { me < scenario.now.geometry.peers }
     requires told { AreTold scenario.now.geometry.peers (reverse lines.now) }
     ensures { result.items ≡ brought (devices_of (world_of scenario.now)) (device_events (reverse lines.now)) (Some (WasReset me)) }
 {
-    let mut devices = devices_behind(scenario, lines);
+    let mut devices = devices_after(scenario, lines);
     let effect = devices.reset(me);
     effect.deliveries
 }

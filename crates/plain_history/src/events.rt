@@ -5,7 +5,7 @@ ghost use Rattle.lawful_history.specs.Schedule.{events_of, event_peer, register_
 ghost use Rattle.plain_history.specs.Events.{event_seen};
 
 use ivs_base::{Frame, NoMemory};
-use link_plain::{Access, Call};
+use plain_calls::{Access, Call};
 use scenario_text::Act;
 use std::alloc::Global;
 

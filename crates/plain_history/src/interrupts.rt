@@ -50,7 +50,7 @@ fn read_arrival(
     read_line(lines, read, &line)
 }
 
-/// Reads the lines of interrupts, one behind the other.
+/// Reads the lines of interrupts, one after the other.
 pub fn read_arrivals(
     losses: &[u64; 8],
     lines: &[Line],

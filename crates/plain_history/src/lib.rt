@@ -1,7 +1,7 @@
 //! Whether a history is lawful, decided by reading its lines from the first to the last: a plain program that goes over the
 //! schedule event by event, works out the lines of each from the lines before it, and looks for them in the history. What a
 //! word holds, where the devices stand and how many interrupts were lost it finds in the lines before, each time that it
-//! needs them. It stands on `link_plain` for the calls and on `doorbell_irq` for the devices, and shares no code with an
+//! needs them. It stands on `plain_calls` for the calls and on `doorbell_irq` for the devices, and shares no code with an
 //! engine or a stage. Its contract promises an answer of yes exactly where the history is lawful.
 #![tactic(auto)]
 

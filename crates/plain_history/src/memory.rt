@@ -1,13 +1,13 @@
 //! What a word of the region holds.
 ghost use Rattle.std.specs.Prelude.{◌≡◌, reverse};
 ghost use Rattle.split_ring.specs.declared.steps.Access.TheVariants as ring;
-ghost use Rattle.lawful_history.specs.Memory.{touch_of, value_behind, last_write};
+ghost use Rattle.lawful_history.specs.Memory.{touch_of, value_after, last_write};
 
 use lawful_history::Line;
 
-/// What a word holds behind a line, where it held this before.
-fn value_behind(line: &Line, at: u64, before: u32) -> u32
-    ensures { result ≡ value_behind (touch_of line.now) at before }
+/// What a word holds after a line, where it held this before.
+fn value_after(line: &Line, at: u64, before: u32) -> u32
+    ensures { result ≡ value_after (touch_of line.now) at before }
 {
     match line {
         Line::Write { word, value, .. } if u64::from(*word) == at => *value,
@@ -17,13 +17,13 @@ fn value_behind(line: &Line, at: u64, before: u32) -> u32
     }
 }
 
-/// What a word holds behind these lines.
+/// What a word holds after these lines.
 pub fn last_write(lines: &[Line], at: u64) -> u32
     ensures { result ≡ last_write (reverse lines.now) at }
 {
     let mut value = 0;
     for line in lines {
-        value = value_behind(line, at, value);
+        value = value_after(line, at, value);
     }
     value
 }

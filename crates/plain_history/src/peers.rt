@@ -1,19 +1,19 @@
 //! A peer in the middle of its schedule.
 ghost use Rattle.std.specs.Prelude.{◌≡◌, ℕ, ◌+◌, ◌*◌, ◌<◌, ◌≤◌, ◌-◌, ◌^◌, true, List, length, IfOk, OnOk};
-ghost use Rattle.link_laws.specs.Automatic.{choice_of};
-ghost use Rattle.link_laws.specs.Calls as laws;
-ghost use Rattle.link_laws.specs.Calls.{tree_of};
-ghost use Rattle.link_laws.specs.Places.{Closed, is_open, step_at, next_place, remaining};
-ghost use Rattle.link_plain.specs.Seen.{who_seen, call_seen, mark_seen, marks_seen, step_seen};
-ghost use Rattle.link_plain.specs.Following.{IsStorable};
+ghost use Rattle.call_grammar.specs.Automatic.{choice_of};
+ghost use Rattle.call_grammar.specs.Calls as laws;
+ghost use Rattle.call_grammar.specs.Calls.{tree_of};
+ghost use Rattle.call_grammar.specs.Places.{Closed, is_open, step_at, next_place, remaining};
+ghost use Rattle.plain_calls.specs.Seen.{who_seen, call_seen, mark_seen, marks_seen, step_seen};
+ghost use Rattle.plain_calls.specs.Following.{IsStorable};
 ghost use Rattle.lawful_history.specs.Peers as history;
-ghost use Rattle.lawful_history.specs.Peers.{asked, automated, stormed, was_reset, at_start, opened, chosen, counted, counted_all, driver_behind, stepped};
+ghost use Rattle.lawful_history.specs.Peers.{asked, automated, stormed, was_reset, at_start, opened, chosen, counted, counted_all, driver_after, stepped};
 ghost use Rattle.plain_history.specs.Peers.{IsPeer, HasFew, round_seen, auto_seen, choice_seen, driver_seen};
 
 use ivs_base::{Frame, NoMemory};
 use link_handshake::Phase;
-use link_laws::places_follow_trees;
-use link_plain::{Call, End, Mark, OpenCall, Step, Who};
+use call_grammar::places_follow_trees;
+use plain_calls::{Call, End, Mark, OpenCall, Step, Who};
 use std::alloc::Global;
 use std::mem::replace;
 
@@ -21,8 +21,8 @@ use std::mem::replace;
 #[derive(Clone, Copy, Debug)]
 pub enum Round {
     Anew,
-    BehindOffer,
-    BehindPoll,
+    AfterOffer,
+    AfterPoll,
 }
 
 /// What an automatic peer chooses: a call, or that it is finished.
@@ -112,8 +112,8 @@ impl Auto {
                 Some(frame) => Ok(Choice::Offer(Frame::of(alloc, frame.bytes())?)),
                 None => Ok(Choice::Poll),
             },
-            Round::BehindOffer => Ok(Choice::Poll),
-            Round::BehindPoll => Ok(Choice::Tick),
+            Round::AfterOffer => Ok(Choice::Poll),
+            Round::AfterPoll => Ok(Choice::Tick),
         }
     }
 }
@@ -131,7 +131,7 @@ impl Peer {
         }
     }
 
-    /// A call was put behind those that wait; but a frame for an automatic peer was put behind its frames.
+    /// A call was put after those that wait; but a frame for an automatic peer was put after its frames.
     pub fn ask(&mut self, call: Call) -> Result<(), NoMemory>
         ensures { OnOk result ((who : laws.Who) (most : ℕ) (peer : history.Peer) → IsPeer who most self.old peer → IsPeer who most self.new (asked peer (call_seen call))) }
     {
@@ -226,9 +226,9 @@ impl Peer {
         match choice {
             Choice::Tick => self.begin_in(alloc, who, &Call::Tick, Round::Anew)?,
             Choice::Offer(frame) => {
-                self.begin_in(alloc, who, &Call::Offer(frame), Round::BehindOffer)?
+                self.begin_in(alloc, who, &Call::Offer(frame), Round::AfterOffer)?
             }
-            Choice::Poll => self.begin_in(alloc, who, &Call::Poll, Round::BehindPoll)?,
+            Choice::Poll => self.begin_in(alloc, who, &Call::Poll, Round::AfterPoll)?,
             Choice::Finished => {}
         }
         Ok(())
@@ -253,7 +253,7 @@ impl Peer {
     /// Counts for an automatic peer what is marked on its step.
     fn count(&mut self, marks: &[Mark])
         requires { (most : ℕ) × HasFew most self.old.driver × (most + length marks.now < 2 ^ 64 - 1) }
-        ensures counted { driver_seen self.new.driver ≡ driver_behind (driver_seen self.old.driver) (marks_seen marks.now) }
+        ensures counted { driver_seen self.new.driver ≡ driver_after (driver_seen self.old.driver) (marks_seen marks.now) }
         ensures few { (most : ℕ) → HasFew most self.old.driver → HasFew (most + length marks.now) self.new.driver }
         ensures kept { (self.new.end ≡ self.old.end) × (self.new.call ≡ self.old.call) × (self.new.waiting ≡ self.old.waiting) }
     {
@@ -279,7 +279,7 @@ impl Peer {
         self.end.follow(step)?;
         self.count(step.marks.as_slice());
         let call = replace(&mut self.call, OpenCall::closed(alloc));
-        self.call = call.behind(alloc, who, met)?;
+        self.call = call.after(alloc, who, met)?;
         Ok(())
     }
 }

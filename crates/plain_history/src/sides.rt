@@ -1,9 +1,9 @@
 //! A peer and its partner.
 ghost use Rattle.std.specs.Prelude.{◌≡◌, ◌<◌, ◌^◌};
-ghost use Rattle.link_plain.specs.Seen.{who_seen};
+ghost use Rattle.plain_calls.specs.Seen.{who_seen};
 ghost use Rattle.lawful_history.specs.Sides.{traffic_vector, world_of, who_of, partner};
 
-use link_plain::Who;
+use plain_calls::Who;
 use pci_space::Wiring;
 use scenario_text::Scenario;
 

@@ -1,7 +1,7 @@
 //! The lines of a step: its access, the interrupts that this brings, and its marks.
 ghost use Rattle.std.specs.Prelude.{◌≡◌, ◌↔◌, ℕ, ◌<◌, ◌∷◌, [], ◌++◌, ◌≤◌, IsTrue, Some, IfSome, OnSome, List, length, map, reverse};
-ghost use Rattle.link_plain.specs.Seen.{access_seen, mark_seen, marks_seen, step_seen};
-ghost use Rattle.link_plain.specs.Following.{IsStorable};
+ghost use Rattle.plain_calls.specs.Seen.{access_seen, mark_seen, marks_seen, step_seen};
+ghost use Rattle.plain_calls.specs.Following.{IsStorable};
 ghost use Rattle.lawful_history.specs.Entries.{access_lines, mark_line, step_lines};
 ghost use Rattle.lawful_history.specs.Device.{step_interrupts};
 ghost use Rattle.lawful_history.specs.Sides.{world_of};
@@ -12,7 +12,7 @@ use crate::devices::interrupted_by;
 use crate::interrupts::read_arrivals;
 use crate::memory::last_write;
 use lawful_history::Line;
-use link_plain::{Access, Mark, Step};
+use plain_calls::{Access, Mark, Step};
 use scenario_text::Scenario;
 
 /// Is this the line of the access, which met this value?
@@ -116,7 +116,7 @@ fn read_marks(me: u32, marks: &[Mark], lines: &[Line], read: usize) -> Option<us
     Some(at)
 }
 
-/// What an access meets behind these lines: what a word holds that is read, else 0.
+/// What an access meets after these lines: what a word holds that is read, else 0.
 pub fn met_by(access: Access, lines: &[Line]) -> u32
     ensures { Meets (reverse lines.now) (access_seen access) result }
 {

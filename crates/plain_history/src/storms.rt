@@ -1,11 +1,11 @@
 //! The steps of a storm.
 ghost use Rattle.std.specs.Prelude.{◌≡◌, ◌<◌};
-ghost use Rattle.link_plain.specs.Seen.{access_seen, step_seen};
+ghost use Rattle.plain_calls.specs.Seen.{access_seen, step_seen};
 ghost use Rattle.lawful_history.specs.Sides.{world_of};
-ghost use Rattle.lawful_history.specs.Storm.{next_number, draw, drawn_access, storm_step, storm_behind};
+ghost use Rattle.lawful_history.specs.Storm.{next_number, draw, drawn_access, storm_step, storm_after};
 ghost use Rattle.plain_history.specs.Told.{FitsDoorbell};
 
-use link_plain::{Access, Step};
+use plain_calls::{Access, Step};
 use scenario_text::Scenario;
 use std::alloc::Global;
 
@@ -63,9 +63,9 @@ pub fn storm_step(alloc: Global, scenario: &Scenario, me: u32, x: u64) -> Step
     }
 }
 
-/// Where the generator is behind that step.
-pub fn storm_behind(x: u64) -> u64
-    ensures { result ≡ storm_behind x }
+/// Where the generator is after that step.
+pub fn storm_after(x: u64) -> u64
+    ensures { result ≡ storm_after x }
 {
     next_number(next_number(next_number(x)))
 }

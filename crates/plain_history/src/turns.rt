@@ -1,9 +1,9 @@
-//! The lines of an event of a peer, and where the peer is behind it.
+//! The lines of an event of a peer, and where the peer is after it.
 ghost use Rattle.std.specs.Prelude.{◌≡◌, ℕ, ◌+◌, ◌<◌, ◌≤◌, ◌^◌, ◌∷◌, ◌++◌, true, Some, IfOk, List, length, reverse};
 ghost use Rattle.lawful_history.specs.declared.line.Line.TheVariants.{Reset};
-ghost use Rattle.link_laws.specs.Calls as laws;
-ghost use Rattle.link_laws.specs.Places.{is_open};
-ghost use Rattle.link_plain.specs.Seen.{who_seen, access_seen};
+ghost use Rattle.call_grammar.specs.Calls as laws;
+ghost use Rattle.call_grammar.specs.Places.{is_open};
+ghost use Rattle.plain_calls.specs.Seen.{who_seen, access_seen};
 ghost use Rattle.lawful_history.specs.Schedule.{event_peer};
 ghost use Rattle.lawful_history.specs.Sides.{world_of, who_of};
 ghost use Rattle.lawful_history.specs.Entries.{turn_lines, acted_lines};
@@ -16,18 +16,18 @@ ghost use Rattle.plain_history.specs.Peers.{IsPeer};
 ghost use Rattle.plain_history.specs.Events.{event_seen, device_access_seen, HasWord, IsPlaced, IsDenied, CanHappen};
 ghost use Rattle.plain_history.specs.Moments.{GoesTo, GoesBy};
 
-use crate::devices::{devices_behind, interrupted_by_reset};
+use crate::devices::{devices_after, interrupted_by_reset};
 use crate::events::{DeviceAccess, Event};
 use crate::interrupts::read_arrivals;
 use crate::lines::read_line;
 use crate::peers::{Driver, Peer};
 use crate::sides::who_of;
 use crate::steps::{met_by, read_step};
-use crate::storms::{storm_behind, storm_step};
+use crate::storms::{storm_after, storm_step};
 use ivs_base::NoMemory;
 use lawful_history::Line;
-use link_laws::places_follow_trees;
-use link_plain::{Access, Step, Who};
+use call_grammar::places_follow_trees;
+use plain_calls::{Access, Step, Who};
 use scenario_text::Scenario;
 use std::alloc::Global;
 
@@ -82,7 +82,7 @@ fn read_driver(
     match &mut peer.driver {
         Driver::Storms(x) => {
             let step = storm_step(alloc, scenario, me, *x);
-            *x = storm_behind(*x);
+            *x = storm_after(*x);
             read_step(scenario, losses, me, &step, lines, read)
         }
         Driver::Waits | Driver::Chooses(_) => read_line(lines, read, &Line::Idle { peer: me }),
@@ -183,14 +183,14 @@ fn read_reset(
     read_arrivals(losses, lines, at, deliveries.as_slice())
 }
 
-/// The line of an access to the device behind these lines.
+/// The line of an access to the device after these lines.
 fn reached_line(scenario: &Scenario, me: u32, access: DeviceAccess, lines: &[Line]) -> Line
     requires there { me < scenario.now.geometry.peers }
     requires placed { IsPlaced (device_access_seen access) }
     requires told { AreTold scenario.now.geometry.peers (reverse lines.now) }
     ensures { result ≡ reached_line (world_of scenario.now) (reverse lines.now) me (device_access_seen access) }
 {
-    let device = devices_behind(scenario, lines);
+    let device = devices_after(scenario, lines);
     match access {
         DeviceAccess::ReadsConfig { offset, width } => Line::ConfigRead {
             peer: me,

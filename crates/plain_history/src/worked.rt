@@ -42,7 +42,7 @@ const SECOND: &str = "s 0 2\nover 0\nr 1 0 2\nsaw 1 2\n";
 const THIRD: &str =
     "s 1 2\nover 1\nr 0 1 2\nsaw 0 2\ns 0 3\nover 0\nr 1 0 3\nsaw 1 3\ns 1 3\nover 1\n";
 
-/// Those of `ONE_RUNS`, before and behind the section.
+/// Those of `ONE_RUNS`, before and after the section.
 const BEFORE: &str = "r 0 1 0\nsaw 0 0\ns 0 1\nover 0\ns 1 2\nr 0 1 2\nsaw 0 2\n";
 
 const BEHIND: &str = "s 0 2\nover 0\nr 0 1 2\nsaw 0 2\ns 0 3\nover 0\n";
@@ -53,10 +53,10 @@ fn history(alloc: Global, parts: &[Part], from: &str, to: &str) -> Result<String
     for part in parts {
         match *part {
             Part::Lines(lines) => match lines.split_once(from) {
-                Some((before, behind)) if !from.is_empty() => {
+                Some((before, after)) if !from.is_empty() => {
                     text.push_str(before)?;
                     text.push_str(to)?;
-                    text.push_str(behind)?;
+                    text.push_str(after)?;
                 }
                 _ => text.push_str(lines)?,
             },
@@ -79,7 +79,7 @@ fn history(alloc: Global, parts: &[Part], from: &str, to: &str) -> Result<String
     Ok(text)
 }
 
-/// Is this history, spelled line by line, lawful behind these acts?
+/// Is this history, spelled line by line, lawful after these acts?
 fn answer(alloc: Global, head: &str, acts: &str, history: &str) -> Result<bool, Fail> {
     let mut count = 0u64;
     for byte in history.bytes() {
@@ -92,7 +92,7 @@ fn answer(alloc: Global, head: &str, acts: &str, history: &str) -> Result<bool, 
     Ok(is_lawful(alloc, scenario, lines.items())?)
 }
 
-/// A history that ends with this line is lawful behind these acts: but not without that line, not with one more, and not with
+/// A history that ends with this line is lawful after these acts: but not without that line, not with one more, and not with
 /// one of these changes.
 fn stands_alone(
     rt: &impl Abort,
@@ -247,7 +247,7 @@ fn taken(alloc: Global, number: u32) -> Result<String, Fail> {
     Ok(text)
 }
 
-/// 45 frames fill the queue, a poll takes them all, and the offer behind it frees them.
+/// 45 frames fill the queue, a poll takes them all, and the offer after it frees them.
 #[test]
 fn full_ring(rt: HostRuntime) -> Result<(), Fail> {
     let alloc = rt.alloc();
@@ -330,7 +330,7 @@ fn reset_in_mid_offer(rt: HostRuntime) -> Result<(), Fail> {
     )
 }
 
-/// Beside a hostile peer: the history of these acts behind `ONE_RUNS`, of which these lines are the end.
+/// Beside a hostile peer: the history of these acts after `ONE_RUNS`, of which these lines are the end.
 fn beside_hostile(
     rt: &impl Abort,
     alloc: Global,
@@ -370,7 +370,7 @@ fn index_bound(rt: HostRuntime) -> Result<(), Fail> {
     )
 }
 
-/// One more word is written by hand, and then the poll's lines behind the read of the available index.
+/// One more word is written by hand, and then the poll's lines after the read of the available index.
 fn field(
     rt: &impl Abort,
     poke: &str,

@@ -32,7 +32,7 @@ all-more lines i line lt is all fits =
     let more : take (i + 1) lines ≡ take i lines ++ line ∷ [] = take_more lines i line lt ∙ ap (λ (l : Line). take i lines ++ l ∷ []) (sym is) in
     subst AllFit (sym more) (All-append Fits (take i lines) (line ∷ []) all (one line fits))
 
--- the parts of a record's text, one behind the other
+-- the parts of a record's text, one after the other
 pub parts : (front : List ℕ) (r : Record) → (((front ++ (first_line ++ 10 ∷ [])) ++ scenario.spelling r.world) ++ text_of pieces_of (map row_of_line r.lines)) ++ line_of_row pieces_of (row Count (length r.lines ∷ []) []) ≡ front ++ spelling r
 parts front r =
     text-push ((front ++ (first_line ++ 10 ∷ [])) ++ scenario.spelling r.world) (map row_of_line r.lines) (row Count (length r.lines ∷ []) [])

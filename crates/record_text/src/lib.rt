@@ -16,7 +16,7 @@ mod tests;
 mod trace;
 
 pub use faults::{RecordCause, RecordFault};
-pub use laws::{behind_is_bad_line, cut_is_no_end, fault_is_first};
+pub use laws::{bytes_after_end_are_bad_line, cut_is_no_end, fault_is_first};
 pub use printing::print;
 pub use reading::parse;
 pub use trace::Trace;

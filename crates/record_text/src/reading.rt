@@ -32,7 +32,7 @@ fn is_first_line(line: &[u8]) -> bool
     line == b"record 1".as_slice()
 }
 
-/// Reads the scenario behind the first line: the scenario, the bytes behind it, and how many lines are read.
+/// Reads the scenario after the first line: the scenario, the bytes after it, and how many lines are read.
 fn read_scenario(alloc: Global, bytes: &[u8]) -> Result<(Scenario, &[u8], u64), RecordFault>
     ensures reads { MatchResult result (λ r. from_scenario bytes.now ≡ from_history (world_of r.0) [] r.2 r.1.now) (λ fault. Refuses fault (faulted (from_scenario bytes.now))) }
     ensures few { IfOk result (λ r. r.2 + length r.1.now ≤ 1 + length bytes.now) }
@@ -54,7 +54,7 @@ fn read_scenario(alloc: Global, bytes: &[u8]) -> Result<(Scenario, &[u8], u64), 
     Err(RecordFault::NoEnd)
 }
 
-/// Reads the history behind so many lines.
+/// Reads the history after so many lines.
 fn read_history(
     alloc: Global,
     scenario: Scenario,

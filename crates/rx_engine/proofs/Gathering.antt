@@ -3,7 +3,7 @@ use Rattle.std.proofs.Common.{◌≡◌, ℕ, ◌+◌, ◌-◌, ◌*◌, ◌≤�
 use Rattle.std.proofs.Math.Seq.{take-append-add}
 use Rattle.std.proofs.lemmas.Grind.{flat_map-append}
 use Rattle.std.specs.List.{flat_map}
-use Rattle.link_laws.specs.Words.{word_bytes, frame_in}
+use Rattle.call_grammar.specs.Words.{word_bytes, frame_in}
 
 -- each word has four bytes
 pub length-words : (read : List ℕ) → length (flat_map word_bytes read) ≡ 4 * length read

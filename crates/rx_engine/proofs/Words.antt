@@ -5,10 +5,10 @@ use Rattle.std.proofs.lemmas.List.{take_all}
 use Rattle.std.specs.List.{flat_map}
 use Rattle.split_ring.specs.declared.steps.Note.{Note}
 use Rattle.split_ring.specs.declared.steps.Note.TheVariants as note
-use Rattle.link_laws.specs.Ends.{End}
-use Rattle.link_laws.specs.Ticks.{Who}
-use Rattle.link_laws.specs.Words.{word_bytes, words_for, frame_in}
-use Rattle.link_laws.specs.Places as laws
+use Rattle.call_grammar.specs.Ends.{End}
+use Rattle.call_grammar.specs.Ticks.{Who}
+use Rattle.call_grammar.specs.Words.{word_bytes, words_for, frame_in}
+use Rattle.call_grammar.specs.Places as laws
 use Rattle.rx_engine.specs.Receiver.{Receiver, words_read}
 use Rattle.rx_engine.specs.Stands.{StandsAt, TakesAt, place_seen}
 use Rattle.rx_engine.specs.declared.place.Place.TheVariants.{AtWord, GivingId}

@@ -3,11 +3,11 @@ use Rattle.std.specs.Prelude.{ℕ, ◌≡◌, ◌+◌, ◌-◌, ◌%◌, ◌==�
 use Rattle.link_handshake.specs.declared.Phase.{Phase}
 use Rattle.link_handshake.specs.declared.Phase.TheVariants.{Reset, Init, Ready, Run}
 use Rattle.split_ring.specs.declared.steps.Note.{Note}
-use Rattle.link_laws.specs.Steps.{marks_of}
-use Rattle.link_laws.specs.Ends.{End, end_behind}
-use Rattle.link_laws.specs.Ticks.{Who}
-use Rattle.link_laws.specs.Words.{word_bytes, words_for, frame_in}
-use Rattle.link_laws.specs.Places as laws
+use Rattle.call_grammar.specs.Steps.{marks_of}
+use Rattle.call_grammar.specs.Ends.{End, end_after}
+use Rattle.call_grammar.specs.Ticks.{Who}
+use Rattle.call_grammar.specs.Words.{word_bytes, words_for, frame_in}
+use Rattle.call_grammar.specs.Places as laws
 use Rattle.rx_engine.specs.Receiver.{Receiver, is_busy, words_read, unreturned}
 use Rattle.rx_engine.specs.declared.place.Place.{Place}
 use Rattle.rx_engine.specs.declared.place.Place.TheVariants.{Closed, AtAvailIndex, AtEntry, AtLow, AtHigh, AtLength, AtFlags, AtWord, GivingId, GivingLength, GivingIndex, Ringing, Refusing}
@@ -59,16 +59,16 @@ pub record StandsAt (rx : Receiver) (who : Who) (end : End) (place : laws.Place)
   pub gathered : rx.gathered ≡ flat_map word_bytes read
   pub place_is : place ≡ place_seen end.returned read rx.place
 
--- what the frame delivered last is behind the step at a place: nothing behind a word of the next frame, and that frame behind its last word
-abbrev pub frame_behind : laws.Place → ℕ → List ℕ → List ℕ
-frame_behind (laws.AtWord number more entry address bytes read words) value frame = if words == 0 then frame_in bytes (read ++ value ∷ []) else []
-frame_behind place value frame = frame
+-- what the frame delivered last is after the step at a place: nothing after a word of the next frame, and that frame after its last word
+abbrev pub frame_after : laws.Place → ℕ → List ℕ → List ℕ
+frame_after (laws.AtWord number more entry address bytes read words) value frame = if words == 0 then frame_in bytes (read ++ value ∷ []) else []
+frame_after place value frame = frame
 
 -- a step that met this value was that of the grammar, with these notes, for this end at this place
 pub record TakesAt (old : Receiver) (value : ℕ) (notes : List Note) (new : Receiver) (who : Who) (end : End) (place : laws.Place) : Type 0 where
   pub marks : marks_of new.frame notes ≡ laws.marks_at who place value
-  pub stands : StandsAt new who (end_behind end (laws.step_at who place value)) (laws.next_place who place value)
-  pub frame : new.frame ≡ frame_behind place value old.frame
+  pub stands : StandsAt new who (end_after end (laws.step_at who place value)) (laws.next_place who place value)
+  pub frame : new.frame ≡ frame_after place value old.frame
 
 -- it was so for each end, and at each place, for which the receiver stood
 abbrev pub Takes : Receiver → ℕ → List Note → Receiver → Type 0

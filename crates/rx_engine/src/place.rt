@@ -1,6 +1,6 @@
 //! Where an open poll is.
 
-/// The place of a poll between two steps, before the access that it is named after. `more` is how many items come behind the one in
+/// The place of a poll between two steps, before the access that it is named after. `more` is how many items come after the one in
 /// hand; `address` and `bytes` are in bytes, and `at` counts the words of the frame that were read.
 #[derive(Clone, Copy, Debug)]
 pub(crate) enum Place {
@@ -57,7 +57,7 @@ pub(crate) enum Place {
     GivingIndex {
         more: u32,
     },
-    /// The doorbell, behind the last item.
+    /// The doorbell, after the last item.
     Ringing,
     /// The State step of a poll that refused a value.
     Refusing,

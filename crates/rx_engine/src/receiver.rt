@@ -2,12 +2,12 @@
 ghost use Rattle.std.specs.Prelude.{ℕ, ◌≡◌, ◌+◌, ◌-◌, ◌*◌, ◌≤◌, ◌<◌, ◌^◌, [], ◌∷◌, ◌++◌, true, false, IfOk, option_to_list, min, length, take};
 ghost use Rattle.link_handshake.specs.declared.Phase.TheVariants.{Run};
 ghost use Rattle.split_ring.specs.Spelling.{entry_half};
-ghost use Rattle.link_laws.specs.Ends.{End};
-ghost use Rattle.link_laws.specs.Ticks.{Who};
-ghost use Rattle.link_laws.specs.Calls.{Poll};
-ghost use Rattle.link_laws.specs.Words.{word_bytes};
-ghost use Rattle.link_laws.specs.Places as laws;
-ghost use Rattle.link_laws.specs.Reach.{HasSections, InReach};
+ghost use Rattle.call_grammar.specs.Ends.{End};
+ghost use Rattle.call_grammar.specs.Ticks.{Who};
+ghost use Rattle.call_grammar.specs.Calls.{Poll};
+ghost use Rattle.call_grammar.specs.Words.{word_bytes};
+ghost use Rattle.call_grammar.specs.Places as laws;
+ghost use Rattle.call_grammar.specs.Reach.{HasSections, InReach};
 ghost use Rattle.rx_engine.specs.Receiver.{fresh_receiver, is_busy, words_read, IsReached, KeepsNumbers};
 ghost use Rattle.rx_engine.specs.Stands.{IsMadeFor, IsFreshSession, StandsAt, Takes, ClosedStays};
 

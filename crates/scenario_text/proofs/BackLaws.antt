@@ -30,13 +30,13 @@ text-append rs r rest =
 line-cons : (line : List ℕ) (lines : List (List ℕ)) → text_of_lines (line ∷ lines) ≡ line ++ 10 ∷ text_of_lines lines
 line-cons line lines = flat_map-cons (λ l. l ++ 10 ∷ []) line lines ∙ append_assoc line (10 ∷ []) (text_of_lines lines)
 
--- what holds behind a line that is taken
-pub record Behind (d : SoFar) (line : List ℕ) (e : SoFar) : Type 0 where
+-- what holds after a line that is taken
+pub record After (d : SoFar) (line : List ℕ) (e : SoFar) : Type 0 where
   pub good : Good e.stage e
   pub text : (rest : List ℕ) → text_of pieces_of (before d.stage d) ++ (line ++ 10 ∷ rest) ≡ text_of pieces_of (before e.stage e) ++ rest
 
-pub behind : (d : SoFar) (line : List ℕ) (e : SoFar) → Good d.stage d → step d line ≡ Ok e → Behind d line e
-behind d line e good is =
+pub after : (d : SoFar) (line : List ℕ) (e : SoFar) → Good d.stage d → step d line ≡ Ok e → After d line e
+after d line e good is =
     let t = step-ok d line e is in
     let a = row_adds d t.taken t.can good in
     let P : SoFar → Type 0 = λ x. Good x.stage x in
@@ -59,10 +59,10 @@ record Whole (d : SoFar) (lines : List (List ℕ)) (e : SoFar) : Type 0 where
 whole : (d : SoFar) (lines : List (List ℕ)) (e : SoFar) → Good d.stage d → Leads machine d lines e → Whole d lines e
 whole d [] e good leads = absurd leads
 whole d (line ∷ []) e good leads =
-    let b = behind d line e good leads.1 in
+    let b = after d line e good leads.1 in
     record { good = b.good; ended = leads.2; text = ap (λ (t : List ℕ). text_of pieces_of (before d.stage d) ++ t) (line-cons line []) ∙ b.text [] ∙ append-nil _ }
 whole d (line ∷ next ∷ more) e good leads =
-    let b = behind d line leads.0 good leads.2 in
+    let b = after d line leads.0 good leads.2 in
     let w = whole leads.0 (next ∷ more) e b.good leads.4 in
     record { good = w.good; ended = w.ended; text = ap (λ (t : List ℕ). text_of pieces_of (before d.stage d) ++ t) (line-cons line (next ∷ more)) ∙ b.text (text_of_lines (next ∷ more)) ∙ w.text }
 
@@ -116,9 +116,9 @@ rows_are e good =
     let t : 4 * (e.table / 4) ≡ e.table = whole_pages e.table good.0.region.table_pages.1 in
     let c : 4 * (e.common / 4) ≡ e.common = whole_pages e.common good.0.region.common_pages in
     let o : 4 * (e.out / 4) ≡ e.out = whole_pages e.out good.0.region.out_pages.1 in
-    let behind_head : List (Row Form) = row_of_wiring e.wiring ∷ rows_of_peers 0 e.honest in
-    let head : (row Version (1 ∷ []) [] ∷ row Peers (e.peers ∷ []) [] ∷ row Table (e.table ∷ []) [] ∷ row Common (e.common ∷ []) [] ∷ row Out (e.out ∷ []) [] ∷ row Mtu (e.mtu ∷ []) [] ∷ behind_head)
-    ≡ (row Version (1 ∷ []) [] ∷ row Peers (e.peers ∷ []) [] ∷ row Table (4 * (e.table / 4) ∷ []) [] ∷ row Common (4 * (e.common / 4) ∷ []) [] ∷ row Out (4 * (e.out / 4) ∷ []) [] ∷ row Mtu (e.mtu ∷ []) [] ∷ behind_head) = rw (t, c, o) refl in
+    let after_head : List (Row Form) = row_of_wiring e.wiring ∷ rows_of_peers 0 e.honest in
+    let head : (row Version (1 ∷ []) [] ∷ row Peers (e.peers ∷ []) [] ∷ row Table (e.table ∷ []) [] ∷ row Common (e.common ∷ []) [] ∷ row Out (e.out ∷ []) [] ∷ row Mtu (e.mtu ∷ []) [] ∷ after_head)
+    ≡ (row Version (1 ∷ []) [] ∷ row Peers (e.peers ∷ []) [] ∷ row Table (4 * (e.table / 4) ∷ []) [] ∷ row Common (4 * (e.common / 4) ∷ []) [] ∷ row Out (4 * (e.out / 4) ∷ []) [] ∷ row Mtu (e.mtu ∷ []) [] ∷ after_head) = rw (t, c, o) refl in
     ap (λ (rs : List (Row Form)). rs ++ row Begin [] [] ∷ [] ++ map row_of_act e.acts ++ row End [] [] ∷ []) head
 
 pub ended_is : (e : SoFar) → has_ended e ≡ true → e.stage ≡ Ended

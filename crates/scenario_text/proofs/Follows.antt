@@ -17,7 +17,7 @@ use Rattle.scenario_text.specs.Scenario.{is_in_range, is_its_peer, is_frame_size
 use Rattle.scenario_text.specs.Judge.{SoFar, world_so_far, is_out_of_order, numbers_in, frame_in, fits_sizes, act_of, add, turns_with, judge, step}
 use Rattle.scenario_text.proofs.TableLaws.{is_table}
 
--- the row can stand behind what the lines so far say
+-- the row can stand after what the lines so far say
 pub record CanFollow (d : SoFar) (r : Row Form) : Type 0 where
   pub values : Fit (pieces_of r.form) r.numbers
   pub bytes : FitBytes (pieces_of r.form) r.frame

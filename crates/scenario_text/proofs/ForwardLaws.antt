@@ -142,7 +142,7 @@ peers_along peers table common out mtu wiring front (b ∷ rest) p same all few 
 
 -- ---- the acts
 
--- at the acts of this world, behind these
+-- at the acts of this world, after these
 abbrev pub at_acts : World → List Act → SoFar
 at_acts w front = record { stage = AtActs; peers = w.geometry.peers; table = 4 * w.geometry.table; common = 4 * w.geometry.common; out = 4 * w.geometry.out; mtu = w.queue.mtu; wiring = w.wiring; honest = w.honest; acts = front }
 

@@ -34,7 +34,7 @@ world_with acts = record {
 
 -- ---- each act is allowed
 
--- an act that is allowed behind any acts
+-- an act that is allowed after any acts
 abbrev IsFree : List Act → Act → Type 0
 IsFree acts act = (before : List Act) → IsAllowed (world_with acts) before act
 

@@ -14,7 +14,7 @@ use Rattle.scenario_text.proofs.SizeLaws.{is_geometry-true, is_queue-true}
 use Rattle.scenario_text.proofs.ReadLaws.{same_fault}
 use Rattle.scenario_text.proofs.ForwardLaws.{is_answered}
 use Rattle.scenario_text.proofs.StageLaws.{Good}
-use Rattle.scenario_text.proofs.BackLaws.{behind, ended_is, is_read, is_world}
+use Rattle.scenario_text.proofs.BackLaws.{after, ended_is, is_read, is_world}
 
 read_of : (said : Result SoFar (Wrong Cause)) (d : SoFar) → faulted said ≡ Ok d → said ≡ Ok d
 read_of (Ok e) d is = ap (λ (x : SoFar). Ok x) (same e d is)
@@ -31,7 +31,7 @@ whole_at_end e good is =
 
 -- a good line keeps what holds
 pub line_keeps : (d : SoFar) (line : List ℕ) (e : SoFar) → Good d.stage d → step d line ≡ Ok e → Good e.stage e
-line_keeps d line e good is = (behind d line e good is).good
+line_keeps d line e good is = (after d line e good is).good
 
 -- it holds before the first line
 pub good_at_start : Good at_start.stage at_start

@@ -6,7 +6,7 @@ use Rattle.line_text.specs.Numbers.{number_of}
 use Rattle.line_text.specs.Forms.{fields_of, numbers_of, hex_of, hex_bytes, is_printable}
 use Rattle.line_text.specs.Rows.{find_form}
 use Rattle.line_text.specs.Steps.{◌>>=◌, some_or}
-use Rattle.line_text.specs.Machine.{Machine, Wrong, At, Behind, NoEnd, read}
+use Rattle.line_text.specs.Machine.{Machine, Wrong, At, After, NoEnd, read}
 use Rattle.section_map.specs.Faults.{shape_of}
 use Rattle.pci_space.specs.declared.wiring.Wiring.{Wiring}
 use Rattle.pci_space.specs.declared.wiring.Wiring.TheVariants as wirings
@@ -216,10 +216,10 @@ fault_at BadFrame n = faults.BadFrame n
 fault_at BadGeometry n = faults.BadGeometry n
 fault_at TooManyTurns n = faults.TooManyTurns n
 
--- bytes behind the end are a line that is bad
+-- bytes after the end are a line that is bad
 abbrev pub fault_of : Wrong Cause → ScenarioFault
 fault_of (At cause n) = fault_at cause n
-fault_of (Behind n) = faults.BadLine n
+fault_of (After n) = faults.BadLine n
 fault_of NoEnd = faults.NoEnd
 
 -- the same with the fault that is answered

@@ -17,9 +17,9 @@ IsReadAgain = (scenario : Scenario) → answer (spelling (world_of scenario)) �
 abbrev pub CutIsNoEnd : Type 0
 CutIsNoEnd = (w : World) (bytes : List ℕ) (j : ℕ) → IsSpelling w bytes → j < length bytes → answer (take j bytes) ≡ Err NoEnd
 
--- bytes behind a text of L lines are the line L + 1, which is bad
-abbrev pub BehindIsBadLine : Type 0
-BehindIsBadLine = (w : World) (bytes more : List ℕ) → IsSpelling w bytes → 0 < length more → answer (bytes ++ more) ≡ Err (BadLine (length (rows_of w) + 1))
+-- bytes after a text of L lines are the line L + 1, which is bad
+abbrev pub BytesAfterEndAreBadLine : Type 0
+BytesAfterEndAreBadLine = (w : World) (bytes more : List ℕ) → IsSpelling w bytes → 0 < length more → answer (bytes ++ more) ≡ Err (BadLine (length (rows_of w) + 1))
 
 -- the line that a fault names is the first bad one: the lines before it are good
 abbrev pub FaultIsFirst : Type 0

@@ -20,7 +20,7 @@ load_offers count = map (λ k. Offer 0 (load_frame k)) (range_with_len 0 count)
 unfoldable pub load_rounds : ℕ → List Act
 load_rounds count = flat_map (λ _. Turn 0 64 ∷ Turn 1 64 ∷ []) (range_with_len 0 count)
 
--- both peers choose their calls, peer 1 until it has delivered all frames; behind the offers come 200 rounds, and one more for each
+-- both peers choose their calls, peer 1 until it has delivered all frames; after the offers come 200 rounds, and one more for each
 -- three frames
 abbrev pub load_acts : ℕ → List Act
 load_acts count = Auto 0 0 ∷ Auto 1 count ∷ load_offers count ++ load_rounds (200 + (count + 2) / 3)

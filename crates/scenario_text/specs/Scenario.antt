@@ -1,4 +1,4 @@
--- What makes a scenario (profile). A head gives the world, and each act is allowed behind the acts before it.
+-- What makes a scenario (profile). A head gives the world, and each act is allowed after the acts before it.
 use Rattle.std.specs.Prelude.{◌≡◌, ℕ, ◌+◌, ◌*◌, ◌%◌, ◌≤◌, ◌==◌, ◌&&◌, ◌||◌, not, nat_lt, nat_le, if◌then◌else◌, Bool, true, false, List, length, take, slice_index, slice_index_or, slice_get, Some}
 use Rattle.line_text.specs.Forms.{Fit, FitBytes}
 use Rattle.section_map.specs.Geometry.{Shape, IsShape, word_count}
@@ -23,7 +23,7 @@ pub record World : Type 0 where
 
 -- ---- the order of acts
 
--- behind these acts the form is out of order for P: an automatic peer queues no tick, poll or stop, `auto` comes at
+-- after these acts the form is out of order for P: an automatic peer queues no tick, poll or stop, `auto` comes at
 -- most once and before any call line, and `storm` at most once
 abbrev pub is_too_late : List Act → Form → ℕ → Bool
 is_too_late acts Tick p = has_auto acts p
@@ -97,7 +97,7 @@ is_frame_size w _ size = true
 
 -- ---- a scenario
 
--- the act is allowed in this world behind these acts
+-- the act is allowed in this world after these acts
 pub record IsAllowed (w : World) (before : List Act) (act : Act) : Type 0 where
   pub values : Fit (pieces_of (row_of_act act).form) (row_of_act act).numbers
   pub bytes : FitBytes (pieces_of (row_of_act act).form) (row_of_act act).frame
@@ -106,7 +106,7 @@ pub record IsAllowed (w : World) (before : List Act) (act : Act) : Type 0 where
   pub peer : is_its_peer w (row_of_act act).form (row_of_act act).numbers ≡ true
   pub frame : is_frame_size w (row_of_act act).form (length (row_of_act act).frame) ≡ true
 
--- each act is allowed behind the ones before it
+-- each act is allowed after the ones before it
 abbrev pub AreAllowed : World → Type 0
 AreAllowed w = (k : ℕ) (act : Act) → slice_get w.acts k ≡ Some act → IsAllowed w (take k w.acts) act
 

@@ -1,4 +1,4 @@
-//! What the lines behind `begin` ask for.
+//! What the lines after `begin` ask for.
 ghost use Rattle.std.specs.Prelude.{◌≡◌, ◌++◌, [], ◌∷◌, OnOk, OnErr};
 ghost use Rattle.scenario_text.specs.Acts.{cost, peer_of};
 
@@ -6,7 +6,7 @@ use ivs_base::{Frame, NoMemory};
 use std::alloc::Global;
 use std::marker::Model;
 
-/// One line behind `begin`: what happens next in the world. `peer` is the peer that the line names.
+/// One line after `begin`: what happens next in the world. `peer` is the peer that the line names.
 #[derive(Debug, Drop)]
 pub enum Act {
     /// Queues a call that looks at the other's state. The peer is an honest link peer.

@@ -38,7 +38,7 @@ impl Cause {
 /// TooManyTurns is the answer.
 #[derive(Clone, Copy, Debug, PartialEq, Eq, Error)]
 pub enum ScenarioFault {
-    /// The line is none of the forms, has a byte outside of 20h to 7Eh, or stands behind `end`.
+    /// The line is none of the forms, has a byte outside of 20h to 7Eh, or stands after `end`.
     #[error("line {0} has no form")]
     BadLine(u64),
     /// A number field is no number or is out of its range.

@@ -1,5 +1,5 @@
 //! What holds of all texts of scenarios. Each function does nothing: its contract is the law.
-ghost use Rattle.scenario_text.specs.Laws.{IsReadAgain, CutIsNoEnd, BehindIsBadLine, FaultIsFirst};
+ghost use Rattle.scenario_text.specs.Laws.{IsReadAgain, CutIsNoEnd, BytesAfterEndAreBadLine, FaultIsFirst};
 
 /// What `print` writes of a scenario, `parse` reads as that scenario.
 pub fn printed_is_read_again()
@@ -11,9 +11,9 @@ pub fn cut_is_no_end()
     ensures { CutIsNoEnd }
 {}
 
-/// Bytes behind a text are its next line, with a newline or without, and that line is bad.
-pub fn behind_is_bad_line()
-    ensures { BehindIsBadLine }
+/// Bytes after a text are its next line, with a newline or without, and that line is bad.
+pub fn bytes_after_end_are_bad_line()
+    ensures { BytesAfterEndAreBadLine }
 {}
 
 /// The line that a fault names is bad, and the lines before it are good.

@@ -52,7 +52,7 @@ AreItems-append q words position (first ∷ lines) line are is = (are.0, AreItem
 pub no_items : (q : Sizes) (words : ℕ → ℕ) (position : ℕ) (text : List ℕ) → Puts (AreItemsOf q words position 0) text text
 no_items q words position text = ([], (tt, refl), sym (append-nil text))
 
--- one more item behind those of count positions
+-- one more item after those of count positions
 pub more_items : (q : Sizes) (words : ℕ → ℕ) (position count : ℕ) (old text new : List ℕ) → Puts (AreItemsOf q words position count) old text
     → Puts (IsItemLine q words ((position + count) % 65536)) text new → Puts (AreItemsOf q words position (count + 1)) old new
 more_items q words position count old text new (lines, are, is) ([], item, puts) = absurd item
@@ -63,8 +63,8 @@ more_items q words position count old text new (lines, are, is) (line ∷ [], it
   puts ∙ ap (λ bytes. bytes ++ text_of (line ∷ [])) is ∙ append_assoc old (text_of lines) (text_of (line ∷ [])) ∙ ap (λ bytes. old ++ bytes) (sym (flat_map-append line_of lines (line ∷ []))),
 )
 
-behind_one : (line : Line) (lines : List Line) (old text new : List ℕ) → text ≡ old ++ line_of line → new ≡ text ++ text_of lines → new ≡ old ++ text_of (line ∷ lines)
-behind_one line lines old text new first more = more ∙ ap (λ bytes. bytes ++ text_of lines) first ∙ append_assoc old (line_of line) (text_of lines)
+after_one : (line : Line) (lines : List Line) (old text new : List ℕ) → text ≡ old ++ line_of line → new ≡ text ++ text_of lines → new ≡ old ++ text_of (line ∷ lines)
+after_one line lines old text new first more = more ∙ ap (λ bytes. bytes ++ text_of lines) first ∙ append_assoc old (line_of line) (text_of lines)
 
 -- a section with its items
 pub listed_section : (q : Sizes) (words others : ℕ → ℕ) (peer available used count : ℕ) (old text new : List ℕ)
@@ -79,7 +79,7 @@ listed_section q words others peer available used count old text new a u inside 
     listed = λ _. rw (sym a, sym u, sym inside.1) are;
     refused = λ outside. absurd (outside (rw (sym a, sym u) inside.0));
   },
-  behind_one (Section peer available used) items old text new begins is,
+  after_one (Section peer available used) items old text new begins is,
 )
 
 -- a section whose indices are too far apart
@@ -95,6 +95,6 @@ refused_section q words others peer available used old text new a u outside begi
     listed = λ inside. absurd (outside (rw (a, u) inside));
     refused = λ _. ap (λ n. Bad n AvailIndex n ∷ []) a;
   },
-  behind_one (Section peer available used) (Bad available AvailIndex available ∷ []) old text new begins
+  after_one (Section peer available used) (Bad available AvailIndex available ∷ []) old text new begins
       (is ∙ ap (λ bytes. text ++ bytes) (sym (append-nil (line_of (Bad available AvailIndex available))))),
 )

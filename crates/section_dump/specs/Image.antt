@@ -44,7 +44,7 @@ pub record IsImage (image : List ℕ) : Type 0 where
 abbrev pub words_from : List ℕ → (first i : ℕ) → ℕ
 words_from image first i = little_number 4 (drop (4 * (first + i)) image)
 
--- the words of the region, behind the 8 of the header
+-- the words of the region, after the 8 of the header
 abbrev pub region_words : List ℕ → ℕ → ℕ
 region_words image = words_from image 8
 

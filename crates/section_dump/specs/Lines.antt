@@ -53,6 +53,6 @@ line_of line = join_with_byte 32 (fields_of line) ++ 10 ∷ []
 abbrev pub text_of : List Line → List ℕ
 text_of lines = flat_map line_of lines
 
--- the text is the old one and behind it some lines, of which P holds
+-- the text is the old one and after it some lines, of which P holds
 abbrev pub Puts : (List Line → Type 0) → (old new : List ℕ) → Type 0
 Puts P old new = (lines : List Line) × P lines × (new ≡ old ++ text_of lines)

@@ -51,7 +51,7 @@ impl Header {
     }
 }
 
-/// The word `i` of the region, which stands behind the header.
+/// The word `i` of the region, which stands after the header.
 pub fn region_word(image: &[u8], i: u32) -> u32
     requires { 32 + 4 * i + 4 ≤ length image.now }
     ensures { result ≡ words_from image.now 8 i }

@@ -33,7 +33,7 @@ pub enum DumpFault {
     /// The image ends before the region does.
     #[error("the image needs {need} bytes and has {found}")]
     ShortImage { need: u64, found: u64 },
-    /// Bytes stand behind the region.
+    /// Bytes stand after the region.
     #[error("the image has {need} bytes and {found} were given")]
     LongImage { need: u64, found: u64 },
     /// Memory ran out.

@@ -9,7 +9,7 @@ pub record Shape : Type 0 where
   pub common : ℕ
   pub out : ℕ
 
--- the word at which the output section of a peer starts: behind the table, the common section and the
+-- the word at which the output section of a peer starts: after the table, the common section and the
 -- sections of the peers before it
 abbrev pub section_start : Shape → ℕ → ℕ
 section_start g peer = g.table + g.common + peer * g.out

@@ -8,7 +8,7 @@ use Rattle.section_map.specs.declared.sizes.Section.TheVariants.{Table, Common, 
 abbrev pub InSection : Shape → ℕ → ℕ → Type 0
 InSection g peer word = (section_start g peer ≤ word) × (word < section_start g peer + g.out)
 
--- the word lies in the common section, right behind the State Table
+-- the word lies in the common section, right after the State Table
 abbrev pub InCommon : Shape → ℕ → Type 0
 InCommon g word = (g.table ≤ word) × (word < g.table + g.common)
 

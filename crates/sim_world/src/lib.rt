@@ -1,4 +1,4 @@
-//! The simulation: the lawful history of a scenario, made act by act on a stage. It stands on `link_world` for the stage, and on
+//! The simulation: the lawful history of a scenario, made act by act on a stage. It stands on `stage` for the stage, and on
 //! `record_text` for the trace that it makes. The contract of `simulate` promises the one lawful history of its scenario, whatever
 //! its acts are.
 #![tactic(auto)]
@@ -13,7 +13,7 @@ mod tests;
 
 use ivs_base::NoMemory;
 use lawful_history::history_is_lawful;
-use link_world::Stage;
+use stage::Stage;
 use record_text::Trace;
 use scenario_text::{Act, Scenario};
 use std::alloc::Global;

@@ -29,9 +29,9 @@ NonePasses p xs = (m : ℕ) → Among m xs → p m ≡ true → ⊥
 not_first : (p : ℕ → Bool) (x m : ℕ) → p x ≡ false → p m ≡ true → m ≡ x → ⊥
 not_first p x m fails passes e = let h : p x ≡ true = subst (λ n. p n ≡ true) e passes in grind arith
 
-behind_one : (p : ℕ → Bool) (x : ℕ) (xs : List ℕ) (o : Option ℕ) → p x ≡ false → MatchOption o (NonePasses p xs) (IsGreatest p xs) → MatchOption o (NonePasses p (x ∷ xs)) (IsGreatest p (x ∷ xs))
-behind_one p x xs None fails h = λ m a passes. elim a [ inl e ↦ not_first p x m fails passes e | inr b ↦ h m b passes ]
-behind_one p x xs (Some n) fails h = record {
+after_one : (p : ℕ → Bool) (x : ℕ) (xs : List ℕ) (o : Option ℕ) → p x ≡ false → MatchOption o (NonePasses p xs) (IsGreatest p xs) → MatchOption o (NonePasses p (x ∷ xs)) (IsGreatest p (x ∷ xs))
+after_one p x xs None fails h = λ m a passes. elim a [ inl e ↦ not_first p x m fails passes e | inr b ↦ h m b passes ]
+after_one p x xs (Some n) fails h = record {
   among = inr h.among;
   passes = h.passes;
   greatest = λ m a passes. elim a [ inl e ↦ absurd (not_first p x m fails passes e) | inr b ↦ h.greatest m b passes ];
@@ -43,7 +43,7 @@ at_one p x xs true is d h = record {
   passes = is;
   greatest = λ m a passes. elim a [ inl e ↦ omega arith | inr b ↦ d.0 m b ];
 }
-at_one p x xs false is d h = behind_one p x xs (find p xs) is h
+at_one p x xs false is d h = after_one p x xs (find p xs) is h
 
 -- the first that passes is the greatest, where the list descends
 find_greatest : (p : ℕ → Bool) (xs : List ℕ) → Descends xs → MatchOption (find p xs) (NonePasses p xs) (IsGreatest p xs)

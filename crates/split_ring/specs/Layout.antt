@@ -10,7 +10,7 @@ pub record Sizes : Type 0 where
   pub mtu : ℕ
 
 -- Places are bytes from the start of the section. The descriptors of a queue of n stand first and have 16 bytes each;
--- behind them stands the available ring
+-- after them stands the available ring
 abbrev pub available_place : ℕ → ℕ
 available_place n = 16 * n
 

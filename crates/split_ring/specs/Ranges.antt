@@ -4,7 +4,7 @@ use Rattle.std.specs.Prelude.{◌≡◌, ℕ, ◌+◌, ◌-◌, ◌%◌, ◌<◌
 use Rattle.ivs_base.specs.Numbers.{distance}
 use Rattle.split_ring.specs.Layout.{Sizes, size_of, payload_of}
 
--- available index: at most n frames stand behind the last one taken
+-- available index: at most n frames stand after the last one taken
 abbrev pub IsAvailIndex : Sizes → (last index : ℕ) → Type 0
 IsAvailIndex q last index = distance last index ≤ size_of q
 

@@ -1,4 +1,4 @@
-//! The steps of a call: the access that an engine asks for, and what it notes behind it.
+//! The steps of a call: the access that an engine asks for, and what it notes after it.
 use crate::Refused;
 use arrayvec::ArrayVec;
 
@@ -17,7 +17,7 @@ pub enum Access {
     Nothing,
 }
 
-/// What an engine notes behind a step.
+/// What an engine notes after a step.
 #[derive(Clone, Copy, Debug, PartialEq, Eq, Default)]
 pub enum Note {
     /// The other's state, as a Tick read it.

@@ -3,11 +3,11 @@ use Rattle.std.proofs.Common.{◌≡◌, ℕ, ◌+◌, ◌-◌, ◌/◌, ◌%◌
 use Rattle.std.proofs.lemmas.Nat.{mod_below}
 use Rattle.split_ring.specs.declared.steps.Access.TheVariants.{Read, Write}
 use Rattle.split_ring.specs.Layout.{HasBounds, size_of, limit_of, word_place, Entry, Id}
-use Rattle.link_laws.specs.Ends.{End}
-use Rattle.link_laws.specs.Ticks.{Who}
-use Rattle.link_laws.specs.Words.{with_entry}
-use Rattle.link_laws.specs.Offers.{descriptor_of, entry_of}
-use Rattle.link_laws.specs.Places as laws
+use Rattle.call_grammar.specs.Ends.{End}
+use Rattle.call_grammar.specs.Ticks.{Who}
+use Rattle.call_grammar.specs.Words.{with_entry}
+use Rattle.call_grammar.specs.Offers.{descriptor_of, entry_of}
+use Rattle.call_grammar.specs.Places as laws
 use Rattle.frame_slots.specs.declared.slots.Place as slots
 use Rattle.tx_engine.specs.declared.place.Place.{Place}
 use Rattle.tx_engine.specs.declared.place.Place.TheVariants.{AtUsedId, WritingEntry}

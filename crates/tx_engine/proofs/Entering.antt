@@ -1,17 +1,17 @@
--- What a sender does behind the write of an entry.
+-- What a sender does after the write of an entry.
 use Rattle.std.proofs.Common.{◌≡◌, ℕ, ◌+◌, ◌*◌, ◌/◌, ◌%◌, ◌<◌, ◌==◌, if◌then◌else◌, List, [], length, slice_index, slice_set, set, arith, refl, ap, sym, ◌∙◌, subst, inl, inr, eq-eqb, ne_eqb}
 use Rattle.std.proofs.lemmas.Bool.Decides.{eqb_tells}
 use Rattle.std.proofs.lemmas.List.{get_or-set_same, get_or-set_other}
 use Rattle.split_ring.specs.declared.steps.Note.{Note}
 use Rattle.split_ring.specs.Layout.{Sizes, size_of, word_place, Entry}
-use Rattle.link_laws.specs.Steps.{marks_of}
-use Rattle.link_laws.specs.Ends.{End, end_behind}
-use Rattle.link_laws.specs.Ticks.{Who}
-use Rattle.link_laws.specs.Words.{with_entry}
-use Rattle.link_laws.specs.Offers.{descriptor_of, entry_of}
-use Rattle.link_laws.specs.Calls.{job_of}
-use Rattle.link_laws.specs.Places as laws
-use Rattle.link_laws.proofs.OfferLists.{yes, no}
+use Rattle.call_grammar.specs.Steps.{marks_of}
+use Rattle.call_grammar.specs.Ends.{End, end_after}
+use Rattle.call_grammar.specs.Ticks.{Who}
+use Rattle.call_grammar.specs.Words.{with_entry}
+use Rattle.call_grammar.specs.Offers.{descriptor_of, entry_of}
+use Rattle.call_grammar.specs.Calls.{job_of}
+use Rattle.call_grammar.specs.Places as laws
+use Rattle.call_grammar.proofs.OfferLists.{yes, no}
 use Rattle.frame_slots.specs.declared.slots.Place as slots
 use Rattle.tx_engine.specs.declared.place.Place.TheVariants.{WritingEntry, WritingIndex}
 use Rattle.tx_engine.specs.Sender.{Sender, IsSender, entry_word_of}
@@ -23,7 +23,7 @@ use Rattle.tx_engine.proofs.Reading.{takes}
 word_is : (q : Sizes) (k : ℕ) → word_place q (Entry k) ≡ 4 * size_of q + 1 + k / 2
 word_is q k = omega arith
 
--- the copy behind the write of an entry's word
+-- the copy after the write of an entry's word
 copied : (tx : Sender) (who : Who) (end : End) (k value : ℕ) → HasCopy tx who end → 2 * length tx.entries ≡ size_of who.sizes → size_of who.sizes % 64 ≡ 0 → k < size_of who.sizes →
     (j : ℕ) → j < size_of who.sizes →
     (if who.own + word_place who.sizes (Entry j) == who.own + word_place who.sizes (Entry k) then value else end.written (who.own + word_place who.sizes (Entry j))) ≡ slice_index (slice_set tx.entries (k / 2) value) (j / 2)
@@ -56,7 +56,7 @@ entry_taken tx old slot value at word notes tx_is is here at_is word_is notes_ar
     let size : size_of who.sizes ≡ size_of tx.sizes = ap size_of made.sizes in
     let whole = is.bounds.size_whole in
     let after = copied tx who end k v counts.copy (is.entries ∙ sym size) (ap (λ n. n % 64) size ∙ whole) (entry_below tx who number is made) in
-    subst (λ p. (marks_of tx.frame notes ≡ laws.marks_at who p value) × IsAt WritingIndex new who (end_behind end (laws.step_at who p value)) (laws.next_place who p value)) (sym same) (
+    subst (λ p. (marks_of tx.frame notes ≡ laws.marks_at who p value) × IsAt WritingIndex new who (end_after end (laws.step_at who p value)) (laws.next_place who p value)) (sym same) (
       ap (marks_of tx.frame) notes_are,
       (
         end.written here,

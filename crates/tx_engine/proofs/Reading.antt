@@ -1,4 +1,4 @@
--- What a sender does behind the read of the used index or of an id.
+-- What a sender does after the read of the used index or of an id.
 use Rattle.std.proofs.Common.{◌≡◌, ℕ, zero, suc, ◌+◌, ◌-◌, ◌/◌, ◌%◌, ◌<◌, ◌≤◌, ◌==◌, true, false, if◌then◌else◌, List, [], ◌∷◌, length, arith, refl, ap, sym, ◌∙◌, subst, inl, inr, eq-eqb, ne_eqb}
 use Rattle.std.proofs.lemmas.Bool.{cases_lt}
 use Rattle.ivs_base.specs.Numbers.{distance}
@@ -9,15 +9,15 @@ use Rattle.split_ring.specs.declared.steps.Note.TheVariants as note
 use Rattle.split_ring.specs.Layout.{limit_of}
 use Rattle.split_ring.specs.Ranges.{IsUsedIndex, IsUsedId}
 use Rattle.split_ring.specs.Spelling.{high_half}
-use Rattle.link_laws.specs.Steps.{Reclaim, Full, Refuse, marks_of}
-use Rattle.link_laws.specs.Ends.{End, end_behind, noted_all}
-use Rattle.link_laws.specs.Ticks.{Who}
-use Rattle.link_laws.specs.Words.{words_for}
-use Rattle.link_laws.specs.Offers.{refusal, descriptor_of, returned_by, full_marks, reclaim_marks}
-use Rattle.link_laws.specs.Calls.{job_of}
-use Rattle.link_laws.specs.Places as laws
+use Rattle.call_grammar.specs.Steps.{Reclaim, Full, Refuse, marks_of}
+use Rattle.call_grammar.specs.Ends.{End, end_after, noted_all}
+use Rattle.call_grammar.specs.Ticks.{Who}
+use Rattle.call_grammar.specs.Words.{words_for}
+use Rattle.call_grammar.specs.Offers.{refusal, descriptor_of, returned_by, full_marks, reclaim_marks}
+use Rattle.call_grammar.specs.Calls.{job_of}
+use Rattle.call_grammar.specs.Places as laws
 use Rattle.frame_slots.specs.Turns.{Turn, slot_at, oldest_of}
-use Rattle.link_laws.proofs.OfferLists.{yes, no, within_test}
+use Rattle.call_grammar.proofs.OfferLists.{yes, no, within_test}
 use Rattle.tx_engine.specs.declared.place.Place.{Place}
 use Rattle.tx_engine.specs.declared.place.Place.TheVariants.{Closed, Refusing, AtUsedIndex, AtUsedId, Filling, WritingLow, WritingHigh, WritingLength, WritingFlags, WritingEntry, WritingIndex, Ringing}
 use Rattle.tx_engine.specs.Sender.{Sender, IsSender}
@@ -33,7 +33,7 @@ made_on old new who kept made = subst (λ s. IsMadeFor s who) (sym kept) (record
 pub takes : (old new : Sender) (here : Place) (value : ℕ) (notes : List Note) → old.place ≡ here →
     new ≡ record old { accepted = new.accepted; next = new.next; in_flight = new.in_flight; entries = new.entries; place = new.place } →
     ((who : Who) (end : End) (place : laws.Place) → IsMadeFor old who → IsAt here old who end place → (marks_of old.frame notes ≡ laws.marks_at who place value)
-    × IsAt new.place new who (end_behind end (laws.step_at who place value)) (laws.next_place who place value)) → Takes old value notes new
+    × IsAt new.place new who (end_after end (laws.step_at who place value)) (laws.next_place who place value)) → Takes old value notes new
 takes old new here value notes is kept steps = record {
   marks = λ who end place stands. (steps who end place stands.made (at_here old here who end place is stands)).0;
   stands = λ who end place stands. record { made = made_on old new who kept stands.made; at = (steps who end place stands.made (at_here old here who end place is stands)).1 };
@@ -48,7 +48,7 @@ turn_of tx = record { sizes = tx.sizes; next = tx.next; in_flight = tx.in_flight
 abbrev pub with_turn : Sender → Turn → Place → Sender
 with_turn tx turn place = record tx { next = turn.next; in_flight = turn.in_flight; place = place }
 
--- an offer that ends behind its reads notes that it found as many frames as may be in flight
+-- an offer that ends after its reads notes that it found as many frames as may be in flight
 abbrev pub full_notes : Place → List Note
 full_notes Closed = note.Full ∷ []
 full_notes _ = []
@@ -103,7 +103,7 @@ goes_on tx who end freed (suc more) place turn few least made counts found on =
     (subst (λ t. IsAt (AtUsedId more) (with_turn tx t (AtUsedId more)) who end (laws.AtUsedId job freed more)) (sym h.1)
     (freed, refl, omega (arith, found), record { accepted = counts.accepted; next = counts.next; in_flight = counts.in_flight; copy = counts.copy }))
 
--- an offer that ends behind its reads is marked as full, and no other
+-- an offer that ends after its reads is marked as full, and no other
 full_marked : (tx : Sender) (who : Who) (end : End) (freed : ℕ) (place : Place) (turn : Turn) → tx.in_flight ≤ limit_of tx.sizes → IsMadeFor tx who → Counts tx who end freed →
     GoesOn (turn_of tx) (length tx.frame) 0 place turn → marks_of tx.frame (full_notes place) ≡ full_marks who (job_of who end tx.frame) freed
 full_marked tx who end freed place turn few made counts on =
@@ -137,7 +137,7 @@ full_keeps end frame (WritingEntry slot) = refl
 full_keeps end frame WritingIndex = refl
 full_keeps end frame Ringing = refl
 
--- the notes behind the used index are its marks
+-- the notes after the used index are its marks
 reclaimed : (tx : Sender) (who : Who) (end : End) (count : ℕ) (place : Place) (turn : Turn) → tx.in_flight ≤ limit_of tx.sizes → IsMadeFor tx who → Counts tx who end end.freed →
     GoesOn (turn_of tx) (length tx.frame) count place turn → marks_of tx.frame (note.Reclaim count ∷ full_notes place) ≡ reclaim_marks who (job_of who end tx.frame) end.freed count
 reclaimed tx who end zero place turn few made counts on = ap (λ marks. Reclaim 0 ∷ marks) (full_marked tx who end end.freed place turn few made counts on)
@@ -154,8 +154,8 @@ index_taken tx value count place turn notes is least here within count_is on not
     let job = job_of who end tx.frame in
     let number = length end.accepted in
     let found : returned_by end.freed value ≡ count = ap (λ f. distance f (value / 65536)) (sym (freed_is tx who end end.freed is counts)) ∙ sym count_is in
-    let behind : number - end.freed ≡ tx.in_flight = omega (arith, counts.in_flight) in
-    let fits : returned_by end.freed value ≤ number - end.freed = omega (arith, found, count_is, within, behind) in
+    let after : number - end.freed ≡ tx.in_flight = omega (arith, counts.in_flight) in
+    let fits : returned_by end.freed value ≤ number - end.freed = omega (arith, found, count_is, within, after) in
     let test = within_test _ _ fits in
     let marks : marks_of tx.frame notes ≡ laws.marks_at who (laws.AtUsedIndex job end.freed) value =
     ap (marks_of tx.frame) notes_are ∙ (reclaimed tx who end count place turn is.in_flight made counts on
@@ -163,17 +163,17 @@ index_taken tx value count place turn notes is least here within count_is on not
     let next : laws.next_place who (laws.AtUsedIndex job end.freed) value ≡ laws.ids_place who job end.freed count =
     yes _ (laws.ids_place who job end.freed (returned_by end.freed value)) laws.Refusing test ∙ ap (laws.ids_place who job end.freed) found in
     let freed : End = record end { freed = end.freed + count } in
-    let end_is : end_behind end (laws.step_at who (laws.AtUsedIndex job end.freed) value) ≡ freed =
+    let end_is : end_after end (laws.step_at who (laws.AtUsedIndex job end.freed) value) ≡ freed =
     ap (noted_all end) (sym marks ∙ ap (marks_of tx.frame) notes_are) ∙ full_keeps freed tx.frame place in
     let goes = goes_on tx who freed end.freed count place turn is.in_flight least made (record { accepted = counts.accepted; next = counts.next; in_flight = counts.in_flight; copy = counts.copy }) refl on in
-    subst (λ p. (marks_of tx.frame notes ≡ laws.marks_at who p value) × IsAt place (with_turn tx turn place) who (end_behind end (laws.step_at who p value)) (laws.next_place who p value)) (sym same)
+    subst (λ p. (marks_of tx.frame notes ≡ laws.marks_at who p value) × IsAt place (with_turn tx turn place) who (end_after end (laws.step_at who p value)) (laws.next_place who p value)) (sym same)
     (marks, subst (λ e. IsAt place (with_turn tx turn place) who e (laws.next_place who (laws.AtUsedIndex job end.freed) value)) (sym end_is) (subst (λ q. IsAt place (with_turn tx turn place) who freed q) (sym next) goes)))
 
 -- the sender with one frame less in flight
 abbrev pub freed_one : Sender → Sender
 freed_one tx = record tx { in_flight = tx.in_flight - 1 }
 
--- the notes behind an id are its marks
+-- the notes after an id are its marks
 id_marked : (tx : Sender) (who : Who) (end : End) (freed more : ℕ) (place : Place) (turn : Turn) → tx.in_flight ≤ limit_of tx.sizes → IsMadeFor tx who → Counts tx who end freed →
     GoesOn (turn_of tx) (length tx.frame) more place turn → marks_of tx.frame (full_notes place) ≡ (if more == 0 then full_marks who (job_of who end tx.frame) freed else [])
 id_marked tx who end freed zero place turn few made counts on = full_marked tx who end freed place turn few made counts on
@@ -195,9 +195,9 @@ id_taken tx more id place turn notes is least some here oldest on notes_are = ta
     ap (marks_of tx.frame) notes_are ∙ (id_marked (freed_one tx) who end (freed + 1) more place turn few made_one counts_one on
     ∙ sym (yes _ (if more == 0 then full_marks who job (freed + 1) else []) (refusal UsedId id) test)) in
     let next : laws.next_place who (laws.AtUsedId job freed more) id ≡ laws.ids_place who job (freed + 1) more = yes _ (laws.ids_place who job (freed + 1) more) laws.Refusing test in
-    let end_is : end_behind end (laws.step_at who (laws.AtUsedId job freed more) id) ≡ end = ap (noted_all end) (sym marks ∙ ap (marks_of tx.frame) notes_are) ∙ full_keeps end tx.frame place in
+    let end_is : end_after end (laws.step_at who (laws.AtUsedId job freed more) id) ≡ end = ap (noted_all end) (sym marks ∙ ap (marks_of tx.frame) notes_are) ∙ full_keeps end tx.frame place in
     let goes = goes_on (freed_one tx) who end (freed + 1) more place turn few least made_one counts_one found_one on in
-    subst (λ p. (marks_of tx.frame notes ≡ laws.marks_at who p id) × IsAt place (with_turn tx turn place) who (end_behind end (laws.step_at who p id)) (laws.next_place who p id)) (sym same)
+    subst (λ p. (marks_of tx.frame notes ≡ laws.marks_at who p id) × IsAt place (with_turn tx turn place) who (end_after end (laws.step_at who p id)) (laws.next_place who p id)) (sym same)
     (marks, subst (λ e. IsAt place (with_turn tx turn place) who e (laws.next_place who (laws.AtUsedId job freed more) id)) (sym end_is) (subst (λ q. IsAt place (with_turn tx turn place) who end q) (sym next) goes)))
 
 -- the sender reads another id

@@ -1,8 +1,8 @@
--- Where an offer goes on behind a read.
+-- Where an offer goes on after a read.
 use Rattle.std.specs.Prelude.{◌≡◌, ℕ, ◌-◌, ◌<◌}
 use Rattle.split_ring.specs.Layout.{limit_of}
 use Rattle.frame_slots.specs.Turns.{Turn, slot_at, with_placed}
-use Rattle.link_laws.specs.Words.{words_for}
+use Rattle.call_grammar.specs.Words.{words_for}
 use Rattle.tx_engine.specs.declared.place.Place.{Place}
 use Rattle.tx_engine.specs.declared.place.Place.TheVariants.{Closed, AtUsedId, Filling}
 

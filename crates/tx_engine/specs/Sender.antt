@@ -5,7 +5,7 @@ use Rattle.split_ring.specs.declared.steps.Access.TheVariants as access
 use Rattle.split_ring.specs.Layout.{Sizes, IsQueue, HasBounds, size_of, limit_of}
 use Rattle.frame_slots.specs.declared.slots.Place as slots
 use Rattle.frame_slots.specs.Turns.{slot_at}
-use Rattle.link_laws.specs.Words.{words_for, with_entry}
+use Rattle.call_grammar.specs.Words.{words_for, with_entry}
 use Rattle.tx_engine.specs.declared.place.Place.{Place}
 use Rattle.tx_engine.specs.declared.place.Place.TheVariants.{Closed, Refusing, AtUsedIndex, AtUsedId, Filling, WritingLow, WritingHigh, WritingLength, WritingFlags, WritingEntry, WritingIndex, Ringing}
 

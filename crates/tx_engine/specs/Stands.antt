@@ -4,12 +4,12 @@ use Rattle.split_ring.specs.Layout.{size_of, limit_of, word_place, Entry}
 use Rattle.link_handshake.specs.declared.Phase.{Phase}
 use Rattle.link_handshake.specs.declared.Phase.TheVariants.{Reset, Init, Ready, Run}
 use Rattle.split_ring.specs.declared.steps.Note.{Note}
-use Rattle.link_laws.specs.Steps.{marks_of}
-use Rattle.link_laws.specs.Ends.{End, end_behind}
-use Rattle.link_laws.specs.Ticks.{Who}
-use Rattle.link_laws.specs.Offers.{descriptor_of}
-use Rattle.link_laws.specs.Calls.{job_of}
-use Rattle.link_laws.specs.Places as laws
+use Rattle.call_grammar.specs.Steps.{marks_of}
+use Rattle.call_grammar.specs.Ends.{End, end_after}
+use Rattle.call_grammar.specs.Ticks.{Who}
+use Rattle.call_grammar.specs.Offers.{descriptor_of}
+use Rattle.call_grammar.specs.Calls.{job_of}
+use Rattle.call_grammar.specs.Places as laws
 use Rattle.frame_slots.specs.declared.slots.Place as slots
 use Rattle.frame_slots.specs.Turns.{slot_at}
 use Rattle.tx_engine.specs.declared.place.Place.{Place}
@@ -76,7 +76,7 @@ pub record StandsAt (tx : Sender) (who : Who) (end : End) (place : laws.Place) :
 -- whatever end it stands for, the sender takes the step of its place that meets this value, with these notes, and is the new one then
 pub record Takes (old : Sender) (value : ℕ) (notes : List Note) (new : Sender) : Type 0 where
   pub marks : (who : Who) (end : End) (place : laws.Place) → StandsAt old who end place → marks_of old.frame notes ≡ laws.marks_at who place value
-  pub stands : (who : Who) (end : End) (place : laws.Place) → StandsAt old who end place → StandsAt new who (end_behind end (laws.step_at who place value)) (laws.next_place who place value)
+  pub stands : (who : Who) (end : End) (place : laws.Place) → StandsAt old who end place → StandsAt new who (end_after end (laws.step_at who place value)) (laws.next_place who place value)
   pub kept : new ≡ record old { accepted = new.accepted; next = new.next; in_flight = new.in_flight; entries = new.entries; place = new.place }
 
 -- a fresh session: nothing is accepted or freed, and the words of the entries were written as 0 last

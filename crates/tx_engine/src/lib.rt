@@ -1,5 +1,5 @@
 //! The sender of a link's end: it frees what the other end returned, and publishes a frame, one access a step. It stands on
-//! `frame_slots` for the descriptors and on `link_laws` for the call grammar. Its contracts promise that an offer is one
+//! `frame_slots` for the descriptors and on `call_grammar` for the call grammar. Its contracts promise that an offer is one
 //! of the grammar's, whatever values it is handed.
 #![tactic(auto)]
 

@@ -6,7 +6,7 @@ use frame_slots::{Place as Slot, Slots};
 
 /// The place in the open offer: what its next step is. A slot is that of the frame in hand.
 ///
-/// The index comes behind the words, the descriptor and the entry, since the other end reads these once it has seen the index; the
+/// The index comes after the words, the descriptor and the entry, since the other end reads these once it has seen the index; the
 /// doorbell comes last, since it calls for a look at the index.
 #[derive(Clone, Copy, Debug)]
 pub enum Place {
@@ -36,10 +36,10 @@ pub enum Place {
     Ringing,
 }
 
-/// The place before word `at` of the frame in its slot, where so many words are to come, or behind its last word.
+/// The place before word `at` of the frame in its slot, where so many words are to come, or after its last word.
 pub fn filling(slot: Slot, at: u32, count: u32) -> Place
     ensures word { 0 < count → result ≡ Place.Filling slot at (count - 1) }
-    ensures behind { count ≡ 0 → result ≡ Place.WritingLow slot }
+    ensures after { count ≡ 0 → result ≡ Place.WritingLow slot }
 {
     if count == 0 {
         return Place::WritingLow(slot);
@@ -51,9 +51,9 @@ pub fn filling(slot: Slot, at: u32, count: u32) -> Place
     }
 }
 
-/// The place behind a read with so many ids to come: the next id, else the first word of the frame of so many bytes, which gets a slot,
+/// The place after a read with so many ids to come: the next id, else the first word of the frame of so many bytes, which gets a slot,
 /// else the end.
-pub fn behind_ids(slots: &mut Slots, length: u32, ids: u32) -> Place
+pub fn offer_after_ids(slots: &mut Slots, length: u32, ids: u32) -> Place
     requires least { 14 ≤ length }
     requires most { length ≤ slots.old.sizes.mtu + 18 }
     ensures { GoesOn slots.old length ids result slots.new }

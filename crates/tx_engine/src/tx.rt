@@ -1,17 +1,17 @@
 //! The sender of an end.
 ghost use Rattle.std.specs.Prelude.{◌≡◌, ℕ, ◌+◌, ◌-◌, ◌*◌, ◌%◌, ◌<◌, ◌≤◌, ◌^◌, IfOk, true, false, [], ◌∷◌, length, take};
 ghost use Rattle.split_ring.specs.Layout.{size_of, limit_of};
-ghost use Rattle.link_laws.specs.Ends.{End};
-ghost use Rattle.link_laws.specs.Ticks.{Who};
-ghost use Rattle.link_laws.specs.Calls.{Offer};
-ghost use Rattle.link_laws.specs.Places as laws;
-ghost use Rattle.link_laws.specs.Reach.{HasSections, InReach};
-ghost use Rattle.link_laws.specs.Words.{words_for, frame_word};
+ghost use Rattle.call_grammar.specs.Ends.{End};
+ghost use Rattle.call_grammar.specs.Ticks.{Who};
+ghost use Rattle.call_grammar.specs.Calls.{Offer};
+ghost use Rattle.call_grammar.specs.Places as laws;
+ghost use Rattle.call_grammar.specs.Reach.{HasSections, InReach};
+ghost use Rattle.call_grammar.specs.Words.{words_for, frame_word};
 ghost use Rattle.link_handshake.specs.declared.Phase.TheVariants.{Run};
 ghost use Rattle.tx_engine.specs.Sender.{IsSender, fresh_sender, is_open, IsFrame, IsInReach, entry_word_of};
 ghost use Rattle.tx_engine.specs.Stands.{StandsAt, Takes, IsMadeFor, IsFreshSession, ClosedStays};
 
-use crate::place::{Place, behind_ids, filling};
+use crate::place::{Place, offer_after_ids, filling};
 use frame_slots::Slots;
 use ivs_base::{NoMemory, plus, word_of};
 use split_ring::steps::{Access, Note, Notes};
@@ -22,7 +22,7 @@ use std::marker::Model;
 /// The sender of an end: it publishes frames in the end's own section, one access a step.
 ///
 /// It makes no access itself: `next` says which one comes, and `took` is handed what it gave. It keeps the number of accepted frames
-/// modulo 65,536, the descriptors in flight, and a copy of the entry words that it wrote, since two entries share a word. Behind `new`
+/// modulo 65,536, the descriptors in flight, and a copy of the entry words that it wrote, since two entries share a word. After `new`
 /// no call takes memory.
 #[derive(Debug, Drop)]
 pub struct Tx {
@@ -224,7 +224,7 @@ impl Tx {
         self.accepted.wrapping_sub(self.slots.in_flight() as u16)
     }
 
-    /// Word `at` of the frame in hand: bytes behind its last are 0.
+    /// Word `at` of the frame in hand: bytes after its last are 0.
     fn frame_word(&self, at: u32) -> u32
         requires { at < words_for (length self.now.frame) }
         ensures { result ≡ frame_word self.now.frame at }
@@ -267,7 +267,7 @@ impl Tx {
             Ok(count) => {
                 let mut notes = Notes::new();
                 notes.push(Note::Reclaim(count));
-                self.place = behind_ids(&mut self.slots, self.length, count);
+                self.place = offer_after_ids(&mut self.slots, self.length, count);
                 if let Place::Closed = self.place {
                     notes.push(Note::Full);
                 }
@@ -289,7 +289,7 @@ impl Tx {
         let mut notes = Notes::new();
         // The slots are all of one size, so the frame's length doesn't count.
         self.slots.free(0);
-        self.place = behind_ids(&mut self.slots, self.length, more);
+        self.place = offer_after_ids(&mut self.slots, self.length, more);
         if let Place::Closed = self.place {
             notes.push(Note::Full);
         }

@@ -9,19 +9,19 @@ pub loop-p-init : goal.loop-p-init
 loop-p-init c = record {
   small = c.pointer-p.ensures.small;
   marks = length-replicate 256 false;
-  behind = ([], λ q small. get_or-replicate 256 q false false small, λ last h. subst (λ p. Comes c.args.bytes.now [] p nothing_listed last) c.pointer-p.ensures.is h);
+  after = ([], λ q small. get_or-replicate 256 q false false small, λ last h. subst (λ p. Comes c.args.bytes.now [] p nothing_listed last) c.pointer-p.ensures.is h);
 }
 
 pub returns-then-p-lt64 : goal.returns-then-p-lt64
-returns-then-p-lt64 c = let b = c.loop-p.invariant.behind in b.2 _ (is_low b.0 c.loop-p.p c.loop-p.so_far c.loop-p-test.true (search rules))
+returns-then-p-lt64 c = let b = c.loop-p.invariant.after in b.2 _ (is_low b.0 c.loop-p.p c.loop-p.so_far c.loop-p-test.true (search rules))
 
 pub returns-then-met-p : goal.returns-then-met-p
-returns-then-met-p c = let b = c.loop-p.invariant.behind in
+returns-then-met-p c = let b = c.loop-p.invariant.after in
     let met = sym (b.1 c.loop-p.p (omega arith)) ∙ c.if-met-p.true in
     b.2 _ (loops b.0 c.loop-p.p c.loop-p.so_far (search rules) met)
 
 pub returns-in-Err : goal.returns-in-Err
-returns-in-Err c = let b = c.loop-p.invariant.behind in
+returns-in-Err c = let b = c.loop-p.invariant.after in
     let unseen = sym (b.1 c.loop-p.p (omega arith)) ∙ c.if-met-p.false in
     b.2 _ (fails b.0 c.loop-p.p c.loop-p.so_far c.in-Err.fault (search rules) unseen (sym c.with_capability.ensures ∙ c.in-Err.is))
 
@@ -29,12 +29,12 @@ pub loop-p-smaller : goal.loop-p-smaller
 loop-p-smaller c = falls c.loop-p.met c.loop-p.p (search rules) c.if-met-p.false
 
 pub loop-p-preserved : goal.loop-p-preserved
-loop-p-preserved c = let b = c.loop-p.invariant.behind in
+loop-p-preserved c = let b = c.loop-p.invariant.after in
     let unseen = sym (b.1 c.loop-p.p (omega arith)) ∙ c.if-met-p.false in
     record {
       small = c.pointer-p-in-loop-p.ensures.small;
       marks = length-set c.loop-p.met c.loop-p.p true ∙ c.loop-p.invariant.marks;
-      behind = (
+      after = (
         c.loop-p.p ∷ b.0,
         marks_on c.loop-p.met b.0 c.loop-p.p (search rules) b.1,
         λ last h. b.2 last (goes_on b.0 c.loop-p.p c.loop-p.so_far c.in-Ok.next last (search rules) unseen (sym c.with_capability.ensures ∙ c.in-Ok.is)
@@ -43,4 +43,4 @@ loop-p-preserved c = let b = c.loop-p.invariant.behind in
     }
 
 pub returns : goal.returns
-returns c = let b = c.loop-p.invariant.behind in b.2 _ (subst (λ p. Comes c.args.bytes.now b.0 p c.loop-p.so_far (Ok c.loop-p.so_far)) (sym c.loop-p-test.false) (ends b.0 c.loop-p.so_far))
+returns c = let b = c.loop-p.invariant.after in b.2 _ (subst (λ p. Comes c.args.bytes.now b.0 p c.loop-p.so_far (Ok c.loop-p.so_far)) (sym c.loop-p-test.false) (ends b.0 c.loop-p.so_far))

@@ -11,7 +11,7 @@ abbrev pub invariant-loop-p : goal.invariant-loop-p
 invariant-loop-p l = record {
   small : l.p ≤ 252;
   marks : length l.met ≡ 256;
-  behind : ((met : List ℕ)
+  after : ((met : List ℕ)
       × Marks l.met met
       × ((last : Result Listed CapabilityFault) → Comes l.bytes met l.p l.so_far last → Comes l.bytes [] (pointer_at l.bytes 0x34) nothing_listed last));
 }

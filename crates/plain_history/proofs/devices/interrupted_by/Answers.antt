@@ -1,7 +1,7 @@
 use Rattle.std.proofs.Common.{ap, sym, ◌∙◌}
 use Rattle.std.specs.Prelude.{reverse}
-use Rattle.link_plain.specs.declared.steps.Access.{Access}
-use Rattle.link_plain.specs.Seen.{access_seen}
+use Rattle.plain_calls.specs.declared.steps.Access.{Access}
+use Rattle.plain_calls.specs.Seen.{access_seen}
 use Rattle.lawful_history.specs.Sides.{world_of}
 use Rattle.lawful_history.specs.Device.{devices_of, device_events}
 use Rattle.plain_history.specs.Told.{told_by_access, brought}
@@ -11,12 +11,12 @@ pub returns-in-State : goal.returns-in-State
 returns-in-State c =
     let world = devices_of (world_of c.args.scenario.now) in
     let events = device_events (reverse c.args.lines.now) in
-    ap (λ e. e.deliveries.items) (c.register_write-effect.ensures.effect world events c.devices_behind-devices.ensures.stands)
+    ap (λ e. e.deliveries.items) (c.register_write-effect.ensures.effect world events c.devices_after-devices.ensures.stands)
     ∙ ap (λ (a : Access). brought world events (told_by_access c.args.me (access_seen a))) (sym c.in-State.is)
 
 pub returns-in-Ring : goal.returns-in-Ring
 returns-in-Ring c =
     let world = devices_of (world_of c.args.scenario.now) in
     let events = device_events (reverse c.args.lines.now) in
-    ap (λ e. e.deliveries.items) (c.register_write-effect-in-Ring.ensures.effect world events c.devices_behind-devices-in-Ring.ensures.stands)
+    ap (λ e. e.deliveries.items) (c.register_write-effect-in-Ring.ensures.effect world events c.devices_after-devices-in-Ring.ensures.stands)
     ∙ ap (λ (a : Access). brought world events (told_by_access c.args.me (access_seen a))) (sym c.in-Ring.is)

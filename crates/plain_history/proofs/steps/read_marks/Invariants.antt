@@ -1,6 +1,6 @@
 use Rattle.std.proofs.Common.{List, ◌++◌, take}
 use Rattle.std.specs.Prelude.{Some, reverse, map}
-use Rattle.link_plain.specs.Seen.{marks_seen}
+use Rattle.plain_calls.specs.Seen.{marks_seen}
 use Rattle.lawful_history.specs.declared.line.Line.{Line}
 use Rattle.lawful_history.specs.Entries.{mark_line}
 use Rattle.plain_history.specs.Reading.{Reads}

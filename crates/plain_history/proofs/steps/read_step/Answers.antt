@@ -1,7 +1,7 @@
 use Rattle.std.proofs.Common.{◌≡◌, List, ◌++◌, subst, sym, ap, ◌∙◌}
 use Rattle.std.specs.Prelude.{None, reverse, map}
 use Rattle.doorbell_irq.specs.declared.effect.Delivery.{Delivery}
-use Rattle.link_plain.specs.Seen.{step_seen}
+use Rattle.plain_calls.specs.Seen.{step_seen}
 use Rattle.lawful_history.specs.declared.line.Line.{Line}
 use Rattle.lawful_history.specs.Entries.{access_lines, mark_line}
 use Rattle.lawful_history.specs.Sides.{world_of}
@@ -9,7 +9,7 @@ use Rattle.lawful_history.specs.Device.{devices_of, device_events, arrived}
 use Rattle.plain_history.specs.Reading.{Reads}
 use Rattle.plain_history.specs.Told.{brought, told_by_access}
 use Rattle.plain_history.proofs.Reading.{none_more, past_is}
-use Rattle.plain_history.proofs.Acting.{step_behind}
+use Rattle.plain_history.proofs.Acting.{step_after}
 use Rattle.plain_history.proofs.steps.read_step.Goals as goal
 
 pub returns-in_default-read_arrivals-clause-reads : goal.returns-in_default-read_arrivals-clause-reads
@@ -22,7 +22,7 @@ returns-in_default-read_arrivals-clause-reads c = λ past lost reads has.
     let came : c.as_slice.result.now ≡ brought (devices_of world) (device_events past) (told_by_access me step.access) =
     c.as_slice.ensures.value ∙ c.interrupted_by-deliveries.ensures ∙ ap (λ (ls : List Line). brought (devices_of world) (device_events ls) (told_by_access me step.access)) (past_is lines past c.args.read reads) in
     let none = c.in_default-read_arrivals.ensures first lost (c.in-Some.ensures.reads past reads) has in
-    subst (λ (ls : List Line). Reads lines ls None) (sym (step_behind world past lost me step))
+    subst (λ (ls : List Line). Reads lines ls None) (sym (step_after world past lost me step))
     (none_more lines (reverse (arrived first lost (brought (devices_of world) (device_events past) (told_by_access me step.access))) ++ first) (map (mark_line me) step.marks)
     (subst (λ (ds : List Delivery). Reads lines (reverse (arrived first lost ds) ++ first) None) came none))
 
@@ -34,7 +34,7 @@ returns-in_default-clause-reads c = λ past lost reads has.
     let step = step_seen c.args.step.now in
     let first = reverse (access_lines me step.access step.value) ++ past in
     let dev = arrived first lost (brought (devices_of world) (device_events past) (told_by_access me step.access)) in
-    subst (λ (ls : List Line). Reads lines ls None) (sym (step_behind world past lost me step))
+    subst (λ (ls : List Line). Reads lines ls None) (sym (step_after world past lost me step))
     (none_more lines (reverse dev ++ first) (map (mark_line me) step.marks) (none_more lines first dev (c.in_default.ensures.reads past reads)))
 
 pub returns-clause-reads : goal.returns-clause-reads
@@ -48,5 +48,5 @@ returns-clause-reads c = λ past lost reads has.
     c.as_slice.ensures.value ∙ c.interrupted_by-deliveries.ensures ∙ ap (λ (ls : List Line). brought (devices_of world) (device_events ls) (told_by_access me step.access)) (past_is lines past c.args.read reads) in
     let told = c.in-Some-read_arrivals.ensures first lost (c.in-Some.ensures.reads past reads) has in
     let all = c.read_marks.ensures (reverse (arrived first lost c.as_slice.result.now) ++ first) told in
-    subst (λ (ls : List Line). Reads lines ls c.read_marks.result) (sym (step_behind world past lost me step))
+    subst (λ (ls : List Line). Reads lines ls c.read_marks.result) (sym (step_after world past lost me step))
     (subst (λ (ds : List Delivery). Reads lines (reverse (map (mark_line me) step.marks) ++ (reverse (arrived first lost ds) ++ first)) c.read_marks.result) came (rw c.as_slice-2.ensures.value at all))

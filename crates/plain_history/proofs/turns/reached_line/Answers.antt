@@ -6,5 +6,5 @@ use Rattle.plain_history.proofs.turns.reached_line.Goals as goal
 
 pub returns-in-Ok : goal.returns-in-Ok
 returns-in-Ok c =
-    let value = c.in-Ok.ensures.value (devices_of (world_of c.args.scenario.now)) (device_events (reverse c.args.lines.now)) c.devices_behind-device.ensures.stands in
+    let value = c.in-Ok.ensures.value (devices_of (world_of c.args.scenario.now)) (device_events (reverse c.args.lines.now)) c.devices_after-device.ensures.stands in
     rw (c.in-ReadsConfig.is, c.from.ensures, c.from-in-ReadsConfig.ensures, value) refl

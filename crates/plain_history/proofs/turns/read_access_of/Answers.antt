@@ -1,5 +1,5 @@
 use Rattle.std.proofs.Common.{List, subst}
-use Rattle.link_plain.specs.Seen.{access_seen}
+use Rattle.plain_calls.specs.Seen.{access_seen}
 use Rattle.lawful_history.specs.declared.line.Line.{Line}
 use Rattle.lawful_history.specs.Sides.{world_of}
 use Rattle.plain_history.specs.Reading.{Reads, Meets}

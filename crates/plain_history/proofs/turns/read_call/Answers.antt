@@ -1,8 +1,8 @@
 use Rattle.std.proofs.Common.{◌+◌, List, sym, subst}
 use Rattle.std.specs.Prelude.{Some, None}
 use Rattle.split_ring.specs.declared.steps.Access.{Access}
-use Rattle.link_laws.specs.Steps.{Step}
-use Rattle.link_plain.specs.Seen.{who_seen, access_seen, step_seen}
+use Rattle.call_grammar.specs.Steps.{Step}
+use Rattle.plain_calls.specs.Seen.{who_seen, access_seen, step_seen}
 use Rattle.lawful_history.specs.declared.line.Line.{Line}
 use Rattle.lawful_history.specs.Sides.{world_of}
 use Rattle.plain_history.specs.Reading.{Meets}

@@ -1,8 +1,8 @@
 use Rattle.std.proofs.Common.{◌≡◌, ap, sym, ◌∙◌, ◌++◌}
 use Rattle.std.specs.Prelude.{Some, reverse}
-use Rattle.link_plain.specs.Seen.{step_seen}
+use Rattle.plain_calls.specs.Seen.{step_seen}
 use Rattle.lawful_history.specs.Sides.{world_of}
-use Rattle.lawful_history.specs.Storm.{storm_behind}
+use Rattle.lawful_history.specs.Storm.{storm_after}
 use Rattle.lawful_history.specs.Entries.{step_lines}
 use Rattle.lawful_history.specs.Device.{step_interrupts}
 use Rattle.lawful_history.specs.Peers as history
@@ -18,6 +18,6 @@ returns-in-Storms c = λ past lost who most it reads told has stands.
     let step = step_seen c.storm_step-step.result in
     let driver : it.driver ≡ history.Storms c.in-Storms.x = sym stands.driver ∙ ap (λ (d : Driver). driver_seen d) c.in-Storms.is in
     storm_goes world c.args.lines.now past lost c.args.me c.in-Storms.x it who most _ step c.read_step.result driver c.storm_step-step.ensures.step
-    (goes_to world c.args.lines.now (reverse (step_lines c.args.me step (step_interrupts world past lost c.args.me (Some step))) ++ past) who most (record it { driver = history.Storms (storm_behind c.in-Storms.x) }) _ c.read_step.result
+    (goes_to world c.args.lines.now (reverse (step_lines c.args.me step (step_interrupts world past lost c.args.me (Some step))) ++ past) who most (record it { driver = history.Storms (storm_after c.in-Storms.x) }) _ c.read_step.result
     (c.read_step.ensures.reads past lost reads has) (step_told world world.geometry.peers c.args.me past lost step c.requires.there c.storm_step-step.ensures.fits told)
-    (record { end = stands.end; left = stands.left; waiting = stands.waiting; driver = ap history.Storms c.storm_behind.ensures; few = stands.few; fresh = stands.fresh; delivered = tt }))
+    (record { end = stands.end; left = stands.left; waiting = stands.waiting; driver = ap history.Storms c.storm_after.ensures; few = stands.few; fresh = stands.fresh; delivered = tt }))

@@ -1,6 +1,6 @@
 use Rattle.std.proofs.Common.{◌+◌, ◌∷◌, ◌++◌, arith, ap, sym, ◌∙◌, subst}
 use Rattle.std.specs.Prelude.{Some, IfOk, reverse}
-use Rattle.link_plain.specs.Seen.{access_seen}
+use Rattle.plain_calls.specs.Seen.{access_seen}
 use Rattle.lawful_history.specs.declared.line.Line.{Line}
 use Rattle.lawful_history.specs.declared.line.Line.TheVariants as line
 use Rattle.lawful_history.specs.Sides.{world_of, who_of}
@@ -8,7 +8,7 @@ use Rattle.lawful_history.specs.Entries.{acted_lines}
 use Rattle.lawful_history.specs.Peers.{asked, automated, stormed, was_reset}
 use Rattle.lawful_history.specs.Device.{arrivals, step_interrupts, reached_line}
 use Rattle.lawful_history.specs.History.{acted_step}
-use Rattle.link_plain.specs.Seen.{call_seen}
+use Rattle.plain_calls.specs.Seen.{call_seen}
 use Rattle.plain_history.specs.declared.events.Event.{Event}
 use Rattle.plain_history.specs.Reading.{Reads}
 use Rattle.plain_history.specs.Events.{event_seen, device_access_seen, CanHappen}

@@ -8,7 +8,7 @@ use Rattle.lawful_history.specs.Sides.{world_of}
 use Rattle.lawful_history.specs.Device.{devices_of, device_events, arrived, arrivals}
 use Rattle.plain_history.specs.Reading.{Reads}
 use Rattle.plain_history.specs.Told.{brought}
-use Rattle.plain_history.proofs.Reading.{behind, past_is}
+use Rattle.plain_history.proofs.Reading.{reversed_after, past_is}
 use Rattle.plain_history.proofs.turns.read_reset.Goals as goal
 
 pub returns : goal.returns
@@ -18,5 +18,5 @@ returns c = λ past lost reads has.
     let first = line.Reset c.args.me in
     let came = c.as_slice.ensures.value ∙ c.interrupted_by_reset-deliveries.ensures ∙ ap (λ (ls : List Line). brought (devices_of world) (device_events ls) (Some (device.WasReset c.args.me))) (past_is lines past c.args.read reads) in
     let all = c.read_arrivals.ensures (first ∷ past) lost (c.in-Some.ensures.reads past reads) has in
-    subst (λ (ls : List Line). Reads lines ls c.read_arrivals.result) (sym (behind (first ∷ []) (arrivals world past lost first) past))
+    subst (λ (ls : List Line). Reads lines ls c.read_arrivals.result) (sym (reversed_after (first ∷ []) (arrivals world past lost first) past))
     (subst (λ (ds : List Delivery). Reads lines (reverse (arrived (first ∷ past) lost ds) ++ (first ∷ past)) c.read_arrivals.result) came all)

@@ -1,8 +1,8 @@
 use Rattle.std.proofs.Common.{rules, ◌≡◌, ◌+◌, ◌++◌, false, sym, subst}
 use Rattle.std.specs.Prelude.{reverse}
-use Rattle.link_laws.specs.Calls.{Who}
-use Rattle.link_laws.specs.Places.{is_open}
-use Rattle.link_plain.specs.Seen.{who_seen}
+use Rattle.call_grammar.specs.Calls.{Who}
+use Rattle.call_grammar.specs.Places.{is_open}
+use Rattle.plain_calls.specs.Seen.{who_seen}
 use Rattle.lawful_history.specs.Sides.{world_of}
 use Rattle.lawful_history.specs.Entries.{turn_lines}
 use Rattle.lawful_history.specs.Peers.{opened}

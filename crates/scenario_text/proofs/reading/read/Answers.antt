@@ -1,6 +1,6 @@
 use Rattle.std.proofs.Common.{sym, ap, ◌∙◌, arith}
 use Rattle.std.proofs.lemmas.Grind.{common_steps}
-use Rattle.line_text.proofs.ReadingLaws.{good_line, last_line, bytes_behind, no_end}
+use Rattle.line_text.proofs.ReadingLaws.{good_line, last_line, after_end, no_end}
 use Rattle.scenario_text.specs.Judge.{machine, reading, faulted}
 use Rattle.scenario_text.specs.Drafts.{so_far}
 use Rattle.scenario_text.proofs.ReadLaws.{line_fails}
@@ -13,7 +13,7 @@ pub returns-then-is_empty : goal.returns-then-is_empty
 returns-then-is_empty c = ap faulted (last_line machine (so_far c.loop-line.draft) (so_far c.take.new.self) c.loop-line.number c.loop-line.rest.now c.in-Some.line.now c.in-Some.more.now (reading c.args.bytes.now) c.in-Some.ensures.cuts c.in-Ok.ensures (sym c.has_ended.ensures ∙ c.if-has_ended.true) (grind (arith, common_steps)) c.loop-line.invariant.0)
 
 pub returns-then-has_ended : goal.returns-then-has_ended
-returns-then-has_ended c = ap faulted (bytes_behind machine (so_far c.loop-line.draft) (so_far c.take.new.self) c.loop-line.number c.loop-line.rest.now c.in-Some.line.now c.in-Some.more.now (reading c.args.bytes.now) c.in-Some.ensures.cuts c.in-Ok.ensures (sym c.has_ended.ensures ∙ c.if-has_ended.true) (grind (arith, common_steps)) c.loop-line.invariant.0)
+returns-then-has_ended c = ap faulted (after_end machine (so_far c.loop-line.draft) (so_far c.take.new.self) c.loop-line.number c.loop-line.rest.now c.in-Some.line.now c.in-Some.more.now (reading c.args.bytes.now) c.in-Some.ensures.cuts c.in-Ok.ensures (sym c.has_ended.ensures ∙ c.if-has_ended.true) (grind (arith, common_steps)) c.loop-line.invariant.0)
 
 pub loop-line-preserved : goal.loop-line-preserved
 loop-line-preserved c = (good_line machine (so_far c.loop-line.draft) (so_far c.take.new.self) c.loop-line.number c.loop-line.rest.now c.in-Some.line.now c.in-Some.more.now (reading c.args.bytes.now) c.in-Some.ensures.cuts c.in-Ok.ensures (sym c.has_ended.ensures ∙ c.if-has_ended.false) c.loop-line.invariant.0, omega (arith, c.in-Some.ensures.shorter))

@@ -1,7 +1,7 @@
 use Rattle.std.proofs.Common.{◌≡◌, arith}
 use Rattle.std.proofs.lemmas.Grind.{common_steps}
-use Rattle.link_laws.specs.Places as places
-use Rattle.link_laws.specs.Calls.{Poll}
+use Rattle.call_grammar.specs.Places as places
+use Rattle.call_grammar.specs.Calls.{Poll}
 use Rattle.link_endpoint.proofs.Opening.{closed_at}
 use Rattle.link_endpoint.specs.Kept.{seen}
 use Rattle.link_endpoint.proofs.endpoint.Endpoint.begin.Goals as goal

@@ -1,7 +1,7 @@
 use Rattle.std.proofs.Common.{◌≡◌, subst, sym, None, arith}
 use Rattle.std.proofs.lemmas.Grind.{common_steps}
-use Rattle.link_laws.specs.Ends.{fresh}
-use Rattle.link_laws.specs.Places as places
+use Rattle.call_grammar.specs.Ends.{fresh}
+use Rattle.call_grammar.specs.Places as places
 use Rattle.link_endpoint.specs.declared.place.Place.TheVariants.{Closed}
 use Rattle.link_endpoint.specs.declared.endpoint.Endpoint.TheInside.{Inside}
 use Rattle.link_endpoint.specs.Engine.{who_of, fresh_engine}

@@ -1,7 +1,7 @@
 use Rattle.std.proofs.Common.{arith}
 use Rattle.std.proofs.lemmas.Grind.{common_steps}
-use Rattle.link_laws.specs.Ends.{after_reset}
-use Rattle.link_laws.specs.Places as places
+use Rattle.call_grammar.specs.Ends.{after_reset}
+use Rattle.call_grammar.specs.Places as places
 use Rattle.link_endpoint.proofs.endpoint.Endpoint.reset.Goals as goal
 
 pub invariant_of-self : goal.invariant_of-self

@@ -1,7 +1,7 @@
 use Rattle.std.proofs.Common.{◌≡◌, subst, ap, sym, ◌∙◌, refl, None, Some, arith}
 use Rattle.std.proofs.lemmas.Grind.{common_steps}
 use Rattle.link_endpoint.specs.declared.place.Place.TheVariants.{Closed, Refusing, Offering}
-use Rattle.link_endpoint.specs.Engine.{refused_behind}
+use Rattle.link_endpoint.specs.Engine.{refused_after}
 use Rattle.link_endpoint.specs.Kept.{seen}
 use Rattle.link_endpoint.specs.Stands.{Takes}
 use Rattle.link_endpoint.proofs.Seen.{KeepsNumbers, seen_sent, kept_sent}
@@ -14,7 +14,7 @@ refused c =
     let i = c.self.inside in
     let kept = c.self.invariant in
     let keeps : KeepsNumbers i.tx c.took-notes.new.self = grind (arith, common_steps, c.took-notes.ensures.kept) in
-    let found : refused_behind c.took-notes.result.items None ≡ Some c.in-Some.refused = ap (λ n. refused_behind n None) (sym c.as_slice.ensures.value) ∙ sym c.refused_in.ensures ∙ c.in-Some.is in
+    let found : refused_after c.took-notes.result.items None ≡ Some c.in-Some.refused = ap (λ n. refused_after n None) (sym c.as_slice.ensures.value) ∙ sym c.refused_in.ensures ∙ c.in-Some.is in
     let offers : i.place ≡ Offering = grind (arith, common_steps) in
     let taken = takes_refused (seen i) c.args.value c.took-notes.result.items c.took-notes.new.self c.in-Some.refused (seen i).who kept.end kept.at offers c.took-notes.ensures kept.stands found in
     (keeps, subst (λ e. Takes (seen i) c.args.value c.took-notes.result.items e) (seen_sent i c.took-notes.new.self (Some c.in-Some.refused) Refusing keeps) taken)
@@ -31,7 +31,7 @@ over c =
     let i = c.self.inside in
     let kept = c.self.invariant in
     let keeps : KeepsNumbers i.tx c.took-notes.new.self = grind (arith, common_steps, c.took-notes.ensures.kept) in
-    let none : refused_behind c.took-notes.result.items None ≡ None = ap (λ n. refused_behind n None) (sym c.as_slice.ensures.value) ∙ sym c.refused_in.ensures ∙ c.in_default.is in
+    let none : refused_after c.took-notes.result.items None ≡ None = ap (λ n. refused_after n None) (sym c.as_slice.ensures.value) ∙ sym c.refused_in.ensures ∙ c.in_default.is in
     let offers : i.place ≡ Offering = grind (arith, common_steps) in
     let taken = takes_end (seen i) c.args.value c.took-notes.result.items c.took-notes.new.self c.busy.result (seen i).who kept.end kept.at offers c.took-notes.ensures kept.stands none c.busy.ensures.place c.if-not-busy.true in
     (keeps, subst (λ e. Takes (seen i) c.args.value c.took-notes.result.items e) (seen_sent i c.took-notes.new.self i.refused Closed keeps) taken)
@@ -45,7 +45,7 @@ going c =
     let i = c.self.inside in
     let kept = c.self.invariant in
     let keeps : KeepsNumbers i.tx c.took-notes.new.self = grind (arith, common_steps, c.took-notes.ensures.kept) in
-    let none : refused_behind c.took-notes.result.items None ≡ None = ap (λ n. refused_behind n None) (sym c.as_slice.ensures.value) ∙ sym c.refused_in.ensures ∙ c.in_default.is in
+    let none : refused_after c.took-notes.result.items None ≡ None = ap (λ n. refused_after n None) (sym c.as_slice.ensures.value) ∙ sym c.refused_in.ensures ∙ c.in_default.is in
     let offers : i.place ≡ Offering = grind (arith, common_steps) in
     let taken = takes_on (seen i) c.args.value c.took-notes.result.items c.took-notes.new.self c.busy.result (seen i).who kept.end kept.at offers c.took-notes.ensures kept.stands none c.busy.ensures.place c.if-not-busy.false in
     (keeps, subst (λ e. Takes (seen i) c.args.value c.took-notes.result.items e) (seen_sent i c.took-notes.new.self i.refused i.place keeps) taken)

@@ -1,8 +1,8 @@
 use Rattle.std.proofs.Common.{◌≡◌, ℕ, [], ◌∷◌, subst, arith}
 use Rattle.std.proofs.lemmas.Grind.{common_steps}
 use Rattle.split_ring.specs.declared.steps.Note.TheVariants as note
-use Rattle.link_laws.specs.Ends.{end_behind}
-use Rattle.link_laws.specs.Places as places
+use Rattle.call_grammar.specs.Ends.{end_after}
+use Rattle.call_grammar.specs.Places as places
 use Rattle.link_endpoint.specs.declared.place.Place.TheVariants.{Closed}
 use Rattle.link_endpoint.specs.Engine.{Engine}
 use Rattle.link_endpoint.specs.Kept.{seen}
@@ -29,7 +29,7 @@ invariant_of-self c =
       sender = grind (arith, common_steps);
       receiver = grind (arith, common_steps);
       mark = grind (arith, common_steps);
-      end = end_behind kept.end (places.step_at who kept.at 0);
+      end = end_after kept.end (places.step_at who kept.at 0);
       at = places.next_place who kept.at 0;
-      stands = subst (λ w. StandsAt new w (end_behind kept.end (places.step_at who kept.at 0)) (places.next_place who kept.at 0)) same ((taken c 0).stands who kept.end kept.at kept.stands);
+      stands = subst (λ w. StandsAt new w (end_after kept.end (places.step_at who kept.at 0)) (places.next_place who kept.at 0)) same ((taken c 0).stands who kept.end kept.at kept.stands);
     }

@@ -1,7 +1,7 @@
 use Rattle.std.proofs.Common.{◌≡◌, ap, sym, ◌∙◌, refl, None, Some, arith}
 use Rattle.std.proofs.lemmas.Grind.{common_steps}
 use Rattle.link_endpoint.specs.declared.place.Place.TheVariants.{Closed, Refusing, Polling}
-use Rattle.link_endpoint.specs.Engine.{refused_behind}
+use Rattle.link_endpoint.specs.Engine.{refused_after}
 use Rattle.link_endpoint.specs.Kept.{seen}
 use Rattle.link_endpoint.specs.Stands.{Takes}
 use Rattle.link_endpoint.proofs.Seen.{kept_received}
@@ -13,7 +13,7 @@ refused : (c : goal.After-self-in-Some-1) → Takes (seen c.self.inside) c.args.
 refused c =
     let i = c.self.inside in
     let kept = c.self.invariant in
-    let found : refused_behind c.took-notes.result.items None ≡ Some c.in-Some.refused = ap (λ n. refused_behind n None) (sym c.as_slice.ensures.value) ∙ sym c.refused_in.ensures ∙ c.in-Some.is in
+    let found : refused_after c.took-notes.result.items None ≡ Some c.in-Some.refused = ap (λ n. refused_after n None) (sym c.as_slice.ensures.value) ∙ sym c.refused_in.ensures ∙ c.in-Some.is in
     let polls : i.place ≡ Polling = grind (arith, common_steps) in
     takes_refused (seen i) c.args.value c.took-notes.result.items c.took-notes.new.self c.in-Some.refused (seen i).who kept.end kept.at polls c.took-notes.ensures.steps kept.stands found
 
@@ -28,7 +28,7 @@ over : (c : goal.After-self-then-not-busy-1) → Takes (seen c.self.inside) c.ar
 over c =
     let i = c.self.inside in
     let kept = c.self.invariant in
-    let none : refused_behind c.took-notes.result.items None ≡ None = ap (λ n. refused_behind n None) (sym c.as_slice.ensures.value) ∙ sym c.refused_in.ensures ∙ c.in_default.is in
+    let none : refused_after c.took-notes.result.items None ≡ None = ap (λ n. refused_after n None) (sym c.as_slice.ensures.value) ∙ sym c.refused_in.ensures ∙ c.in_default.is in
     let polls : i.place ≡ Polling = grind (arith, common_steps) in
     takes_end (seen i) c.args.value c.took-notes.result.items c.took-notes.new.self c.busy.result (seen i).who kept.end kept.at polls c.took-notes.ensures.steps kept.stands none c.busy.ensures.open c.if-not-busy.true
 
@@ -40,7 +40,7 @@ going : (c : goal.Else-not-busy) → Takes (seen c.self.inside) c.args.value c.t
 going c =
     let i = c.self.inside in
     let kept = c.self.invariant in
-    let none : refused_behind c.took-notes.result.items None ≡ None = ap (λ n. refused_behind n None) (sym c.as_slice.ensures.value) ∙ sym c.refused_in.ensures ∙ c.in_default.is in
+    let none : refused_after c.took-notes.result.items None ≡ None = ap (λ n. refused_after n None) (sym c.as_slice.ensures.value) ∙ sym c.refused_in.ensures ∙ c.in_default.is in
     let polls : i.place ≡ Polling = grind (arith, common_steps) in
     takes_on (seen i) c.args.value c.took-notes.result.items c.took-notes.new.self c.busy.result (seen i).who kept.end kept.at polls c.took-notes.ensures.steps kept.stands none c.busy.ensures.open c.if-not-busy.false
 

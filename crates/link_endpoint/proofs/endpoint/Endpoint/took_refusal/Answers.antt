@@ -1,7 +1,7 @@
 use Rattle.std.proofs.Common.{arith}
 use Rattle.std.proofs.lemmas.Grind.{common_steps}
-use Rattle.link_laws.specs.Ends.{end_behind}
-use Rattle.link_laws.specs.Places as places
+use Rattle.call_grammar.specs.Ends.{end_after}
+use Rattle.call_grammar.specs.Places as places
 use Rattle.link_endpoint.specs.Kept.{seen}
 use Rattle.link_endpoint.proofs.endpoint.Endpoint.took_refusal.Goals as goal
 
@@ -15,7 +15,7 @@ invariant_of-self c =
       sender = grind (arith, common_steps);
       receiver = grind (arith, common_steps);
       mark = grind (arith, common_steps);
-      end = end_behind kept.end (places.step_at (seen c.self.inside).who kept.at 0);
+      end = end_after kept.end (places.step_at (seen c.self.inside).who kept.at 0);
       at = places.Closed;
       stands = grind (arith, common_steps);
     }

@@ -1,8 +1,8 @@
 use Rattle.std.proofs.Common.{ℕ, [], ◌∷◌, arith}
 use Rattle.std.proofs.lemmas.Grind.{common_steps}
 use Rattle.split_ring.specs.declared.steps.Note.TheVariants as note
-use Rattle.link_laws.specs.Ends.{end_behind}
-use Rattle.link_laws.specs.Places as places
+use Rattle.call_grammar.specs.Ends.{end_after}
+use Rattle.call_grammar.specs.Places as places
 use Rattle.link_endpoint.specs.declared.place.Place.TheVariants.{Closed}
 use Rattle.link_endpoint.specs.Kept.{seen}
 use Rattle.link_endpoint.specs.Stands.{Takes}
@@ -26,7 +26,7 @@ invariant_of-self c =
       sender = kept.sender;
       receiver = kept.receiver;
       mark = grind (arith, common_steps);
-      end = end_behind kept.end (places.step_at who kept.at 0);
+      end = end_after kept.end (places.step_at who kept.at 0);
       at = places.next_place who kept.at 0;
       stands = (taken c 0).stands who kept.end kept.at kept.stands;
     }

@@ -1,7 +1,7 @@
 use Rattle.std.proofs.Common.{arith}
 use Rattle.std.proofs.lemmas.Grind.{common_steps}
-use Rattle.link_laws.specs.Ends.{end_behind}
-use Rattle.link_laws.specs.Places as places
+use Rattle.call_grammar.specs.Ends.{end_after}
+use Rattle.call_grammar.specs.Places as places
 use Rattle.link_endpoint.specs.Kept.{seen}
 use Rattle.link_endpoint.proofs.endpoint.Endpoint.took_state.Goals as goal
 
@@ -16,7 +16,7 @@ invariant_of-self c =
       sender = kept.sender;
       receiver = kept.receiver;
       mark = grind (arith, common_steps);
-      end = end_behind kept.end (places.step_at who kept.at c.args.value);
+      end = end_after kept.end (places.step_at who kept.at c.args.value);
       at = places.next_place who kept.at c.args.value;
       stands = grind (arith, common_steps);
     }

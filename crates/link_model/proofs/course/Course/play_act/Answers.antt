@@ -1,8 +1,8 @@
 use Rattle.std.proofs.Common.{◌≡◌, get_or, take, subst, refl, arith, List}
 use Rattle.scenario_text.specs.declared.acts.Act.{Act}
 use Rattle.lawful_history.specs.Schedule.{Event, Turned, schedule}
-use Rattle.link_world.specs.Stage.{RunsTo}
-use Rattle.link_world.proofs.Runs.{act_at, losses_few}
+use Rattle.stage.specs.Stage.{RunsTo}
+use Rattle.stage.proofs.Runs.{act_at, losses_few}
 use Rattle.link_model.specs.Course.{world_in}
 use Rattle.link_model.proofs.Playing.{no_turns, act_played, turns_noted, one_act_less}
 use Rattle.link_model.proofs.course.Course.play_act.Goals as goal
@@ -17,7 +17,7 @@ act-requires c =
       c.requires.played.0,
       schedule (take course.at world.acts),
       subst (λ (es : List Event). RunsTo world c.requires.played.0 es course.stage) before played.runs,
-      act_at world course.at c.args.act.now played.runs.behind.is_world c.requires.inside c.requires.at,
+      act_at world course.at c.args.act.now played.runs.scene_stands.is_world c.requires.inside c.requires.at,
       λ p. let few = losses_few world world.acts course.at p in let room = c.requires.room in omega arith,
     )
 

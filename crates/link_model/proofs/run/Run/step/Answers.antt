@@ -7,27 +7,27 @@ use Rattle.link_model.specs.Course.{IsGoing}
 use Rattle.link_model.proofs.Viewing.{one_more, seen_begins, seen_cause}
 use Rattle.link_model.proofs.run.Run.step.Goals as goal
 
--- the number of the line behind one more
-one_counted : (lines : List Line) (line : Line) (next behind : ℕ) → next ≡ length lines + 1 → behind ≡ next + 1 → behind ≡ length (lines ++ line ∷ []) + 1
-one_counted lines line next behind number more = omega (arith, length-append lines (line ∷ []))
+-- the number of the line after one more
+one_counted : (lines : List Line) (line : Line) (next after : ℕ) → next ≡ length lines + 1 → after ≡ next + 1 → after ≡ length (lines ++ line ∷ []) + 1
+one_counted lines line next after number more = omega (arith, length-append lines (line ∷ []))
 
 pub invariant_of-self-in-Ok : goal.invariant_of-self-in-Ok
 invariant_of-self-in-Ok c =
     let going = subst (λ (o : Option StepFault). IsGoing o c.self.inside.next c.self.inside.course) c.in_default.is c.self.invariant in
-    subst (λ (o : Option StepFault). IsGoing o c.in-Some-checked_add.behind c.take.new.self) (sym c.in_default.is)
-    (going.0 ++ c.args.line.now ∷ [], c.in-Ok.ensures.on going.0 going.1, one_counted going.0 c.args.line.now c.self.inside.next c.in-Some-checked_add.behind going.2 c.in-Some-checked_add.ensures.1)
+    subst (λ (o : Option StepFault). IsGoing o c.in-Some-checked_add.after c.take.new.self) (sym c.in_default.is)
+    (going.0 ++ c.args.line.now ∷ [], c.in-Ok.ensures.on going.0 going.1, one_counted going.0 c.args.line.now c.self.inside.next c.in-Some-checked_add.after going.2 c.in-Some-checked_add.ensures.1)
 
 pub returns-in-Ok-clause-taken : goal.returns-in-Ok-clause-taken
 returns-in-Ok-clause-taken c =
     let going = subst (λ (o : Option StepFault). IsGoing o c.self.inside.next c.self.inside.course) c.in_default.is c.self.invariant in
-    one_more c.self.inside.course c.take.new.self c.self.inside.next c.in-Some-checked_add.behind c.self.inside.fault going.0 c.args.line.now c.args.self.now c.self.view_is going.1 going.2
-    (c.in-Ok.ensures.on going.0 going.1) (one_counted going.0 c.args.line.now c.self.inside.next c.in-Some-checked_add.behind going.2 c.in-Some-checked_add.ensures.1) (ap world_of c.in-Ok.ensures.scenario)
+    one_more c.self.inside.course c.take.new.self c.self.inside.next c.in-Some-checked_add.after c.self.inside.fault going.0 c.args.line.now c.args.self.now c.self.view_is going.1 going.2
+    (c.in-Ok.ensures.on going.0 going.1) (one_counted going.0 c.args.line.now c.self.inside.next c.in-Some-checked_add.after going.2 c.in-Some-checked_add.ensures.1) (ap world_of c.in-Ok.ensures.scenario)
 
 pub returns-in-Ok-clause-lawful : goal.returns-in-Ok-clause-lawful
 returns-in-Ok-clause-lawful c =
     let going = subst (λ (o : Option StepFault). IsGoing o c.self.inside.next c.self.inside.course) c.in_default.is c.self.invariant in
-    seen_begins c.one_history.ensures c.history_is_lawful.ensures c.take.new.self c.in-Some-checked_add.behind (going.0 ++ c.args.line.now ∷ []) (c.in-Ok.ensures.on going.0 going.1)
-    (one_counted going.0 c.args.line.now c.self.inside.next c.in-Some-checked_add.behind going.2 c.in-Some-checked_add.ensures.1)
+    seen_begins c.one_history.ensures c.history_is_lawful.ensures c.take.new.self c.in-Some-checked_add.after (going.0 ++ c.args.line.now ∷ []) (c.in-Ok.ensures.on going.0 going.1)
+    (one_counted going.0 c.args.line.now c.self.inside.next c.in-Some-checked_add.after going.2 c.in-Some-checked_add.ensures.1)
 
 pub returns-in-Err-clause-cause : goal.returns-in-Err-clause-cause
 returns-in-Err-clause-cause c = λ none.

@@ -1,6 +1,6 @@
 use Rattle.std.proofs.Common.{◌≡◌, ℕ, ◌+◌, List, [], ◌∷◌, ◌++◌, length, arith, refl, ap, ◌∙◌, subst, length-append}
 use Rattle.std.specs.Prelude.{Some, slice_get}
-use Rattle.link_laws.specs.Calls.{Who}
+use Rattle.call_grammar.specs.Calls.{Who}
 use Rattle.lawful_history.specs.Peers.{at_start}
 use Rattle.lawful_history.specs.Sides.{world_of}
 use Rattle.plain_history.specs.declared.peers.Peer.{Peer}

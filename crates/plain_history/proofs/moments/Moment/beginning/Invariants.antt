@@ -1,6 +1,6 @@
 use Rattle.std.proofs.Common.{◌≡◌, ℕ, length}
 use Rattle.std.specs.Prelude.{Some, slice_get}
-use Rattle.link_laws.specs.Calls.{Who}
+use Rattle.call_grammar.specs.Calls.{Who}
 use Rattle.lawful_history.specs.Peers.{at_start}
 use Rattle.plain_history.specs.declared.peers.Peer.{Peer}
 use Rattle.plain_history.specs.Peers.{IsPeer}

@@ -2,7 +2,7 @@ use Rattle.std.proofs.Common.{◌≡◌, ℕ, ◌+◌, ◌*◌, get_or, arith, a
 use Rattle.std.specs.Prelude.{Option, slice_set}
 use Rattle.lawful_history.specs.Schedule.{event_peer}
 use Rattle.lawful_history.specs.Sides.{world_of, who_of}
-use Rattle.lawful_history.specs.History.{peer_at, peer_behind, happens}
+use Rattle.lawful_history.specs.History.{peer_at, peer_after, happens}
 use Rattle.plain_history.specs.Events.{event_seen}
 use Rattle.plain_history.specs.Moments.{GoesTo}
 use Rattle.plain_history.proofs.Running.{its_peer, moment_on}
@@ -26,7 +26,7 @@ returns-in-Some c = λ count moment is.
     let p = event_peer event in
     let at = subst (λ k. c.index_mut-peer.result.now ≡ get_or c.args.self.now.peers.items k c.index_mut-peer.result.now) c.peer.ensures c.index_mut-peer.ensures.value in
     let stands = its_peer world lines count moment c.args.self.now p c.index_mut-peer.result.now is c.requires.can.peer at in
-    let goes = subst (λ (o : Option ℕ). GoesTo world lines (happens world moment event).past (who_of world p) (2 * count + 2) (peer_behind world moment event) c.read_event.new.peer o) c.in-Some.is
+    let goes = subst (λ (o : Option ℕ). GoesTo world lines (happens world moment event).past (who_of world p) (2 * count + 2) (peer_after world moment event) c.read_event.new.peer o) c.in-Some.is
     (c.in_ok-read.ensures moment.past moment.losses (2 * count) (peer_at moment p) is.reads is.told is.losses stands) in
     moment_on world lines count event moment c.args.self.now _ c.read_event.new.peer is c.requires.can.peer goes.0 goes.1 c.count_loss.ensures.losses c.count_loss.ensures.seats
     (ap (λ k. slice_set c.args.self.now.peers.items k c.read_event.new.peer) c.peer.ensures) goes.2
@@ -39,5 +39,5 @@ returns-in-None c = λ count moment is.
     let p = event_peer event in
     let at = subst (λ k. c.index_mut-peer.result.now ≡ get_or c.args.self.now.peers.items k c.index_mut-peer.result.now) c.peer.ensures c.index_mut-peer.ensures.value in
     let stands = its_peer world lines count moment c.args.self.now p c.index_mut-peer.result.now is c.requires.can.peer at in
-    subst (λ (o : Option ℕ). GoesTo world lines (happens world moment event).past (who_of world p) (2 * count + 2) (peer_behind world moment event) c.read_event.new.peer o) c.in-None.is
+    subst (λ (o : Option ℕ). GoesTo world lines (happens world moment event).past (who_of world p) (2 * count + 2) (peer_after world moment event) c.read_event.new.peer o) c.in-None.is
     (c.in_ok-read.ensures moment.past moment.losses (2 * count) (peer_at moment p) is.reads is.told is.losses stands)

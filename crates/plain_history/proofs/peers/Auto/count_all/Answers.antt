@@ -1,5 +1,5 @@
 use Rattle.std.proofs.Common.{rules, arith, sym, ap, ◌∙◌}
-use Rattle.link_plain.specs.Seen.{mark_seen}
+use Rattle.plain_calls.specs.Seen.{mark_seen}
 use Rattle.lawful_history.specs.Peers.{counted}
 use Rattle.plain_history.specs.Peers.{auto_seen}
 use Rattle.plain_history.proofs.Counting.{one_count}

@@ -1,5 +1,5 @@
 use Rattle.std.proofs.Common.{◌≡◌, ◌+◌, ◌≤◌, take}
-use Rattle.link_plain.specs.Seen.{marks_seen}
+use Rattle.plain_calls.specs.Seen.{marks_seen}
 use Rattle.lawful_history.specs.Peers.{counted_all}
 use Rattle.plain_history.specs.Peers.{auto_seen}
 use Rattle.plain_history.proofs.peers.Auto.count_all.Given as goal

@@ -1,4 +1,4 @@
-use Rattle.link_plain.specs.Seen.{who_seen, call_seen}
+use Rattle.plain_calls.specs.Seen.{who_seen, call_seen}
 use Rattle.plain_history.proofs.Opening.{begun}
 use Rattle.plain_history.proofs.peers.Peer.begin.Goals as goal
 

@@ -1,4 +1,4 @@
-use Rattle.link_plain.specs.Seen.{who_seen}
+use Rattle.plain_calls.specs.Seen.{who_seen}
 use Rattle.lawful_history.specs.Peers as history
 use Rattle.plain_history.specs.Peers.{round_seen}
 use Rattle.plain_history.proofs.peers.Peer.begin_in.Goals as goal

@@ -1,6 +1,6 @@
 use Rattle.std.proofs.Common.{◌≡◌, ap, sym, ◌∙◌, subst}
-use Rattle.link_laws.specs.Automatic as laws
-use Rattle.link_plain.specs.Seen.{who_seen}
+use Rattle.call_grammar.specs.Automatic as laws
+use Rattle.plain_calls.specs.Seen.{who_seen}
 use Rattle.lawful_history.specs.Peers as history
 use Rattle.lawful_history.specs.Peers.{chosen}
 use Rattle.plain_history.specs.declared.peers.Driver.{Driver}

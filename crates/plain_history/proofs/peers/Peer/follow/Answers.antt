@@ -1,11 +1,11 @@
 use Rattle.std.proofs.Common.{◌≡◌, ◌+◌, ℕ, List, length, ap, sym, ◌∙◌, subst}
-use Rattle.link_plain.specs.declared.steps.Mark.{Mark}
-use Rattle.link_plain.specs.Seen.{who_seen, marks_seen, step_seen}
-use Rattle.lawful_history.specs.Peers.{driver_behind}
+use Rattle.plain_calls.specs.declared.steps.Mark.{Mark}
+use Rattle.plain_calls.specs.Seen.{who_seen, marks_seen, step_seen}
+use Rattle.lawful_history.specs.Peers.{driver_after}
 use Rattle.plain_history.specs.Peers.{HasFew, driver_seen}
 use Rattle.std.proofs.lemmas.List.{length-map}
-use Rattle.link_plain.specs.Seen.{mark_seen}
-use Rattle.link_laws.specs.Places.{Place, next_place}
+use Rattle.plain_calls.specs.Seen.{mark_seen}
+use Rattle.call_grammar.specs.Places.{Place, next_place}
 use Rattle.plain_history.proofs.Opening.{followed}
 use Rattle.plain_history.proofs.peers.Peer.follow.Goals as goal
 
@@ -15,7 +15,7 @@ returns c = λ most peer stands.
     let s = c.args.self.now in
     let marks = c.args.step.now.marks.items in
     let slice : c.as_slice.result.now ≡ marks = c.as_slice.ensures.value in
-    let driver : driver_seen c.count.new.self.driver ≡ driver_behind (driver_seen s.driver) (marks_seen marks) = c.count.ensures.counted ∙ ap (λ (ms : List Mark). driver_behind (driver_seen s.driver) (marks_seen ms)) slice in
+    let driver : driver_seen c.count.new.self.driver ≡ driver_after (driver_seen s.driver) (marks_seen marks) = c.count.ensures.counted ∙ ap (λ (ms : List Mark). driver_after (driver_seen s.driver) (marks_seen ms)) slice in
     let few : HasFew (most + length (marks_seen marks)) c.count.new.self.driver =
     subst (λ (n : ℕ). HasFew (most + n) c.count.new.self.driver) (ap length slice ∙ sym (length-map marks mark_seen)) (c.count.ensures.few most stands.delivered) in
     let call : c.in_ok-self.field-0 ≡ next_place who s.call c.args.met = c.in_ok-self.ensures ∙ ap (λ (p : Place). next_place who p c.args.met) (c.replace-call.ensures.value ∙ c.count.ensures.kept.1) in

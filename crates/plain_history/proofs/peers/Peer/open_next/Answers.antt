@@ -1,8 +1,8 @@
 use Rattle.std.proofs.Common.{rules, ◌≡◌, ◌<◌, List, [], ◌∷◌, remove, length, arith, refl, ap, sym, ◌∙◌, subst}
 use Rattle.std.specs.Prelude.{map}
 use Rattle.std.proofs.lemmas.Bool.Decides.{nat_tests}
-use Rattle.link_plain.specs.declared.ends.Call.{Call}
-use Rattle.link_plain.specs.Seen.{who_seen, call_seen}
+use Rattle.plain_calls.specs.declared.ends.Call.{Call}
+use Rattle.plain_calls.specs.Seen.{who_seen, call_seen}
 use Rattle.lawful_history.specs.Peers as history
 use Rattle.plain_history.specs.Peers.{IsPeer}
 use Rattle.plain_history.proofs.Opening.{none_waits, oldest_waits, oldest_is}

@@ -18,9 +18,9 @@ returns-in-Err c =
 pub returns : goal.returns
 returns c =
     let here = ap (λ (s : Sender). s.place) c.self.view_is ∙ c.requires in
-    let notes_are : c.match-self.notes.items ≡ full_notes c.behind_ids-self-inside.result =
+    let notes_are : c.match-self.notes.items ≡ full_notes c.offer_after_ids-self-inside.result =
     elim c.match-self.branch [
       | in-Closed w ↦ ap (λ (n : ArrayVec Note). n.items) w.notes-is ∙ (w.push.ensures.items ∙ (ap (λ (n : List Note). n ++ Full ∷ []) c.new-notes.ensures ∙ ap full_notes (sym w.in-Closed.is)))
       | in_default-place w ↦ ap (λ (n : ArrayVec Note). n.items) w.notes-is ∙ (c.new-notes.ensures ∙ sym (open_notes _ w.in_default-place.not-Closed))
     ] in
-    id_step c.self.inside _ c.args.more c.args.id c.oldest-oldest.result c.free.new.self _ _ _ c.self.view_is c.self.invariant here c.oldest-oldest.ensures c.in_default.ensures.inside c.free.ensures c.behind_ids-self-inside.ensures notes_are
+    id_step c.self.inside _ c.args.more c.args.id c.oldest-oldest.result c.free.new.self _ _ _ c.self.view_is c.self.invariant here c.oldest-oldest.ensures c.in_default.ensures.inside c.free.ensures c.offer_after_ids-self-inside.ensures notes_are

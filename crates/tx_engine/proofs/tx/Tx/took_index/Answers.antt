@@ -12,11 +12,11 @@ pub returns-after-self : goal.returns-after-self
 returns-after-self c =
     let here = ap (λ (s : Sender). s.place) c.self.view_is ∙ c.requires in
     let first : c.push.new.self.items ≡ Reclaim c.in-Ok.count ∷ [] = c.push.ensures.items ∙ ap (λ (n : List Note). n ++ Reclaim c.in-Ok.count ∷ []) c.new-notes.ensures in
-    let notes_are : c.match-self.notes.items ≡ Reclaim c.in-Ok.count ∷ full_notes c.behind_ids-self-inside.result =
+    let notes_are : c.match-self.notes.items ≡ Reclaim c.in-Ok.count ∷ full_notes c.offer_after_ids-self-inside.result =
     elim c.match-self.branch [
       | in-Closed w ↦ ap (λ (n : ArrayVec Note). n.items) w.notes-is ∙ (w.push-in-Closed.ensures.items ∙ (ap (λ (n : List Note). n ++ Full ∷ []) first
           ∙ ap (λ place. Reclaim c.in-Ok.count ∷ full_notes place) (sym w.in-Closed.is)))
       | in_default w ↦ ap (λ (n : ArrayVec Note). n.items) w.notes-is ∙ (first ∙ ap (λ (n : List Note). Reclaim c.in-Ok.count ∷ n) (sym (open_notes _ w.in_default.not-Closed)))
     ] in
     let freed = c.freed-freed.ensures ∙ ap (λ (s : Sender). (s.accepted + 65536 - s.in_flight) % 65536) (sym c.self.view_is) in
-    index_step c.self.inside _ c.args.value c.in-Ok.count _ _ _ _ _ c.self.view_is c.self.invariant here freed c.in_flight-in_flight.ensures.count c.in-Ok.ensures.inside.0 c.in-Ok.ensures.inside.1 c.behind_ids-self-inside.ensures notes_are
+    index_step c.self.inside _ c.args.value c.in-Ok.count _ _ _ _ _ c.self.view_is c.self.invariant here freed c.in_flight-in_flight.ensures.count c.in-Ok.ensures.inside.0 c.in-Ok.ensures.inside.1 c.offer_after_ids-self-inside.ensures notes_are

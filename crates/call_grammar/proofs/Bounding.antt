@@ -1,0 +1,112 @@
+-- A finished call meets its bound.
+use Rattle.std.proofs.Common.{◌≡◌, ℕ, zero, suc, ◌+◌, ◌*◌, ◌<◌, ◌≤◌, inl, inr, List, [], ◌∷◌, ◌++◌, length, refl, ap, arith, length-append, ne_eqb}
+use Rattle.std.specs.Prelude.{◌==◌, if◌then◌else◌, flat_map}
+use Rattle.std.proofs.lemmas.List.{length-take-le}
+use Rattle.link_handshake.specs.declared.Phase.{Phase}
+use Rattle.link_handshake.specs.declared.Phase.TheVariants.{Reset, Init, Ready, Run}
+use Rattle.link_handshake.specs.declared.Move.{Move}
+use Rattle.link_handshake.specs.declared.Move.TheVariants.{Stay, Set, ClearThenSet}
+use Rattle.link_handshake.specs.Standing.{move_of}
+use Rattle.split_ring.specs.declared.ranges.FieldName.TheVariants as field_name
+use Rattle.split_ring.specs.declared.steps.Access.TheVariants.{Ring}
+use Rattle.split_ring.specs.Layout.{limit_of}
+use Rattle.call_grammar.specs.Steps.{Mark, Deliver, Done, Step, step_of}
+use Rattle.call_grammar.specs.Words.{word_bytes, words_for, frame_in}
+use Rattle.call_grammar.specs.Ticks.{Who, clear_steps, tick_steps, state_step}
+use Rattle.call_grammar.specs.Offers.{Job, refusal, refused_steps, id_step, id_steps, fill_steps, publish_steps, full_marks, returned_by, IsOffer}
+use Rattle.call_grammar.specs.Polls.{Item, item_entry, item_address, word_steps, return_steps, IsGood, item_steps, AreGood, items_steps, IsRefusedItem, IsPoll}
+use Rattle.call_grammar.specs.Calls.{Tick, Stop, Offer, Poll, RunsOrIsDown, job_of}
+use Rattle.call_grammar.proofs.OfferLists.{no}
+use Rattle.call_grammar.specs.StepBounds.{marks_bound, items_bound, CallsMeetBounds}
+
+clear_length : (at count : ℕ) → length (clear_steps at count) ≡ count
+clear_length at zero = refl
+clear_length at (suc more) = let e = clear_length (at + 1) more in omega arith
+
+tick_length : (who : Who) (value : ℕ) (move : Move) → length (tick_steps who value move) ≤ who.words + 2
+tick_length who value Stay = omega arith
+tick_length who value (Set state) = omega arith
+tick_length who value (ClearThenSet state) = omega (arith, clear_length who.own who.words, length-append (clear_steps who.own who.words) (state_step state ∷ []))
+
+ids_length : (who : Who) (freed count : ℕ) (marks : List Mark) → length (id_steps who freed count marks) ≡ count
+ids_length who freed zero marks = refl
+ids_length who freed (suc more) marks = let e = ids_length who (freed + 1) more marks in omega arith
+
+fill_length : (who : Who) (job : Job) (at count : ℕ) → length (fill_steps who job at count) ≡ count
+fill_length who job at zero = refl
+fill_length who job at (suc more) = let e = fill_length who job (at + 1) more in omega arith
+
+offer_length : (who : Who) (job : Job) (freed : ℕ) (steps : List Step) → job.number ≤ freed + limit_of who.sizes → IsOffer who job freed steps → length steps ≤ limit_of who.sizes + words_for (length job.frame) + 8
+offer_length who job freed steps room (inl r) = let e = ap length r.steps_are in omega arith
+offer_length who job freed steps room (inr (inl r)) = let within = r.within in let before = r.before in omega (arith, ap length r.steps_are, ids_length who freed r.passed [], length-append (id_steps who freed r.passed []) (refused_steps (id_step who (freed + r.passed) r.id (refusal field_name.UsedId r.id))))
+offer_length who job freed steps room (inr (inr (inl r))) = let within = r.within in omega (arith, ap length r.steps_are, ids_length who freed (returned_by freed r.value) (full_marks who job (freed + returned_by freed r.value)))
+offer_length who job freed steps room (inr (inr (inr r))) = let within = r.within in omega (
+  arith,
+  ap length r.steps_are,
+  ids_length who freed (returned_by freed r.value) (full_marks who job (freed + returned_by freed r.value)),
+  length-append (id_steps who freed (returned_by freed r.value) (full_marks who job (freed + returned_by freed r.value))) (fill_steps who job 0 (words_for (length job.frame)) ++ publish_steps who job),
+  length-append (fill_steps who job 0 (words_for (length job.frame))) (publish_steps who job),
+  fill_length who job 0 (words_for (length job.frame)),
+)
+
+bound-append : (xs ys : List Step) → items_bound (xs ++ ys) ≡ items_bound xs + items_bound ys
+bound-append [] ys = omega arith
+bound-append (x ∷ xs) ys = let e = bound-append xs ys in omega arith
+
+bytes_length : (words : List ℕ) → length (flat_map word_bytes words) ≡ 4 * length words
+bytes_length [] = refl
+bytes_length (word ∷ words) = let e = bytes_length words in omega arith
+
+pub frame_length : (bytes : ℕ) (words : List ℕ) → length words ≡ words_for bytes → length (frame_in bytes words) ≡ bytes
+frame_length bytes words is = length-take-le bytes (flat_map word_bytes words) (let e = bytes_length words in omega arith)
+
+-- the reads of so many words, of which the last delivers
+words_length : (who : Who) (address at : ℕ) (words : List ℕ) (marks : List Mark) → length (word_steps who address at words marks) ≡ length words
+words_length who address at [] marks = refl
+words_length who address at (word ∷ words) marks = let e = words_length who address (at + 1) words marks in omega arith
+
+-- a step that isn't the last has no marks
+unmarked : (n : ℕ) (marks : List Mark) → 0 < n → marks_bound (if n == 0 then marks else []) ≡ 0
+unmarked n marks some = ap marks_bound (no (n == 0) marks [] (ne_eqb n 0 (λ e. omega arith)))
+
+words_bound : (who : Who) (address at : ℕ) (words : List ℕ) (marks : List Mark) → 0 < length words → items_bound (word_steps who address at words marks) ≡ marks_bound marks
+words_bound who address at [] marks some = absurd (omega arith)
+words_bound who address at (word ∷ []) marks some = omega arith
+words_bound who address at (word ∷ (next ∷ words)) marks some = let e = words_bound who address (at + 1) (next ∷ words) marks (omega arith) in let first = unmarked (length (next ∷ words)) marks (omega arith) in omega arith
+
+item_length : (who : Who) (number : ℕ) (read : Item) → IsGood who number read → length (item_steps who number read) ≡ items_bound (item_steps who number read)
+item_length who number read good = let marks = Deliver (frame_in read.bytes read.words) ∷ [] in let e = item_entry who number read in let a = item_address read in let n = good.words in let least = good.bytes.0 in
+    let bound = words_bound who a 0 read.words marks (omega arith) in let size = frame_length read.bytes read.words good.words in
+    omega (arith, length-append (word_steps who a 0 read.words marks) (return_steps who number e), words_length who a 0 read.words marks, bound-append (word_steps who a 0 read.words marks) (return_steps who number e))
+
+items_length : (who : Who) (number : ℕ) (reads : List Item) → AreGood who number reads → length (items_steps who number reads) ≡ items_bound (items_steps who number reads)
+items_length who number [] good = refl
+items_length who number (read ∷ reads) good = let one = item_length who number read good.0 in let others = items_length who (number + 1) reads good.1 in
+    omega (arith, length-append (item_steps who number read) (items_steps who (number + 1) reads), bound-append (item_steps who number read) (items_steps who (number + 1) reads))
+
+refused_length : (who : Who) (number : ℕ) (read : Item) (steps : List Step) → IsRefusedItem who number read steps → length steps ≤ items_bound steps
+refused_length who number read steps (inl is) = let n = ap length is.1 in let b = ap items_bound is.1 in omega arith
+refused_length who number read steps (inr (inl is)) = let n = ap length is.2 in let b = ap items_bound is.2 in omega arith
+refused_length who number read steps (inr (inr (inl is))) = let n = ap length is.3 in let b = ap items_bound is.3 in omega arith
+refused_length who number read steps (inr (inr (inr is))) = let n = ap length is.4 in let b = ap items_bound is.4 in omega arith
+
+poll_length : (who : Who) (taken : ℕ) (steps : List Step) → IsPoll who taken steps → length steps ≤ 2 + items_bound steps
+poll_length who taken steps (inl r) = let n = ap length r.steps_are in omega arith
+poll_length who taken steps (inr (inl r)) = let n = ap length r.steps_are in omega arith
+poll_length who taken steps (inr (inr (inl r))) = let n = ap length r.steps_are in let b = ap items_bound r.steps_are in let items = items_length who taken r.reads r.good in
+    omega (arith, length-append (items_steps who taken r.reads) (step_of (Ring who.other who.vector) 0 (Done ∷ []) ∷ []), bound-append (items_steps who taken r.reads) (step_of (Ring who.other who.vector) 0 (Done ∷ []) ∷ []))
+poll_length who taken steps (inr (inr (inr r))) = let n = ap length r.steps_are in let b = ap items_bound r.steps_are in let items = items_length who taken r.reads r.good in let last = refused_length who (taken + length r.reads) r.last r.last_steps r.refused in
+    omega (arith, length-append (items_steps who taken r.reads) r.last_steps, bound-append (items_steps who taken r.reads) r.last_steps)
+
+-- a call that is down has one step
+by_phase : (phase : Phase) (Runs : Type 0) (steps : List Step) (bound : ℕ) → 1 ≤ bound → (Runs → length steps ≤ bound) → RunsOrIsDown phase Runs steps → length steps ≤ bound
+by_phase Reset Runs steps bound one runs is = let n = ap length is in omega arith
+by_phase Init Runs steps bound one runs is = let n = ap length is in omega arith
+by_phase Ready Runs steps bound one runs is = let n = ap length is in omega arith
+by_phase Run Runs steps bound one runs is = runs is
+
+pub bounding : CallsMeetBounds
+bounding who end Tick steps room is = let n = ap length is.1 in omega (arith, tick_length who is.0 (move_of end.handshake is.0))
+bounding who end Stop steps room is = let n = ap length is in omega arith
+bounding who end (Offer frame) steps room is = by_phase end.handshake.phase (IsOffer who (job_of who end frame) end.freed steps) steps (limit_of who.sizes + words_for (length frame) + 8) (omega arith) (offer_length who (job_of who end frame) end.freed steps room) is
+bounding who end Poll steps room is = by_phase end.handshake.phase (IsPoll who (length end.delivered) steps) steps (2 + items_bound steps) (omega arith) (poll_length who (length end.delivered) steps) is

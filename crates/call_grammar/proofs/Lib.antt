@@ -1,0 +1,12 @@
+pub mod Cuts
+pub mod TickLists
+pub mod OfferLists
+pub mod PollLists
+pub mod Lists
+pub mod Phases
+pub mod Reaching
+pub mod Rowing
+pub mod Following
+pub mod Bounding
+pub mod Distinct
+pub mod Playing

@@ -1,0 +1,5 @@
+use Rattle.call_grammar.proofs.Lists.{lists}
+use Rattle.call_grammar.proofs.calls_are_lists.Goals as goal
+
+pub returns : goal.returns
+returns c = lists

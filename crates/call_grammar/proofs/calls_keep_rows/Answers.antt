@@ -1,0 +1,5 @@
+use Rattle.call_grammar.proofs.Rowing.{rowing}
+use Rattle.call_grammar.proofs.calls_keep_rows.Goals as goal
+
+pub returns : goal.returns
+returns c = rowing

@@ -1,0 +1,5 @@
+use Rattle.call_grammar.proofs.Following.{following}
+use Rattle.call_grammar.proofs.places_follow_trees.Goals as goal
+
+pub returns : goal.returns
+returns c = following

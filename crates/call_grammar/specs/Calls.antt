@@ -1,0 +1,73 @@
+-- The call grammar: which steps a call of a link peer takes (profile), as a tree and as a table of lists.
+use Rattle.std.specs.Prelude.{ℕ, ◌≡◌, ◌≢◌, ◌+◌, Bool, true, false, if◌then◌else◌, List, [], ◌∷◌, length}
+use Rattle.link_handshake.specs.declared.Phase.{Phase}
+use Rattle.link_handshake.specs.declared.Phase.TheVariants.{Reset, Init, Ready, Run}
+use Rattle.split_ring.specs.declared.steps.Access.TheVariants.{Nothing}
+use Rattle.split_ring.specs.Layout.{word_place, Entry}
+use Rattle.call_grammar.specs.Steps.{Down, Step, step_of}
+use Rattle.call_grammar.specs.Trees.{CallTree, Ended, Does, Makes}
+use Rattle.link_handshake.specs.Standing.{move_of}
+use Rattle.call_grammar.specs.Ends.{End}
+pub use Rattle.call_grammar.specs.Ticks.{Who}
+use Rattle.call_grammar.specs.Ticks.{tick, set_state, tick_steps, state_step}
+use Rattle.call_grammar.specs.Offers.{Job, entry_of, offer, IsOffer}
+use Rattle.call_grammar.specs.Polls.{poll, IsPoll}
+
+-- what an end may be told to do: an Offer is of a frame, by its bytes
+pub data Call : Type 0 where
+  Tick : Call
+  Stop : Call
+  Offer : (frame : List ℕ) → Call
+  Poll : Call
+
+-- the phase in which offers and polls work
+abbrev pub in_run : Phase → Bool
+in_run Reset = false
+in_run Init = false
+in_run Ready = false
+in_run Run = true
+
+-- the job of an offer that this end begins: the frame is the next one of the session
+abbrev pub job_of : Who → End → List ℕ → Job
+job_of who end frame = record {
+  frame = frame;
+  number = length end.accepted;
+  beside = end.written (who.own + word_place who.sizes (Entry (entry_of who (length end.accepted))));
+}
+
+-- an Offer or a Poll outside RUN is one step without an access
+abbrev pub down : CallTree
+down = Does Nothing (Down ∷ []) Ended
+
+-- a call that this end begins
+abbrev pub tree_of : Who → End → Call → CallTree
+tree_of who end Tick = tick who end
+tree_of who end Stop = set_state 0
+tree_of who end (Offer frame) = if in_run end.handshake.phase then offer who (job_of who end frame) end.freed else down
+tree_of who end Poll = if in_run end.handshake.phase then poll who (length end.delivered) else down
+
+abbrev pub down_step : Step
+down_step = step_of Nothing 0 (Down ∷ [])
+
+-- an Offer or a Poll that begins in this phase: its steps in RUN, else the one step of a call that is down
+abbrev pub RunsOrIsDown : Phase → Type 0 → List Step → Type 0
+RunsOrIsDown Reset in_run steps = steps ≡ down_step ∷ []
+RunsOrIsDown Init in_run steps = steps ≡ down_step ∷ []
+RunsOrIsDown Ready in_run steps = steps ≡ down_step ∷ []
+RunsOrIsDown Run in_run steps = in_run
+
+-- a finished call, that this end began, is one of these lists of steps
+abbrev pub IsCall : Who → End → Call → List Step → Type 0
+IsCall who end Tick steps = (value : ℕ) × (steps ≡ tick_steps who value (move_of end.handshake value))
+IsCall who end Stop steps = steps ≡ state_step 0 ∷ []
+IsCall who end (Offer frame) steps = RunsOrIsDown end.handshake.phase (IsOffer who (job_of who end frame) end.freed steps) steps
+IsCall who end Poll steps = RunsOrIsDown end.handshake.phase (IsPoll who (length end.delivered) steps) steps
+
+-- a list of steps runs the tree of a call to its end exactly where it is one of the call's lists
+pub record CallsAreLists : Type 0 where
+  pub listed : (who : Who) (end : End) (call : Call) (steps : List Step) → Makes (tree_of who end call) steps → IsCall who end call steps
+  pub made : (who : Who) (end : End) (call : Call) (steps : List Step) → IsCall who end call steps → Makes (tree_of who end call) steps
+
+-- every call takes a step
+abbrev pub CallsTakeAStep : Type 0
+CallsTakeAStep = (who : Who) (end : End) (call : Call) → tree_of who end call ≢ Ended

@@ -1,0 +1,73 @@
+-- An end of the link between two steps, and what a step changes in it. An end is changed by `record end { .. }` alone, and `fresh` is the only literal.
+use Rattle.std.specs.Prelude.{ℕ, ◌≡◌, ◌≢◌, ◌+◌, ◌==◌, true, false, if◌then◌else◌, List, [], ◌∷◌, ◌++◌}
+use Rattle.link_handshake.specs.declared.Phase.TheVariants.{Reset}
+use Rattle.link_handshake.specs.PhaseTable.{phase_at}
+use Rattle.link_handshake.specs.Standing.{Standing}
+use Rattle.split_ring.specs.declared.steps.Access.{Access}
+use Rattle.split_ring.specs.declared.steps.Access.TheVariants as access
+use Rattle.call_grammar.specs.Steps.{Mark, Saw, Reclaim, Full, Accept, Look, Deliver, Return, Done, Down, Refuse, Over, Step}
+
+-- where its handshake stands: the phase, and the mark of an end that refused the link; of its session the frames accepted and
+-- delivered, by their bytes, and how many were freed and returned; and what the end wrote last to each word of the region, or 0
+pub record End : Type 0 where
+  pub handshake : Standing
+  pub accepted : List (List ℕ)
+  pub freed : ℕ
+  pub delivered : List (List ℕ)
+  pub returned : ℕ
+  pub written : ℕ → ℕ
+
+-- an end at its start
+abbrev pub fresh : End
+fresh = record { handshake = record { phase = Reset; mark = false }; accepted = []; freed = 0; delivered = []; returned = 0; written = λ word. 0 }
+
+-- a device reset: the phase is RESET and the mark is gone; the words stay as they were written, and the lists until the next session (profile)
+abbrev pub after_reset : End → End
+after_reset end = record end { handshake = record { phase = Reset; mark = false } }
+
+-- a write of State sets the phase, and a write of 2 opens a session, whose lists and counts are empty (profile)
+abbrev pub with_state : End → ℕ → End
+with_state end state = record {
+  handshake = record (end.handshake) { phase = phase_at state };
+  accepted = if state == 2 then [] else end.accepted;
+  freed = if state == 2 then 0 else end.freed;
+  delivered = if state == 2 then [] else end.delivered;
+  returned = if state == 2 then 0 else end.returned;
+  written = end.written;
+}
+
+-- what an access changes: a write of a word and a write of State
+abbrev pub stated : End → Access → End
+stated end (access.Read word) = end
+stated end (access.Write word value) = record end { written = λ w. if w == word then value else end.written w }
+stated end (access.State state) = with_state end state
+stated end (access.Ring target vector) = end
+stated end access.Nothing = end
+
+-- what a mark counts: frames freed, accepted, delivered and returned. A refusal marks the end; its phase is set at the State step
+-- after it (profile)
+abbrev pub noted : End → Mark → End
+noted end (Saw value) = end
+noted end (Reclaim count) = record end { freed = end.freed + count }
+noted end Full = end
+noted end (Accept frame) = record end { accepted = end.accepted ++ frame ∷ [] }
+noted end (Look count) = end
+noted end (Deliver frame) = record end { delivered = end.delivered ++ frame ∷ [] }
+noted end Return = record end { returned = end.returned + 1 }
+noted end Done = end
+noted end Down = end
+noted end (Refuse refused) = record end { handshake = record (end.handshake) { mark = true } }
+noted end Over = end
+
+abbrev pub noted_all : End → List Mark → End
+noted_all end [] = end
+noted_all end (mark ∷ marks) = noted_all (noted end mark) marks
+
+-- the end after this step
+abbrev pub end_after : End → Step → End
+end_after end step = noted_all (stated end step.access) step.marks
+
+-- the phase changes at a State step alone, and it is then the one that was written
+pub record PhaseFollowsState : Type 0 where
+  pub kept : (end : End) (step : Step) → ((state : ℕ) → step.access ≢ access.State state) → (end_after end step).handshake.phase ≡ end.handshake.phase
+  pub written : (end : End) (step : Step) (state : ℕ) → step.access ≡ access.State state → (end_after end step).handshake.phase ≡ phase_at state

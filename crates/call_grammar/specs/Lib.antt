@@ -1,0 +1,15 @@
+pub mod Steps
+pub mod Trees
+pub mod Ends
+pub mod Words
+pub mod Ticks
+pub mod Offers
+pub mod Polls
+pub mod Calls
+pub mod Reach
+pub mod Rows
+pub mod Places
+pub mod Plays
+pub mod StepBounds
+pub mod ReadsOnce
+pub mod Automatic

@@ -1,0 +1,61 @@
+-- The state rows of the link machine over a call: an end writes 0, or the state to which the phase table moves on from the value that it saw last; and what it saw is the other's state.
+use Rattle.std.specs.Prelude.{ℕ, ◌≡◌, ◌⊎◌, List, [], ◌∷◌}
+use Rattle.link_handshake.specs.declared.Phase.{Phase}
+use Rattle.link_handshake.specs.declared.Move.TheVariants.{Set, ClearThenSet}
+use Rattle.link_handshake.specs.PhaseTable.{move_on, phase_at}
+use Rattle.split_ring.specs.declared.steps.Access.{Access}
+use Rattle.split_ring.specs.declared.steps.Access.TheVariants as access
+use Rattle.call_grammar.specs.Steps.{Mark, Saw, Step}
+use Rattle.call_grammar.specs.Trees.{CallTree, Ended, Does, Reads, Goes}
+use Rattle.call_grammar.specs.Ends.{End}
+use Rattle.call_grammar.specs.Calls.{Who, Call, tree_of}
+
+-- from this phase, an end that saw this value moves on to this state
+abbrev pub MovesTo : Phase → ℕ → ℕ → Type 0
+MovesTo phase seen state = (move_on phase seen ≡ Set state) ⊎ (move_on phase seen ≡ ClearThenSet state)
+
+-- the phase after an access
+abbrev pub phase_with : Phase → Access → Phase
+phase_with phase (access.Read word) = phase
+phase_with phase (access.Write word written) = phase
+phase_with phase (access.State state) = phase_at state
+phase_with phase (access.Ring target vector) = phase
+phase_with phase access.Nothing = phase
+
+-- the value seen last, after these marks
+abbrev pub seen_with : ℕ → List Mark → ℕ
+seen_with seen [] = seen
+seen_with seen (Saw value ∷ marks) = seen_with value marks
+seen_with seen (_ ∷ marks) = seen_with seen marks
+
+-- what these marks of a read saw is the state word of the other, and the value that was read
+abbrev pub SeesTheOther : Who → ℕ → ℕ → List Mark → Type 0
+SeesTheOther who word value [] = Unit {0}
+SeesTheOther who word value (Saw seen ∷ marks) = (word ≡ who.other) × (seen ≡ value) × SeesTheOther who word value marks
+SeesTheOther who word value (_ ∷ marks) = SeesTheOther who word value marks
+
+-- these marks saw nothing
+abbrev pub SeesNothing : List Mark → Type 0
+SeesNothing [] = Unit {0}
+SeesNothing (Saw seen ∷ marks) = ⊥
+SeesNothing (_ ∷ marks) = SeesNothing marks
+
+-- the row of one step: by its access, the value read and its marks, for an end in this phase that saw this value last
+abbrev pub RowHolds : Who → Phase → ℕ → Access → ℕ → List Mark → Type 0
+RowHolds who phase seen (access.Read word) value marks = SeesTheOther who word value marks
+RowHolds who phase seen (access.Write word written) value marks = SeesNothing marks
+RowHolds who phase seen (access.State state) value marks = ((state ≡ 0) ⊎ MovesTo phase seen state) × SeesNothing marks
+RowHolds who phase seen (access.Ring target vector) value marks = SeesNothing marks
+RowHolds who phase seen access.Nothing value marks = SeesNothing marks
+
+-- each step of the call has its row, whatever the reads give
+abbrev pub KeepsRows : Who → Phase → ℕ → CallTree → Type 0
+KeepsRows who phase seen Ended = Unit {0}
+KeepsRows who phase seen (Does access marks rest) = RowHolds who phase seen access 0 marks × KeepsRows who (phase_with phase access) (seen_with seen marks) rest
+KeepsRows who phase seen (Reads word marks rest) = (value : ℕ) → RowHolds who phase seen (access.Read word) value (marks value) × KeepsRows who phase (seen_with seen (marks value)) (rest value)
+
+-- every call keeps the rows, and so does what a step leaves of it; its phase is that of the end
+pub record CallsKeepRows : Type 0 where
+  pub calls : (who : Who) (end : End) (seen : ℕ) (call : Call) → KeepsRows who end.handshake.phase seen (tree_of who end call)
+  pub step : (who : Who) (phase : Phase) (seen : ℕ) (tree new : CallTree) (step : Step) → KeepsRows who phase seen tree → Goes tree step new →
+      RowHolds who phase seen step.access step.value step.marks × KeepsRows who (phase_with phase step.access) (seen_with seen step.marks) new

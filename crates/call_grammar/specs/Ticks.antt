@@ -1,0 +1,60 @@
+-- A Tick and a Stop (profile: the phase table and the order of accesses), as a tree and as a table of lists. A part of a tree has what comes after it as its last argument.
+use Rattle.std.specs.Prelude.{ℕ, zero, suc, ◌+◌, List, [], ◌∷◌, ◌++◌}
+use Rattle.link_handshake.specs.declared.Move.{Move}
+use Rattle.link_handshake.specs.declared.Move.TheVariants.{Stay, Set, ClearThenSet}
+use Rattle.link_handshake.specs.Standing.{move_of}
+use Rattle.split_ring.specs.declared.steps.Access.TheVariants.{Read, Write, State}
+use Rattle.split_ring.specs.Layout.{Sizes}
+use Rattle.call_grammar.specs.Steps.{Mark, Saw, Over, Step, step_of}
+use Rattle.call_grammar.specs.Trees.{CallTree, Ended, Does, Reads}
+use Rattle.call_grammar.specs.Ends.{End}
+
+-- who makes the calls: a peer and its partner, the first words of their sections and the words of each, the sizes of the queue in them, and the vector of the traffic doorbell
+pub record Who : Type 0 where
+  pub me : ℕ
+  pub other : ℕ
+  pub own : ℕ
+  pub theirs : ℕ
+  pub words : ℕ
+  pub sizes : Sizes
+  pub vector : ℕ
+
+-- The tree
+
+-- writes of 0 to so many words from this one on, ascending, and then what comes after
+abbrev pub clear : ℕ → ℕ → CallTree → CallTree
+clear at zero after = after
+clear at (suc more) after = Does (Write at 0) [] (clear (at + 1) more after)
+
+-- a write of State, which ends the call
+abbrev pub set_state : ℕ → CallTree
+set_state state = Does (State state) (Over ∷ []) Ended
+
+abbrev pub tick_marks : ℕ → Move → List Mark
+tick_marks value Stay = Saw value ∷ Over ∷ []
+tick_marks value (Set state) = Saw value ∷ []
+tick_marks value (ClearThenSet state) = Saw value ∷ []
+
+abbrev pub after_tick : Who → Move → CallTree
+after_tick who Stay = Ended
+after_tick who (Set state) = set_state state
+after_tick who (ClearThenSet state) = clear who.own who.words (set_state state)
+
+-- a Tick that this end begins
+abbrev pub tick : Who → End → CallTree
+tick who end = Reads who.other (λ value. tick_marks value (move_of end.handshake value)) (λ value. after_tick who (move_of end.handshake value))
+
+-- The table
+
+abbrev pub clear_steps : ℕ → ℕ → List Step
+clear_steps at zero = []
+clear_steps at (suc more) = step_of (Write at 0) 0 [] ∷ clear_steps (at + 1) more
+
+abbrev pub state_step : ℕ → Step
+state_step state = step_of (State state) 0 (Over ∷ [])
+
+-- a Tick that read this value, by the move that it makes: no more; the State step; or 0 to each own word ascending and then the State step
+abbrev pub tick_steps : Who → ℕ → Move → List Step
+tick_steps who value Stay = step_of (Read who.other) value (Saw value ∷ Over ∷ []) ∷ []
+tick_steps who value (Set state) = step_of (Read who.other) value (Saw value ∷ []) ∷ state_step state ∷ []
+tick_steps who value (ClearThenSet state) = step_of (Read who.other) value (Saw value ∷ []) ∷ (clear_steps who.own who.words ++ state_step state ∷ [])

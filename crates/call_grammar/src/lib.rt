@@ -1,0 +1,65 @@
+//! The call grammar that engines, simulator, checker and running peers share: which steps a Tick, a Stop, an Offer and a Poll take, as a
+//! tree, as lists and from place to place, and what a call touches. It stands on `split_ring` for accesses and notes and on
+//! `link_handshake` for the phases. It holds no code: each law about the definitions of `specs/` is the contract of a function with an
+//! empty body.
+#![tactic(auto)]
+
+ghost use Rattle.call_grammar.specs.Trees.{CutsBegin};
+ghost use Rattle.call_grammar.specs.Ends.{PhaseFollowsState};
+ghost use Rattle.call_grammar.specs.Calls.{CallsAreLists, CallsTakeAStep};
+ghost use Rattle.call_grammar.specs.Reach.{CallsStayInReach};
+ghost use Rattle.call_grammar.specs.Rows.{CallsKeepRows};
+ghost use Rattle.call_grammar.specs.Places.{PlacesFollowTrees};
+ghost use Rattle.call_grammar.specs.Plays.{PlayedAreCalls};
+ghost use Rattle.call_grammar.specs.StepBounds.{CallsMeetBounds};
+ghost use Rattle.call_grammar.specs.ReadsOnce.{FieldsAreReadOnce};
+
+/// A call that is cut has the first steps of a whole one.
+pub fn cuts_begin()
+    ensures { CutsBegin }
+{}
+
+/// A list of steps runs the tree of a call to its end exactly where the table of calls has it.
+pub fn calls_are_lists()
+    ensures { CallsAreLists }
+{}
+
+/// Every call takes a step.
+pub fn calls_take_a_step()
+    ensures { CallsTakeAStep }
+{}
+
+/// The phase of an end changes at a State step alone.
+pub fn phase_follows_state()
+    ensures { PhaseFollowsState }
+{}
+
+/// A call writes its own section and its own state word alone, and reads the other's words alone, whatever it reads.
+pub fn calls_stay_in_reach()
+    ensures { CallsStayInReach }
+{}
+
+/// An end writes 0, or the state to which the phase table moves on from what it saw last, which is the other's state.
+pub fn calls_keep_rows()
+    ensures { CallsKeepRows }
+{}
+
+/// A call begins at its first place and goes on from place to place: by the step at its place, and by that alone.
+pub fn places_follow_trees()
+    ensures { PlacesFollowTrees }
+{}
+
+/// A list of steps is a call exactly where it is played, step by step, from the call's first place to its end.
+pub fn played_are_calls()
+    ensures { PlayedAreCalls }
+{}
+
+/// A finished call has no more steps than its bound.
+pub fn calls_meet_bounds()
+    ensures { CallsMeetBounds }
+{}
+
+/// Each foreign field is read once for each item of a poll, and each word once in an offer.
+pub fn fields_are_read_once()
+    ensures { FieldsAreReadOnce }
+{}

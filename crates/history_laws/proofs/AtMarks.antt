@@ -1,0 +1,33 @@
+-- What stands at the marks of a lawful history.
+use Rattle.std.proofs.Common.{◌∷◌, ◌++◌, ◌≡◌, [], List, sym, ap, subst, append_assoc}
+use Rattle.lawful_history.specs.declared.line.Line.TheVariants.{Accept, Deliver, Refuse, Read}
+use Rattle.history_laws.specs.Reads.{DeliveredFramesAreRead, RefusedValuesAreRead, OutOfRangeIsRefused}
+use Rattle.history_laws.specs.Spelled.{HistoriesSpellAccepted}
+use Rattle.history_laws.proofs.Stands.{Fine, AnswersTo, Settled}
+use Rattle.history_laws.proofs.Lines.{at_line, middle}
+use Rattle.history_laws.proofs.Along.{all_fine, all_settled}
+use Rattle.history_laws.specs.Rows.{EachLine}
+use Rattle.lawful_history.specs.declared.line.Line.{Line}
+use Rattle.std.specs.Prelude.{reverse}
+
+pub accepted_lem : HistoriesSpellAccepted
+accepted_lem world before after p frame is lawful = (at_line (Fine world) before after (Accept p frame) (all_fine world (before ++ Accept p frame ∷ after) is lawful)).1
+
+pub delivered_lem : DeliveredFramesAreRead
+delivered_lem world before after p frame is lawful = (at_line (Fine world) before after (Deliver p frame) (all_fine world (before ++ Deliver p frame ∷ after) is lawful)).1
+
+pub refused_lem : RefusedValuesAreRead
+refused_lem world before after p refused is lawful = (at_line (Fine world) before after (Refuse p refused) (all_fine world (before ++ Refuse p refused ∷ after) is lawful)).1
+
+pub answered_lem : OutOfRangeIsRefused
+answered_lem world before [] p word value refused is honest lawful beyond =
+    let read = Read p word value in
+    let settled : Settled world (read ∷ reverse before) = subst (λ (ls : List Line). Settled world ls) (middle before [] read) (all_settled world (before ++ read ∷ []) is lawful) in
+    absurd (settled refused honest beyond)
+answered_lem world before (next ∷ rest) p word value refused is honest lawful beyond =
+    let read = Read p word value in
+    let joined : before ++ read ∷ (next ∷ rest) ≡ (before ++ read ∷ []) ++ next ∷ rest = sym (append_assoc before (read ∷ []) (next ∷ rest)) in
+    let all : EachLine (Fine world) (reverse ((before ++ read ∷ []) ++ next ∷ rest)) = subst (λ (ls : List Line). EachLine (Fine world) (reverse ls)) joined (all_fine world (before ++ read ∷ (next ∷ rest)) is lawful) in
+    let here : AnswersTo world (reverse (before ++ read ∷ [])) next = (at_line (Fine world) (before ++ read ∷ []) rest next all).2 in
+    let answered : AnswersTo world (read ∷ reverse before) next = subst (λ (ls : List Line). AnswersTo world ls next) (middle before [] read) here in
+    (rest, ap (λ (l : Line). l ∷ rest) (answered refused honest beyond))

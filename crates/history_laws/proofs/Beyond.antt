@@ -1,0 +1,421 @@
+-- A read out of range is refused on its step.
+use Rattle.std.proofs.Common.{◌≡◌, ◌≢◌, ℕ, suc, ◌+◌, ◌-◌, ◌/◌, ◌%◌, ◌<◌, ◌≤◌, false, List, [], ◌∷◌, ◌++◌, length, refl, sym, ◌∙◌, ap, subst, arith}
+use mathlib.Core.Logic.{dite}
+use native.Mathlib.Decide.{dec_lt}
+use Rattle.std.specs.Prelude.{◌==◌, nat_le, if◌then◌else◌}
+use Rattle.std.proofs.lemmas.Bool.Decides.{nat_tests}
+use Rattle.std.proofs.lemmas.Nat.{mod_below}
+use Rattle.split_ring.specs.declared.ranges.FieldName.{FieldName}
+use Rattle.split_ring.specs.declared.ranges.FieldName.TheVariants as field_name
+use Rattle.split_ring.specs.declared.steps.Access.TheVariants as access
+use Rattle.split_ring.specs.Layout.{size_of, limit_of, payload_of, word_place, Address, Length, Flags, AvailableIndex, Entry, UsedIndex, Id}
+use Rattle.split_ring.specs.Spelling.{low_half, high_half, entry_half}
+use Rattle.split_ring.specs.Ranges.{IsAvailIndex, IsAvailEntry, IsDescAddress, IsDescLength, IsDescFlags, IsUsedIndex, IsUsedId}
+use Rattle.call_grammar.specs.Steps.{Mark}
+use Rattle.call_grammar.specs.Ends.{End}
+use Rattle.call_grammar.specs.Words.{address_of}
+use Rattle.call_grammar.specs.Calls.{Who}
+use Rattle.call_grammar.specs.Offers.{Job, descriptor_of, entry_of, refusal, returned_by, reclaim_marks, full_marks}
+use Rattle.call_grammar.specs.Polls.{Item, item_entry, item_address, is_entry, is_address, is_length, published_by, look_marks}
+use Rattle.call_grammar.specs.Places.{Place, Closed, AtState, Clearing, Setting, Refusing, Downed, AtUsedIndex, AtUsedId, Filling, WritingLow, WritingHigh, WritingLength, WritingFlags, WritingEntry, WritingIndex, RingingOffer, AtAvailIndex, AtEntry, AtLow, AtHigh, AtLength, AtFlags, AtWord, GivingId, GivingLength, GivingIndex, RingingPoll, access_at, marks_at}
+use Rattle.link_machine.specs.LinkMachine.{Side}
+use Rattle.call_grammar.proofs.OfferLists.{no}
+use Rattle.call_grammar.proofs.PollLists.{entry_fails, address_fails, length_fails}
+use Rattle.link_pair.specs.Standing as pair_place
+use Rattle.link_pair.specs.Standing.{Standing, delivered_count, accepted_count}
+use Rattle.link_pair.specs.Alone.{Alone}
+use Rattle.link_pair.proofs.Words.{ring_apart}
+use Rattle.link_pair.proofs.AloneKept.{within_at}
+use Rattle.pair_calls.specs.Ground.{Ground, IsGround, who_of, layout_of, StandsAs}
+use Rattle.pair_calls.specs.Sides.{SideIs}
+use Rattle.pair_calls.proofs.Grounds.{numbers}
+use Rattle.history_laws.specs.Reads.{Got, got, entry_read, low_read, high_read, length_read, flags_read, IsReadBeyond}
+use Rattle.history_laws.proofs.ReadPlaces.{ReadsAre}
+use Rattle.history_laws.proofs.MarkFacts.{accepted_number, delivered_number, unmarked}
+
+-- The last of some reads
+
+snoc_inj : (xs ys : List Got) (x y : Got) → xs ++ x ∷ [] ≡ ys ++ y ∷ [] → (xs ≡ ys) × (x ≡ y)
+snoc_inj [] [] x y e = (refl, cc)
+snoc_inj [] (b ∷ []) x y e = absurd (cc)
+snoc_inj [] (b ∷ c ∷ ys) x y e = absurd (cc)
+snoc_inj (a ∷ []) [] x y e = absurd (cc)
+snoc_inj (a ∷ c ∷ xs) [] x y e = absurd (cc)
+snoc_inj (a ∷ xs) (b ∷ ys) x y e =
+    let tails : xs ++ x ∷ [] ≡ ys ++ y ∷ [] = cc in
+    let heads : a ≡ b = cc in
+    let rest = snoc_inj xs ys x y tails in
+    (ap (λ (l : List Got). a ∷ l) rest.0 ∙ ap (λ (g : Got). g ∷ ys) heads, rest.1)
+
+-- what is known of a read of this word, where these reads came before, that is out of the range of this field
+Last : Who → Side → List Got → (word value : ℕ) → FieldName → ℕ → Type 0
+Last who side reads word value field_name.AvailIndex refused = (word ≡ who.theirs + word_place who.sizes AvailableIndex) × (refused ≡ high_half value) × (¬ IsAvailIndex who.sizes (length side.delivered % 65536) refused)
+Last who side reads word value field_name.AvailEntry refused =
+    (word ≡ who.theirs + word_place who.sizes (Entry (entry_of who (length side.delivered)))) × (refused ≡ entry_half (entry_of who (length side.delivered)) value) × (¬ IsAvailEntry who.sizes refused)
+Last who side reads word value field_name.DescAddress refused =
+    (read : Item) × (reads ≡ entry_read who (length side.delivered) read ∷ low_read who (length side.delivered) read ∷ []) × IsAvailEntry who.sizes (item_entry who (length side.delivered) read) ×
+    (word ≡ who.theirs + word_place who.sizes (Address (item_entry who (length side.delivered) read)) + 1) × (refused ≡ address_of read.low value) × (¬ IsDescAddress who.sizes refused)
+Last who side reads word value field_name.DescLength refused =
+    (read : Item) × (reads ≡ entry_read who (length side.delivered) read ∷ low_read who (length side.delivered) read ∷ high_read who (length side.delivered) read ∷ []) × IsAvailEntry who.sizes (item_entry who (length side.delivered) read) ×
+    (word ≡ who.theirs + word_place who.sizes (Length (item_entry who (length side.delivered) read))) × (refused ≡ value) × (¬ IsDescLength who.sizes (item_address read) refused)
+Last who side reads word value field_name.DescFlags refused =
+    (read : Item) × IsAvailEntry who.sizes (item_entry who (length side.delivered) read) ×
+    (word ≡ who.theirs + word_place who.sizes (Flags (item_entry who (length side.delivered) read))) × (refused ≡ low_half value) × (¬ IsDescFlags refused)
+Last who side reads word value field_name.UsedIndex refused =
+    (word ≡ who.theirs + word_place who.sizes UsedIndex) × (refused ≡ high_half value) × (¬ IsUsedIndex (side.freed % 65536) refused (length side.accepted - side.freed))
+Last who side reads word value field_name.UsedId refused =
+    (number : ℕ) × (number < side.freed) × (side.freed ≤ number + limit_of who.sizes) × (word ≡ who.theirs + word_place who.sizes (Id (entry_of who number))) × (refused ≡ value) × (¬ IsUsedId (number % limit_of who.sizes) refused)
+
+word_is : (word value w v : ℕ) → got word value ≡ got w v → word ≡ w
+word_is word value w v e = ap (λ (g : Got). g.word) e
+
+value_is : (word value w v : ℕ) → got word value ≡ got w v → v ≡ value
+value_is word value w v e = sym (ap (λ (g : Got). g.value) e)
+
+last_of : (who : Who) (side : Side) (reads : List Got) (word value : ℕ) (field : FieldName) (refused : ℕ) → IsReadBeyond who side (reads ++ got word value ∷ []) field refused → Last who side reads word value field refused
+unfolding Last
+last_of who side reads word value field_name.AvailIndex refused b =
+    let e = (snoc_inj reads b.0 (got word value) _ b.2).1 in (word_is word value _ b.1 e, b.3 ∙ ap high_half (value_is word value _ b.1 e), b.4)
+last_of who side reads word value field_name.AvailEntry refused b =
+    let number = length side.delivered in
+    let e = (snoc_inj reads [] (got word value) (entry_read who number b.0) b.1).1 in
+    (word_is word value _ _ e, b.2 ∙ ap (entry_half (entry_of who number)) (value_is word value _ b.0.entry_word e), b.3)
+last_of who side reads word value field_name.DescAddress refused b =
+    let number = length side.delivered in
+    let s = snoc_inj reads (entry_read who number b.0 ∷ low_read who number b.0 ∷ []) (got word value) (high_read who number b.0) b.1 in
+    (b.0, s.0, b.2, word_is word value _ _ s.1, b.3 ∙ ap (address_of b.0.low) (value_is word value _ b.0.high s.1), b.4)
+last_of who side reads word value field_name.DescLength refused b =
+    let number = length side.delivered in
+    let s = snoc_inj reads (entry_read who number b.0 ∷ low_read who number b.0 ∷ high_read who number b.0 ∷ []) (got word value) (length_read who number b.0) b.1 in
+    (b.0, s.0, b.2, word_is word value _ _ s.1, b.4 ∙ value_is word value _ b.0.bytes s.1, b.5)
+last_of who side reads word value field_name.DescFlags refused b =
+    let number = length side.delivered in
+    let s = snoc_inj reads (entry_read who number b.0 ∷ low_read who number b.0 ∷ high_read who number b.0 ∷ length_read who number b.0 ∷ []) (got word value) (flags_read who number b.0) b.1 in
+    (b.0, b.2, word_is word value _ _ s.1, b.5 ∙ ap low_half (value_is word value _ b.0.flags_word s.1), b.6)
+last_of who side reads word value field_name.UsedIndex refused b =
+    let e = (snoc_inj reads b.0 (got word value) _ b.2).1 in (word_is word value _ b.1 e, b.3 ∙ ap high_half (value_is word value _ b.1 e), b.4)
+last_of who side reads word value field_name.UsedId refused b =
+    let e = (snoc_inj reads b.0 (got word value) _ b.4).1 in (b.1, b.2, b.3, word_is word value _ refused e, value_is word value _ refused e, b.5)
+
+-- The words of the fields stand apart
+
+FieldWord : Who → FieldName → ℕ → Type 0
+FieldWord who field_name.AvailIndex word = word ≡ who.theirs + word_place who.sizes AvailableIndex
+FieldWord who field_name.AvailEntry word = (k : ℕ) × (k < size_of who.sizes) × (word ≡ who.theirs + word_place who.sizes (Entry k))
+FieldWord who field_name.DescAddress word = (e : ℕ) × (e < size_of who.sizes) × (word ≡ who.theirs + word_place who.sizes (Address e) + 1)
+FieldWord who field_name.DescLength word = (e : ℕ) × (e < size_of who.sizes) × (word ≡ who.theirs + word_place who.sizes (Length e))
+FieldWord who field_name.DescFlags word = (e : ℕ) × (e < size_of who.sizes) × (word ≡ who.theirs + word_place who.sizes (Flags e))
+FieldWord who field_name.UsedIndex word = word ≡ who.theirs + word_place who.sizes UsedIndex
+FieldWord who field_name.UsedId word = (k : ℕ) × (k < size_of who.sizes) × (word ≡ who.theirs + word_place who.sizes (Id k))
+
+word_of_last : (who : Who) (side : Side) (reads : List Got) (word value : ℕ) (field : FieldName) (refused : ℕ) → 0 < size_of who.sizes → Last who side reads word value field refused → FieldWord who field word
+unfolding Last FieldWord
+word_of_last who side reads word value field_name.AvailIndex refused some b = b.0
+word_of_last who side reads word value field_name.AvailEntry refused some b = (entry_of who (length side.delivered), mod_below (length side.delivered) (size_of who.sizes) some, b.0)
+word_of_last who side reads word value field_name.DescAddress refused some b = (item_entry who (length side.delivered) b.0, b.2, b.3)
+word_of_last who side reads word value field_name.DescLength refused some b = (item_entry who (length side.delivered) b.0, b.2, b.3)
+word_of_last who side reads word value field_name.DescFlags refused some b = (item_entry who (length side.delivered) b.0, b.1, b.2)
+word_of_last who side reads word value field_name.UsedIndex refused some b = b.0
+word_of_last who side reads word value field_name.UsedId refused some b = (entry_of who b.0, mod_below b.0 (size_of who.sizes) some, b.3)
+
+module _ (who : Who) where
+  only_avail_index : (field : FieldName) → FieldWord who field (who.theirs + word_place who.sizes AvailableIndex) → field ≡ field_name.AvailIndex
+  unfolding FieldWord
+  only_avail_index field_name.AvailIndex f = refl
+  only_avail_index field_name.AvailEntry f = let s = f.1 in let e = f.2 in absurd (omega arith)
+  only_avail_index field_name.DescAddress f = let s = f.1 in let e = f.2 in absurd (omega arith)
+  only_avail_index field_name.DescLength f = let s = f.1 in let e = f.2 in absurd (omega arith)
+  only_avail_index field_name.DescFlags f = let s = f.1 in let e = f.2 in absurd (omega arith)
+  only_avail_index field_name.UsedIndex f = let e = f in absurd (omega arith)
+  only_avail_index field_name.UsedId f = let s = f.1 in let e = f.2 in absurd (omega arith)
+
+  only_entry : (i : ℕ) → i < size_of who.sizes → (field : FieldName) → FieldWord who field (who.theirs + word_place who.sizes (Entry i)) → field ≡ field_name.AvailEntry
+  unfolding FieldWord
+  only_entry i low field_name.AvailIndex f = let e = f in absurd (omega arith)
+  only_entry i low field_name.AvailEntry f = refl
+  only_entry i low field_name.DescAddress f = let s = f.1 in let e = f.2 in absurd (omega arith)
+  only_entry i low field_name.DescLength f = let s = f.1 in let e = f.2 in absurd (omega arith)
+  only_entry i low field_name.DescFlags f = let s = f.1 in let e = f.2 in absurd (omega arith)
+  only_entry i low field_name.UsedIndex f = let e = f in absurd (omega arith)
+  only_entry i low field_name.UsedId f = let s = f.1 in let e = f.2 in absurd (omega arith)
+
+  only_low : (i : ℕ) → i < size_of who.sizes → (field : FieldName) → FieldWord who field (who.theirs + word_place who.sizes (Address i)) → ⊥
+  unfolding FieldWord
+  only_low i low field_name.AvailIndex f = let e = f in absurd (omega arith)
+  only_low i low field_name.AvailEntry f = let s = f.1 in let e = f.2 in absurd (omega arith)
+  only_low i low field_name.DescAddress f = let s = f.1 in let e = f.2 in absurd (omega arith)
+  only_low i low field_name.DescLength f = let s = f.1 in let e = f.2 in absurd (omega arith)
+  only_low i low field_name.DescFlags f = let s = f.1 in let e = f.2 in absurd (omega arith)
+  only_low i low field_name.UsedIndex f = let e = f in absurd (omega arith)
+  only_low i low field_name.UsedId f = let s = f.1 in let e = f.2 in absurd (omega arith)
+
+  only_high : (i : ℕ) → i < size_of who.sizes → (field : FieldName) → FieldWord who field (who.theirs + word_place who.sizes (Address i) + 1) → field ≡ field_name.DescAddress
+  unfolding FieldWord
+  only_high i low field_name.AvailIndex f = let e = f in absurd (omega arith)
+  only_high i low field_name.AvailEntry f = let s = f.1 in let e = f.2 in absurd (omega arith)
+  only_high i low field_name.DescAddress f = refl
+  only_high i low field_name.DescLength f = let s = f.1 in let e = f.2 in absurd (omega arith)
+  only_high i low field_name.DescFlags f = let s = f.1 in let e = f.2 in absurd (omega arith)
+  only_high i low field_name.UsedIndex f = let e = f in absurd (omega arith)
+  only_high i low field_name.UsedId f = let s = f.1 in let e = f.2 in absurd (omega arith)
+
+  only_length : (i : ℕ) → i < size_of who.sizes → (field : FieldName) → FieldWord who field (who.theirs + word_place who.sizes (Length i)) → field ≡ field_name.DescLength
+  unfolding FieldWord
+  only_length i low field_name.AvailIndex f = let e = f in absurd (omega arith)
+  only_length i low field_name.AvailEntry f = let s = f.1 in let e = f.2 in absurd (omega arith)
+  only_length i low field_name.DescAddress f = let s = f.1 in let e = f.2 in absurd (omega arith)
+  only_length i low field_name.DescLength f = refl
+  only_length i low field_name.DescFlags f = let s = f.1 in let e = f.2 in absurd (omega arith)
+  only_length i low field_name.UsedIndex f = let e = f in absurd (omega arith)
+  only_length i low field_name.UsedId f = let s = f.1 in let e = f.2 in absurd (omega arith)
+
+  only_flags : (i : ℕ) → i < size_of who.sizes → (field : FieldName) → FieldWord who field (who.theirs + word_place who.sizes (Flags i)) → field ≡ field_name.DescFlags
+  unfolding FieldWord
+  only_flags i low field_name.AvailIndex f = let e = f in absurd (omega arith)
+  only_flags i low field_name.AvailEntry f = let s = f.1 in let e = f.2 in absurd (omega arith)
+  only_flags i low field_name.DescAddress f = let s = f.1 in let e = f.2 in absurd (omega arith)
+  only_flags i low field_name.DescLength f = let s = f.1 in let e = f.2 in absurd (omega arith)
+  only_flags i low field_name.DescFlags f = refl
+  only_flags i low field_name.UsedIndex f = let e = f in absurd (omega arith)
+  only_flags i low field_name.UsedId f = let s = f.1 in let e = f.2 in absurd (omega arith)
+
+  only_used_index : (field : FieldName) → FieldWord who field (who.theirs + word_place who.sizes UsedIndex) → field ≡ field_name.UsedIndex
+  unfolding FieldWord
+  only_used_index field_name.AvailIndex f = let e = f in absurd (omega arith)
+  only_used_index field_name.AvailEntry f = let s = f.1 in let e = f.2 in absurd (omega arith)
+  only_used_index field_name.DescAddress f = let s = f.1 in let e = f.2 in absurd (omega arith)
+  only_used_index field_name.DescLength f = let s = f.1 in let e = f.2 in absurd (omega arith)
+  only_used_index field_name.DescFlags f = let s = f.1 in let e = f.2 in absurd (omega arith)
+  only_used_index field_name.UsedIndex f = refl
+  only_used_index field_name.UsedId f = let s = f.1 in let e = f.2 in absurd (omega arith)
+
+  only_id : (i : ℕ) → i < size_of who.sizes → (field : FieldName) → FieldWord who field (who.theirs + word_place who.sizes (Id i)) → field ≡ field_name.UsedId
+  unfolding FieldWord
+  only_id i low field_name.AvailIndex f = let e = f in absurd (omega arith)
+  only_id i low field_name.AvailEntry f = let s = f.1 in let e = f.2 in absurd (omega arith)
+  only_id i low field_name.DescAddress f = let s = f.1 in let e = f.2 in absurd (omega arith)
+  only_id i low field_name.DescLength f = let s = f.1 in let e = f.2 in absurd (omega arith)
+  only_id i low field_name.DescFlags f = let s = f.1 in let e = f.2 in absurd (omega arith)
+  only_id i low field_name.UsedIndex f = let e = f in absurd (omega arith)
+  only_id i low field_name.UsedId f = refl
+
+  no_word : (a j : ℕ) → payload_of who.sizes ≤ a → (field : FieldName) → FieldWord who field (who.theirs + (a / 4 + j)) → ⊥
+  unfolding FieldWord
+  no_word a j high field_name.AvailIndex f = let e = f in absurd (omega arith)
+  no_word a j high field_name.AvailEntry f = let s = f.1 in let e = f.2 in absurd (omega arith)
+  no_word a j high field_name.DescAddress f = let s = f.1 in let e = f.2 in absurd (omega arith)
+  no_word a j high field_name.DescLength f = let s = f.1 in let e = f.2 in absurd (omega arith)
+  no_word a j high field_name.DescFlags f = let s = f.1 in let e = f.2 in absurd (omega arith)
+  no_word a j high field_name.UsedIndex f = let e = f in absurd (omega arith)
+  no_word a j high field_name.UsedId f = let s = f.1 in let e = f.2 in absurd (omega arith)
+
+  no_state : (w : ℕ) → w < who.theirs → (field : FieldName) → FieldWord who field (w) → ⊥
+  unfolding FieldWord
+  no_state w low field_name.AvailIndex f = let e = f in absurd (omega arith)
+  no_state w low field_name.AvailEntry f = let s = f.1 in let e = f.2 in absurd (omega arith)
+  no_state w low field_name.DescAddress f = let s = f.1 in let e = f.2 in absurd (omega arith)
+  no_state w low field_name.DescLength f = let s = f.1 in let e = f.2 in absurd (omega arith)
+  no_state w low field_name.DescFlags f = let s = f.1 in let e = f.2 in absurd (omega arith)
+  no_state w low field_name.UsedIndex f = let e = f in absurd (omega arith)
+  no_state w low field_name.UsedId f = let s = f.1 in let e = f.2 in absurd (omega arith)
+
+-- The marks of the step
+
+test_fails : (a b : ℕ) → ¬ (a ≤ b) → nat_le a b ≡ false
+test_fails a b beyond = dite (dec_lt b a) (λ above. grind (arith, nat_tests)) (λ upto. absurd (beyond (omega arith)))
+
+same_fails : (a b : ℕ) → a ≢ b → (a == b) ≡ false
+same_fails a b ne = grind (arith, nat_tests)
+
+read_word : (a w : ℕ) → access.Read a ≡ access.Read w → w ≡ a
+read_word a w e = cc
+
+second_of : (a b c d : Got) (xs ys : List Got) → a ∷ b ∷ xs ≡ c ∷ d ∷ ys → b ≡ d
+second_of a b c d xs ys e = cc
+
+third_of : (a b c d e f : Got) (xs ys : List Got) → a ∷ b ∷ c ∷ xs ≡ d ∷ e ∷ f ∷ ys → c ≡ f
+third_of a b c d e f xs ys is = cc
+
+-- the marks are those of the field
+at_field : (who : Who) (side : Side) (reads : List Got) (word value : ℕ) (field here : FieldName) (refused : ℕ) (marks : List Mark) → field ≡ here → (Last who side reads word value here refused → marks ≡ refusal here refused) →
+    Last who side reads word value field refused → marks ≡ refusal field refused
+at_field who side reads word value field here refused marks is show last =
+    subst (λ (f : FieldName). Last who side reads word value f refused → marks ≡ refusal f refused) (sym is) show last
+
+refused_as : (marks : List Mark) (field : FieldName) (value refused : ℕ) → marks ≡ refusal field value → refused ≡ value → marks ≡ refusal field refused
+refused_as marks field value refused is e = is ∙ ap (refusal field) (sym e)
+
+-- what is known of the end and its call
+record Facts (ground : Ground) (p : ℕ) (memory : ℕ → ℕ) (end : End) (s : Standing) (side : Side) (reads : List Got) (place : Place) : Type 0 where
+  stands : StandsAs ground p memory end place s
+  alone : Alone (layout_of ground) memory p s
+  si : SideIs end place side
+  reads_are : ReadsAre (who_of ground p) place reads
+
+module _ (ground : Ground) (p : ℕ) (memory : ℕ → ℕ) (end : End) (s : Standing) (side : Side) (reads : List Got) (value : ℕ) (word : ℕ) (field : FieldName) (refused : ℕ) (is : IsGround ground) where
+  Refuses : Place → Type 0
+  Refuses place = Facts ground p memory end s side reads place → access_at (who_of ground p) place ≡ access.Read word → Last (who_of ground p) side reads word value field refused → FieldWord (who_of ground p) field word →
+      marks_at (who_of ground p) place value ≡ refusal field refused
+
+  number_of : (place : Place) (number : ℕ) → StandsAs ground p memory end place s → SideIs end place side → number ≡ delivered_count s → number ≡ length side.delivered
+  number_of place number stands si e = e ∙ delivered_number ground p memory end place s side side stands si refl
+
+  avail_index_beyond : (taken : ℕ) → Refuses (AtAvailIndex taken)
+  unfolding Refuses Last
+  avail_index_beyond taken f at last there =
+      let who = who_of ground p in
+      let count = published_by taken value in
+      let only = only_avail_index who field (subst (FieldWord who field) (read_word _ word at) there) in
+      at_field who side reads word value field field_name.AvailIndex refused (marks_at who (AtAvailIndex taken) value) only
+      (λ l. let n = number_of (AtAvailIndex taken) taken f.stands f.si f.stands.at.2 in
+      let beyond : ¬ IsAvailIndex ground.sizes (taken % 65536) (high_half value) = subst (λ (k : ℕ). ¬ IsAvailIndex ground.sizes (k % 65536) (high_half value)) (sym n) (subst (λ (r : ℕ). ¬ IsAvailIndex ground.sizes (length side.delivered % 65536) r) l.1 l.2) in
+      refused_as _ field_name.AvailIndex (high_half value) refused (no (nat_le count (size_of ground.sizes)) (look_marks count) (refusal field_name.AvailIndex (high_half value)) (test_fails count (size_of ground.sizes) beyond)) l.1) last
+
+  used_index_beyond : (job : Job) (freed : ℕ) → Refuses (AtUsedIndex job freed)
+  unfolding Refuses Last
+  used_index_beyond job freed f at last there =
+      let who = who_of ground p in
+      let count = returned_by freed value in
+      let only = only_used_index who field (subst (FieldWord who field) (read_word _ word at) there) in
+      let run = f.stands.at.1.0.run in
+      let two : 2 ≤ s.phase = omega arith in
+      let mark = sym f.stands.mark ∙ unmarked ground p memory s f.alone run in
+      let counted = f.stands.freed two mark in
+      let freed_is : freed ≡ side.freed = let e = f.stands.at.2 in let g = f.si.freed in omega arith in
+      let number : job.number ≡ length side.accepted = f.stands.at.1.0.number ∙ accepted_number ground p memory end (AtUsedIndex job freed) s side side f.stands f.si refl in
+      at_field who side reads word value field field_name.UsedIndex refused (marks_at who (AtUsedIndex job freed) value) only
+      (λ l. let beyond : ¬ IsUsedIndex (side.freed % 65536) (high_half value) (length side.accepted - side.freed) = subst (λ (r : ℕ). ¬ IsUsedIndex (side.freed % 65536) r (length side.accepted - side.freed)) l.1 l.2 in
+      let mine : ¬ IsUsedIndex (freed % 65536) (high_half value) (job.number - freed) =
+      subst (λ (n : ℕ). ¬ IsUsedIndex (freed % 65536) (high_half value) (n - freed)) (sym number) (subst (λ (k : ℕ). ¬ IsUsedIndex (k % 65536) (high_half value) (length side.accepted - k)) (sym freed_is) beyond) in
+      refused_as _ field_name.UsedIndex (high_half value) refused (no (nat_le count (job.number - freed)) (reclaim_marks who job freed count) (refusal field_name.UsedIndex (high_half value)) (test_fails count (job.number - freed) mine)) l.1) last
+
+  same_number : (freed number count : ℕ) → freed < count → count ≤ freed + limit_of ground.sizes → number < count → count ≤ number + limit_of ground.sizes → number % size_of ground.sizes ≡ freed % size_of ground.sizes → number ≡ freed
+  same_number freed number count f1 f2 n1 n2 same =
+      let b = numbers ground is in let least = b.size_least in let most = b.limit_most in
+      dite (dec_lt freed number) (λ up. absurd (ring_apart (size_of ground.sizes) freed number (omega arith) up (omega arith) same))
+      (λ upto. dite (dec_lt number freed) (λ down. absurd (ring_apart (size_of ground.sizes) number freed (omega arith) down (omega arith) (sym same))) (λ other. omega arith))
+
+  used_id_beyond : (job : Job) (freed more : ℕ) → Refuses (AtUsedId job freed more)
+  unfolding Refuses Last
+  used_id_beyond job freed more f at last there =
+      let who = who_of ground p in
+      let b = numbers ground is in let least = b.size_least in
+      let only = only_id who (entry_of who freed) (mod_below freed (size_of ground.sizes) (omega arith)) field (subst (FieldWord who field) (read_word _ word at) there) in
+      let run = f.stands.at.1.0.run in
+      let two : 2 ≤ s.phase = omega arith in
+      let mark = sym f.stands.mark ∙ unmarked ground p memory s f.alone run in
+      let counted = f.stands.freed two mark in
+      let within = within_at (pair_place.Reclaiming (suc more)) f.stands.at.0 f.alone in
+      let room = f.alone.room in
+      let e = f.stands.at.2 in let g = f.si.freed in
+      at_field who side reads word value field field_name.UsedId refused (marks_at who (AtUsedId job freed more) value) only
+      (λ l. let words : who.theirs + word_place ground.sizes (Id (entry_of who freed)) ≡ who.theirs + word_place ground.sizes (Id (entry_of who l.0)) = sym (read_word _ word at) ∙ l.3 in
+      let place : entry_of who l.0 ≡ entry_of who freed = omega arith in
+      let low = l.1 in let high = l.2 in
+      let number : l.0 ≡ freed = same_number freed l.0 side.freed (omega arith) (omega arith) low high place in
+      let wrong : ¬ IsUsedId (freed % limit_of ground.sizes) value = subst (λ (k : ℕ). ¬ IsUsedId (k % limit_of ground.sizes) value) number (subst (λ (r : ℕ). ¬ IsUsedId (l.0 % limit_of ground.sizes) r) l.4 l.5) in
+      refused_as _ field_name.UsedId value refused (no (value == descriptor_of who freed) (if more == 0 then full_marks who job (freed + 1) else []) (refusal field_name.UsedId value) (same_fails value (descriptor_of who freed) wrong)) l.4) last
+
+  entry_beyond : (number more : ℕ) → Refuses (AtEntry number more)
+  unfolding Refuses Last
+  entry_beyond number more f at last there =
+      let who = who_of ground p in
+      let b = numbers ground is in let least = b.size_least in
+      let only = only_entry who (entry_of who number) (mod_below number (size_of ground.sizes) (omega arith)) field (subst (FieldWord who field) (read_word _ word at) there) in
+      at_field who side reads word value field field_name.AvailEntry refused (marks_at who (AtEntry number more) value) only
+      (λ l. let n = number_of (AtEntry number more) number f.stands f.si f.stands.at.2 in
+      let entry = entry_half (entry_of who number) value in
+      let same : refused ≡ entry = l.1 ∙ ap (λ (k : ℕ). entry_half (entry_of who k) value) (sym n) in
+      refused_as _ field_name.AvailEntry entry refused (no (is_entry ground.sizes entry) [] (refusal field_name.AvailEntry entry) (entry_fails ground.sizes entry (subst (λ (r : ℕ). ¬ IsAvailEntry ground.sizes r) same l.2))) same) last
+
+  low_beyond : (number more entry : ℕ) → Refuses (AtLow number more entry)
+  unfolding Refuses Last
+  low_beyond number more entry f at last there =
+      let who = who_of ground p in
+      let low : entry < size_of ground.sizes = subst (λ (e : ℕ). e < size_of ground.sizes) (sym f.reads_are.2) f.reads_are.3 in
+      absurd (only_low who entry low field (subst (FieldWord who field) (read_word _ word at) there))
+
+  high_beyond : (number more entry low : ℕ) → Refuses (AtHigh number more entry low)
+  unfolding Refuses Last
+  high_beyond number more entry low f at last there =
+      let who = who_of ground p in
+      let r = f.reads_are in
+      let small : entry < size_of ground.sizes = subst (λ (e : ℕ). e < size_of ground.sizes) (sym r.2) r.3 in
+      let only = only_high who entry small field (subst (FieldWord who field) (read_word _ word at) there) in
+      let address = address_of low value in
+      at_field who side reads word value field field_name.DescAddress refused (marks_at who (AtHigh number more entry low) value) only
+      (λ l. let lows = ap (λ (g : Got). g.value) (second_of _ _ _ _ _ _ (sym r.1 ∙ l.1)) in
+      let same : refused ≡ address = l.4 ∙ ap (λ (k : ℕ). address_of k value) (sym (r.4 ∙ lows)) in
+      refused_as _ field_name.DescAddress address refused (no (is_address ground.sizes address) [] (refusal field_name.DescAddress address) (address_fails ground.sizes address (subst (λ (k : ℕ). ¬ IsDescAddress ground.sizes k) same l.5))) same) last
+
+  length_beyond : (number more entry address : ℕ) → Refuses (AtLength number more entry address)
+  unfolding Refuses Last
+  length_beyond number more entry address f at last there =
+      let who = who_of ground p in
+      let r = f.reads_are in
+      let small : entry < size_of ground.sizes = subst (λ (e : ℕ). e < size_of ground.sizes) (sym r.2) r.3 in
+      let only = only_length who entry small field (subst (FieldWord who field) (read_word _ word at) there) in
+      at_field who side reads word value field field_name.DescLength refused (marks_at who (AtLength number more entry address) value) only
+      (λ l. let lows = ap (λ (g : Got). g.value) (second_of _ _ _ _ _ _ (sym r.1 ∙ l.1)) in
+      let highs = ap (λ (g : Got). g.value) (third_of _ _ _ _ _ _ _ _ (sym r.1 ∙ l.1)) in
+      let same : item_address l.0 ≡ address = sym (r.4 ∙ (ap (λ (k : ℕ). address_of k r.0.high) lows ∙ ap (address_of l.0.low) highs)) in
+      let beyond : ¬ IsDescLength ground.sizes address value = subst (λ (k : ℕ). ¬ IsDescLength ground.sizes k value) same (subst (λ (k : ℕ). ¬ IsDescLength ground.sizes (item_address l.0) k) l.4 l.5) in
+      refused_as _ field_name.DescLength value refused (no (is_length ground.sizes address value) [] (refusal field_name.DescLength value) (length_fails ground.sizes address value beyond)) l.4) last
+
+  flags_beyond : (number more entry address bytes : ℕ) → Refuses (AtFlags number more entry address bytes)
+  unfolding Refuses Last
+  flags_beyond number more entry address bytes f at last there =
+      let who = who_of ground p in
+      let r = f.reads_are in
+      let small : entry < size_of ground.sizes = subst (λ (e : ℕ). e < size_of ground.sizes) (sym r.2) r.3 in
+      let only = only_flags who entry small field (subst (FieldWord who field) (read_word _ word at) there) in
+      at_field who side reads word value field field_name.DescFlags refused (marks_at who (AtFlags number more entry address bytes) value) only
+      (λ l. refused_as _ field_name.DescFlags (low_half value) refused (no (low_half value == 0) [] (refusal field_name.DescFlags (low_half value)) (same_fails (low_half value) 0 (subst (λ (k : ℕ). ¬ IsDescFlags k) l.3 l.4))) l.3) last
+
+  word_beyond : (number more entry address bytes : ℕ) (words : List ℕ) (left : ℕ) → Refuses (AtWord number more entry address bytes words left)
+  unfolding Refuses Last
+  word_beyond number more entry address bytes words left f at last there =
+      let who = who_of ground p in
+      let high : payload_of ground.sizes ≤ address = subst (λ (a : ℕ). payload_of ground.sizes ≤ a) (sym f.reads_are.4) f.reads_are.5.1 in
+      absurd (no_word who address (length words) high field (subst (FieldWord who field) (read_word _ word at) there))
+
+  by_place : (x : Place) → Refuses x
+  unfolding Refuses
+  by_place Closed f e l there = absurd (cc)
+  by_place (AtState handshake) f e l there = let first = is.first in let b = read_word _ word e in absurd (no_state (who_of ground p) word (omega arith) field there)
+  by_place (Clearing at more state) f e l there = absurd (cc)
+  by_place (Setting state) f e l there = absurd (cc)
+  by_place Refusing f e l there = absurd (cc)
+  by_place Downed f e l there = absurd (cc)
+  by_place (AtUsedIndex job freed) f e l there = used_index_beyond job freed f e l there
+  by_place (AtUsedId job freed more) f e l there = used_id_beyond job freed more f e l there
+  by_place (Filling job at more) f e l there = absurd (cc)
+  by_place (WritingLow job) f e l there = absurd (cc)
+  by_place (WritingHigh job) f e l there = absurd (cc)
+  by_place (WritingLength job) f e l there = absurd (cc)
+  by_place (WritingFlags job) f e l there = absurd (cc)
+  by_place (WritingEntry job) f e l there = absurd (cc)
+  by_place (WritingIndex job) f e l there = absurd (cc)
+  by_place RingingOffer f e l there = absurd (cc)
+  by_place (AtAvailIndex taken) f e l there = avail_index_beyond taken f e l there
+  by_place (AtEntry number more) f e l there = entry_beyond number more f e l there
+  by_place (AtLow number more entry) f e l there = low_beyond number more entry f e l there
+  by_place (AtHigh number more entry low) f e l there = high_beyond number more entry low f e l there
+  by_place (AtLength number more entry address) f e l there = length_beyond number more entry address f e l there
+  by_place (AtFlags number more entry address bytes) f e l there = flags_beyond number more entry address bytes f e l there
+  by_place (AtWord number more entry address bytes words left) f e l there = word_beyond number more entry address bytes words left f e l there
+  by_place (GivingId number more entry) f e l there = absurd (cc)
+  by_place (GivingLength number more) f e l there = absurd (cc)
+  by_place (GivingIndex number more) f e l there = absurd (cc)
+  by_place RingingPoll f e l there = absurd (cc)
+
+  pub refuses : (place : Place) → StandsAs ground p memory end place s → Alone (layout_of ground) memory p s → SideIs end place side → ReadsAre (who_of ground p) place reads → access_at (who_of ground p) place ≡ access.Read word →
+      IsReadBeyond (who_of ground p) side (reads ++ got word value ∷ []) field refused → marks_at (who_of ground p) place value ≡ refusal field refused
+  unfolding Refuses
+  refuses place stands alone si reads_are at beyond = by_place place record { stands = stands; alone = alone; si = si; reads_are = reads_are } at last (word_of_last (who_of ground p) side reads word value field refused some last)
+    where
+      some : 0 < size_of ground.sizes
+      some = let least = (numbers ground is).size_least in omega arith
+
+      last : Last (who_of ground p) side reads word value field refused
+      last = last_of (who_of ground p) side reads word value field refused beyond

@@ -1,0 +1,133 @@
+-- What is of the devices alone changes nothing of the link.
+use Rattle.std.proofs.Common.{◌≡◌, ℕ, List, [], ◌∷◌, ◌++◌, refl, sym, ◌∙◌, ap}
+use Rattle.std.specs.Prelude.{Option, Some, reverse, slice_index_or, slice_set}
+use Rattle.std.proofs.lemmas.List.{set-get_or}
+use Rattle.split_ring.specs.declared.steps.Access.{Access}
+use Rattle.split_ring.specs.declared.steps.Access.TheVariants as access
+use Rattle.scenario_text.specs.declared.acts.Act.{Act}
+use Rattle.scenario_text.specs.Scenario.{World}
+use Rattle.call_grammar.specs.Steps.{Step, step_of}
+use Rattle.call_grammar.specs.Trees.{CallTree, Ended, Does, Reads}
+use Rattle.lawful_history.specs.declared.line.Line.{Line}
+use Rattle.lawful_history.specs.Memory.{last_write}
+use Rattle.lawful_history.specs.Sides.{who_of}
+use Rattle.lawful_history.specs.Schedule.{Event, Asked, Automated, Stormed, Turned, Acted, WasReset, Reached, Loses, Repeated, DeviceAccess, event_peer, schedule}
+use Rattle.lawful_history.specs.Entries.{lines_by, lines_of}
+use Rattle.lawful_history.specs.Peers.{Driver, Peer, at_start, opened, stepped}
+use Rattle.lawful_history.specs.Device.{device_lines}
+use Rattle.lawful_history.specs.Lawful.{HasOneHistory}
+use Rattle.lawful_history.specs.History.{Moment, step_by, moved_by, acted_step, step_in, peer_in, peer_at, step_of_event, entry_of, peer_after, happens, run, beginning, history, HistoryIsLawful}
+use Rattle.history_laws.specs.Devices.{without_devices, without_device_events, DeviceActsChangeNothing}
+use Rattle.history_laws.proofs.DeviceLines.{lines_of_devices, without_both, without_reverse, event_apart, same_written}
+
+-- What is done depends on the lines by what the words hold alone
+
+abbrev SameWords : List Line → List Line → Type 0
+SameWords past others = (at : ℕ) → last_write past at ≡ last_write others at
+
+same_turn : (world : World) (p : ℕ) (driver : Driver) (left : CallTree) (past others : List Line) → SameWords past others → step_by world p driver left past ≡ step_by world p driver left others
+same_turn world p driver Ended past others same = refl
+same_turn world p driver (Does a marks rest) past others same = refl
+same_turn world p driver (Reads word marks rest) past others same = ap (λ (value : ℕ). Some (step_of (access.Read word) value (marks value))) (same word)
+
+same_move : (peer : Peer) (left : CallTree) (past others : List Line) → SameWords past others → moved_by peer left past ≡ moved_by peer left others
+same_move peer Ended past others same = refl
+same_move peer (Does a marks rest) past others same = refl
+same_move peer (Reads word marks rest) past others same = ap (λ (value : ℕ). stepped peer (step_of (access.Read word) value (marks value)) (rest value)) (same word)
+
+same_act : (world : World) (p : ℕ) (a : Access) (past others : List Line) → SameWords past others → acted_step world p a past ≡ acted_step world p a others
+same_act world p (access.Read word) past others same = ap (λ (value : ℕ). Some (step_of (access.Read word) value [])) (same word)
+same_act world p (access.Write word written) past others same = refl
+same_act world p (access.State state) past others same = refl
+same_act world p (access.Ring target vector) past others same = refl
+same_act world p access.Nothing past others same = refl
+
+same_step : (world : World) (peer : Peer) (past others : List Line) (event : Event) → SameWords past others → step_in world peer past event ≡ step_in world peer others event
+same_step world peer past others (Asked p call) same = refl
+same_step world peer past others (Automated p expected) same = refl
+same_step world peer past others (Stormed p seed) same = refl
+same_step world peer past others (Turned p) same = same_turn world p (opened (who_of world p) peer).driver (opened (who_of world p) peer).left past others same
+same_step world peer past others (Acted p a) same = same_act world p a past others same
+same_step world peer past others (WasReset p) same = refl
+same_step world peer past others (Reached p a) same = refl
+same_step world peer past others (Loses p) same = refl
+same_step world peer past others (Repeated p vector) same = refl
+
+same_peer : (world : World) (peer : Peer) (past others : List Line) (event : Event) → SameWords past others → peer_in world peer past event ≡ peer_in world peer others event
+same_peer world peer past others (Asked p call) same = refl
+same_peer world peer past others (Automated p expected) same = refl
+same_peer world peer past others (Stormed p seed) same = refl
+same_peer world peer past others (Turned p) same = same_move (opened (who_of world p) peer) (opened (who_of world p) peer).left past others same
+same_peer world peer past others (Acted p a) same = refl
+same_peer world peer past others (WasReset p) same = refl
+same_peer world peer past others (Reached p a) same = refl
+same_peer world peer past others (Loses p) same = refl
+same_peer world peer past others (Repeated p vector) same = refl
+
+-- Two moments that differ in the devices alone
+
+record AreAlike (a b : Moment) : Type 0 where
+  lines : without_devices a.past ≡ without_devices b.past
+  peers : a.peers ≡ b.peers
+
+-- the lines after an event, but for those of the devices
+new_lines : (world : World) (a : Moment) (event : Event) →
+    without_devices (happens world a event).past ≡ reverse (without_devices (lines_by event (step_of_event world a event) [])) ++ without_devices a.past
+new_lines world a event =
+    let lines = lines_of (entry_of world a event) in
+    without_both (reverse lines) a.past ∙ ap (λ ls. ls ++ without_devices a.past)
+    (without_reverse lines ∙ ap reverse (event_apart event (step_of_event world a event) (device_lines world a.past a.losses event (step_of_event world a event)) (lines_of_devices world a.past a.losses event (step_of_event world a event))))
+
+-- an event of the link goes on alike
+goes_on : (world : World) (a b : Moment) (event : Event) → AreAlike a b → AreAlike (happens world a event) (happens world b event)
+goes_on world a b event alike =
+    let p = event_peer event in
+    let same = same_written a.past b.past alike.lines in
+    let peer : peer_at a p ≡ peer_at b p = ap (λ (ps : List Peer). slice_index_or ps p at_start) alike.peers in
+    let step : step_of_event world a event ≡ step_of_event world b event = ap (λ (x : Peer). step_in world x a.past event) peer ∙ same_step world (peer_at b p) a.past b.past event same in
+    let after : peer_after world a event ≡ peer_after world b event = ap (λ (x : Peer). peer_in world x a.past event) peer ∙ same_peer world (peer_at b p) a.past b.past event same in
+    record {
+      lines =
+          new_lines world a event ∙ (ap (λ (went : Option Step). reverse (without_devices (lines_by event went [])) ++ without_devices a.past) step ∙
+          (ap (λ ls. reverse (without_devices (lines_by event (step_of_event world b event) [])) ++ ls) alike.lines ∙ sym (new_lines world b event)));
+      peers = ap (λ (ps : List Peer). slice_set ps p (peer_after world a event)) alike.peers ∙ ap (λ (x : Peer). slice_set b.peers p x) after;
+    }
+
+-- an event of the devices leaves the moment alike
+stays_reached : (world : World) (a b : Moment) (p : ℕ) (reach : DeviceAccess) → AreAlike a b → AreAlike (happens world a (Reached p reach)) b
+stays_reached world a b p reach alike = record { lines = new_lines world a (Reached p reach) ∙ alike.lines; peers = set-get_or a.peers p at_start ∙ alike.peers }
+
+stays_loses : (world : World) (a b : Moment) (p : ℕ) → AreAlike a b → AreAlike (happens world a (Loses p)) b
+stays_loses world a b p alike = record { lines = new_lines world a (Loses p) ∙ alike.lines; peers = set-get_or a.peers p at_start ∙ alike.peers }
+
+stays_repeated : (world : World) (a b : Moment) (p vector : ℕ) → AreAlike a b → AreAlike (happens world a (Repeated p vector)) b
+stays_repeated world a b p vector alike = record { lines = new_lines world a (Repeated p vector) ∙ alike.lines; peers = set-get_or a.peers p at_start ∙ alike.peers }
+
+-- so all events go on as those of the link alone do, whatever acts the world has
+goes_apart : (world : World) (acts : List Act) (events : List Event) (a b : Moment) → AreAlike a b → AreAlike (run (record world { acts = acts }) events a) (run world (without_device_events events) b)
+goes_apart world acts [] a b alike = alike
+goes_apart world acts (Asked p call ∷ events) a b alike = goes_apart world acts events (happens world a (Asked p call)) (happens world b (Asked p call)) (goes_on world a b (Asked p call) alike)
+goes_apart world acts (Automated p expected ∷ events) a b alike =
+    goes_apart world acts events (happens world a (Automated p expected)) (happens world b (Automated p expected)) (goes_on world a b (Automated p expected) alike)
+goes_apart world acts (Stormed p seed ∷ events) a b alike = goes_apart world acts events (happens world a (Stormed p seed)) (happens world b (Stormed p seed)) (goes_on world a b (Stormed p seed) alike)
+goes_apart world acts (Turned p ∷ events) a b alike = goes_apart world acts events (happens world a (Turned p)) (happens world b (Turned p)) (goes_on world a b (Turned p) alike)
+goes_apart world acts (Acted p act ∷ events) a b alike = goes_apart world acts events (happens world a (Acted p act)) (happens world b (Acted p act)) (goes_on world a b (Acted p act) alike)
+goes_apart world acts (WasReset p ∷ events) a b alike = goes_apart world acts events (happens world a (WasReset p)) (happens world b (WasReset p)) (goes_on world a b (WasReset p) alike)
+goes_apart world acts (Reached p reach ∷ events) a b alike = goes_apart world acts events (happens world a (Reached p reach)) b (stays_reached world a b p reach alike)
+goes_apart world acts (Loses p ∷ events) a b alike = goes_apart world acts events (happens world a (Loses p)) b (stays_loses world a b p alike)
+goes_apart world acts (Repeated p vector ∷ events) a b alike = goes_apart world acts events (happens world a (Repeated p vector)) b (stays_repeated world a b p vector alike)
+
+-- the history, but for the lines of the devices, is that of the link's events
+history_apart : (world : World) (acts : List Act) →
+    without_devices (history (record world { acts = acts })) ≡ reverse (without_devices (run world (without_device_events (schedule acts)) (beginning world)).past)
+history_apart world acts =
+    without_reverse (run (record world { acts = acts }) (schedule acts) (beginning world)).past ∙
+    ap reverse (goes_apart world acts (schedule acts) (beginning world) (beginning world) (record { lines = refl; peers = refl })).lines
+
+pub devices_lem : HasOneHistory → HistoryIsLawful → DeviceActsChangeNothing
+devices_lem one exists world others lines other_lines is other_is same lawful other_lawful =
+    let other : World = record world { acts = others } in
+    let first : lines ≡ history world = one world lines (history world) lawful (exists world is) in
+    let second : other_lines ≡ history other = one other other_lines (history other) other_lawful (exists other other_is) in
+    ap without_devices first ∙ (history_apart world world.acts ∙
+    (ap (λ (events : List Event). reverse (without_devices (run world events (beginning world)).past)) same ∙ (sym (history_apart world others) ∙ ap without_devices (sym second))))

@@ -1,0 +1,164 @@
+-- The lines of a history without those of the devices.
+use Rattle.std.proofs.Common.{◌≡◌, ℕ, Bool, true, false, List, [], ◌∷◌, ◌++◌, refl, sym, ◌∙◌, ap}
+use Rattle.std.specs.Prelude.{if◌then◌else◌, Option, Some, None, nat_lt, reverse, not, map}
+use Rattle.std.specs.List.{AllByRecursion}
+use Rattle.std.proofs.lemmas.List.{append-nil, reverse-append}
+use Rattle.std.proofs.lemmas.List.Elements.{filter-append}
+use Rattle.split_ring.specs.declared.steps.Access.{Access}
+use Rattle.doorbell_irq.specs.declared.effect.Delivery.{Delivery}
+use Rattle.doorbell_irq.specs.Events as device
+use Rattle.doorbell_irq.specs.DeviceRules.{effect_of}
+use Rattle.scenario_text.specs.Scenario.{World}
+use Rattle.call_grammar.specs.Steps.{Step}
+use Rattle.lawful_history.specs.declared.line.Line.{Line}
+use Rattle.lawful_history.specs.declared.line.Line.TheVariants as line
+use Rattle.lawful_history.specs.Memory.{Touch, touch_of, value_after, last_write}
+use Rattle.lawful_history.specs.Memory as touch
+use Rattle.lawful_history.specs.Schedule.{Event, Asked, Automated, Stormed, Turned, Acted, Reached, Loses, Repeated, DeviceAccess, ReadsConfig, WritesConfig, ReadsRegister, WritesRegister, ReadsMsix, WritesMsix}
+use Rattle.lawful_history.specs.Schedule as event
+use Rattle.lawful_history.specs.Entries.{access_lines, mark_line, turn_lines, denied_lines, acted_lines, lines_by}
+use Rattle.lawful_history.specs.Device.{devices_of, device_events, arrival, arrived, arrivals_by, lost_count, told_by, brought_by, step_interrupts, reached_line, device_lines}
+use Rattle.history_laws.specs.Devices.{is_of_device, without_devices}
+
+-- each of these lines is of a device alone
+abbrev pub AreOfDevices : List Line → Type 0
+AreOfDevices lines = AllByRecursion (λ line. is_of_device line ≡ true) lines
+
+arrival_of_device : (b : Bool) (p vector : ℕ) → is_of_device (if b then line.Lost p vector else line.Interrupt p vector) ≡ true
+arrival_of_device true p vector = refl
+arrival_of_device false p vector = refl
+
+arrived_of_devices : (older : List Line) (losses : ℕ → ℕ) (deliveries : List Delivery) → AreOfDevices (arrived older losses deliveries)
+arrived_of_devices older losses [] = tt
+arrived_of_devices older losses (delivery ∷ deliveries) =
+    (arrival_of_device (nat_lt (lost_count older delivery.peer) (losses delivery.peer)) delivery.peer delivery.vector, arrived_of_devices (arrival older losses delivery ∷ older) losses deliveries)
+
+arrivals_of_devices : (world : World) (older : List Line) (losses : ℕ → ℕ) (line : Line) (told : Option device.Event) → AreOfDevices (arrivals_by world older losses line told)
+arrivals_of_devices world older losses line None = tt
+arrivals_of_devices world older losses line (Some e) = arrived_of_devices (line ∷ older) losses (effect_of (devices_of world) (device_events older) e).deliveries.items
+
+brought_of_devices : (world : World) (older : List Line) (losses : ℕ → ℕ) (lines : List Line) → AreOfDevices (brought_by world older losses lines)
+brought_of_devices world older losses [] = tt
+brought_of_devices world older losses (line ∷ lines) = arrivals_of_devices world older losses line (told_by line)
+
+step_of_devices : (world : World) (older : List Line) (losses : ℕ → ℕ) (p : ℕ) (went : Option Step) → AreOfDevices (step_interrupts world older losses p went)
+step_of_devices world older losses p None = tt
+step_of_devices world older losses p (Some step) = brought_of_devices world older losses (access_lines p step.access step.value)
+
+reached_of_device : (world : World) (older : List Line) (p : ℕ) (a : DeviceAccess) → is_of_device (reached_line world older p a) ≡ true
+reached_of_device world older p (ReadsConfig offset width) = refl
+reached_of_device world older p (WritesConfig offset width value) = refl
+reached_of_device world older p (ReadsRegister offset) = refl
+reached_of_device world older p (WritesRegister offset value) = refl
+reached_of_device world older p (ReadsMsix offset) = refl
+reached_of_device world older p (WritesMsix offset value) = refl
+
+pub lines_of_devices : (world : World) (older : List Line) (losses : ℕ → ℕ) (e : Event) (went : Option Step) → AreOfDevices (device_lines world older losses e went)
+lines_of_devices world older losses (Asked p call) went = tt
+lines_of_devices world older losses (Automated p expected) went = tt
+lines_of_devices world older losses (Stormed p seed) went = tt
+lines_of_devices world older losses (Turned p) went = step_of_devices world older losses p went
+lines_of_devices world older losses (Acted p a) went = step_of_devices world older losses p went
+lines_of_devices world older losses (event.WasReset p) went = arrivals_of_devices world older losses (line.Reset p) (told_by (line.Reset p))
+lines_of_devices world older losses (Reached p a) went = (reached_of_device world older p a, tt)
+lines_of_devices world older losses (Loses p) went = tt
+lines_of_devices world older losses (Repeated p vector) went = (refl, tt)
+
+-- Lines without those of the devices
+
+apart_by : (first : Line) (lines : List Line) (b : Bool) → is_of_device first ≡ b → without_devices (first ∷ lines) ≡ (if b then without_devices lines else first ∷ without_devices lines)
+apart_by first lines true is = rw is refl
+apart_by first lines false is = rw is refl
+
+pub none_left : (lines : List Line) → AreOfDevices lines → without_devices lines ≡ []
+none_left [] all = refl
+none_left (first ∷ lines) all = apart_by first lines true all.0 ∙ none_left lines all.1
+
+pub without_both : (lines others : List Line) → without_devices (lines ++ others) ≡ without_devices lines ++ without_devices others
+without_both lines others = filter-append (λ line. not (is_of_device line)) lines others
+
+last_apart : (lines : List Line) (last : Line) → without_devices (reverse (last ∷ lines)) ≡ without_devices (reverse lines) ++ without_devices (last ∷ [])
+last_apart lines last = ap without_devices (reverse-append (last ∷ []) lines) ∙ without_both (reverse lines) (last ∷ [])
+
+reverse_by : (first : Line) (lines : List Line) (b : Bool) → is_of_device first ≡ b → without_devices (reverse lines) ≡ reverse (without_devices lines) →
+    without_devices (reverse (first ∷ lines)) ≡ reverse (without_devices (first ∷ lines))
+reverse_by first lines true is rest =
+    last_apart lines first ∙ (ap (λ ls. without_devices (reverse lines) ++ ls) (apart_by first [] true is) ∙ (append-nil (without_devices (reverse lines)) ∙ (rest ∙ ap reverse (sym (apart_by first lines true is)))))
+reverse_by first lines false is rest =
+    last_apart lines first ∙ (ap (λ ls. without_devices (reverse lines) ++ ls) (apart_by first [] false is) ∙
+    (ap (λ ls. ls ++ first ∷ []) rest ∙ (sym (reverse-append (first ∷ []) (without_devices lines)) ∙ ap reverse (sym (apart_by first lines false is)))))
+
+pub without_reverse : (lines : List Line) → without_devices (reverse lines) ≡ reverse (without_devices lines)
+without_reverse [] = refl
+without_reverse (first ∷ lines) = reverse_by first lines (is_of_device first) refl (without_reverse lines)
+
+-- what stands between is of devices alone
+beside : (lines device others : List Line) → AreOfDevices device → without_devices (lines ++ (device ++ others)) ≡ without_devices (lines ++ others)
+beside lines device others all =
+    without_both lines (device ++ others) ∙ ap (λ ls. without_devices lines ++ ls) (without_both device others ∙ ap (λ ls. ls ++ without_devices others) (none_left device all)) ∙ sym (without_both lines others)
+
+after : (lines device : List Line) → AreOfDevices device → without_devices (lines ++ device) ≡ without_devices (lines ++ [])
+after lines device all = without_both lines device ∙ ap (λ ls. without_devices lines ++ ls) (none_left device all) ∙ sym (without_both lines [])
+
+turn_apart : (p : ℕ) (went : Option Step) (device : List Line) → AreOfDevices device → without_devices (turn_lines p went device) ≡ without_devices (turn_lines p went [])
+turn_apart p None device all = ap (λ ls. line.Idle p ∷ ls) (none_left device all)
+turn_apart p (Some step) device all = beside (access_lines p step.access step.value) device (map (mark_line p) step.marks) all
+
+acted_apart : (p : ℕ) (a : Access) (went : Option Step) (device : List Line) → AreOfDevices device → without_devices (acted_lines p a went device) ≡ without_devices (acted_lines p a went [])
+acted_apart p a None device all = after (denied_lines p a) device all
+acted_apart p a (Some step) device all = beside (access_lines p step.access step.value) device (map (mark_line p) step.marks) all
+
+-- the lines of an event, but for those of the devices, are the same whatever the devices do
+pub event_apart : (e : Event) (went : Option Step) (device : List Line) → AreOfDevices device → without_devices (lines_by e went device) ≡ without_devices (lines_by e went [])
+event_apart (Asked p call) went device all = none_left device all
+event_apart (Automated p expected) went device all = none_left device all
+event_apart (Stormed p seed) went device all = none_left device all
+event_apart (Turned p) went device all = turn_apart p went device all
+event_apart (Acted p a) went device all = acted_apart p a went device all
+event_apart (event.WasReset p) went device all = ap (λ ls. line.Reset p ∷ ls) (none_left device all)
+event_apart (Reached p a) went device all = none_left device all
+event_apart (Loses p) went device all = none_left device all
+event_apart (Repeated p vector) went device all = none_left device all
+
+-- The lines of the devices write no word
+
+device_apart : (first : Line) → is_of_device first ≡ true → touch_of first ≡ touch.Apart
+device_apart (line.Interrupt p vector) is = refl
+device_apart (line.Lost p vector) is = refl
+device_apart (line.ConfigRead p offset width value) is = refl
+device_apart (line.ConfigWrite p offset width value) is = refl
+device_apart (line.RegisterRead p offset value) is = refl
+device_apart (line.RegisterWrite p offset value) is = refl
+device_apart (line.MsixRead p offset value) is = refl
+device_apart (line.MsixWrite p offset value) is = refl
+device_apart (line.Idle p) is = refl
+device_apart (line.Saw p value) is = refl
+device_apart (line.Reclaim p count) is = refl
+device_apart (line.Look p count) is = refl
+device_apart (line.Full p) is = refl
+device_apart (line.Done p) is = refl
+device_apart (line.Over p) is = refl
+device_apart (line.Down p) is = refl
+device_apart (line.Accept p frame) is = refl
+device_apart (line.Deliver p frame) is = refl
+device_apart (line.Return p) is = refl
+device_apart (line.Refuse p refused) is = refl
+device_apart (line.Read p word value) is = absurd (cc)
+device_apart (line.Write p word value) is = absurd (cc)
+device_apart (line.Denied p word) is = absurd (cc)
+device_apart (line.State p value) is = absurd (cc)
+device_apart (line.Doorbell p target vector) is = refl
+device_apart (line.Reset p) is = absurd (cc)
+
+written_by : (first : Line) (older : List Line) (at : ℕ) (b : Bool) → is_of_device first ≡ b → last_write older at ≡ last_write (without_devices older) at →
+    last_write (first ∷ older) at ≡ last_write (without_devices (first ∷ older)) at
+written_by first older at true is rest =
+    ap (λ (t : Touch). value_after t at (last_write older at)) (device_apart first is) ∙ rest ∙ ap (λ ls. last_write ls at) (sym (apart_by first older true is))
+written_by first older at false is rest = ap (λ before. value_after (touch_of first) at before) rest ∙ ap (λ ls. last_write ls at) (sym (apart_by first older false is))
+
+written_apart : (past : List Line) (at : ℕ) → last_write past at ≡ last_write (without_devices past) at
+written_apart [] at = refl
+written_apart (first ∷ older) at = written_by first older at (is_of_device first) refl (written_apart older at)
+
+pub same_written : (past others : List Line) → without_devices past ≡ without_devices others → (at : ℕ) → last_write past at ≡ last_write others at
+same_written past others same at = written_apart past at ∙ ap (λ ls. last_write ls at) same ∙ sym (written_apart others at)

@@ -1,0 +1,240 @@
+-- What an honest link peer does itself: it begins a call, takes the step at its place, or is reset.
+use Rattle.std.proofs.Common.{◌≡◌, ◌≢◌, ℕ, ◌-◌, ◌<◌, true, List, ◌∷◌, ◌++◌, refl, sym, ◌∙◌, ap, subst, arith, inl, inr, ◌⊎◌, ◌+◌, ◌≤◌, zero, suc, []}
+use mathlib.Core.Logic.{dite}
+use native.Mathlib.Decide.{ℕ_discrete}
+use Rattle.std.specs.Prelude.{reverse}
+use Rattle.std.specs.List.{AllByRecursion}
+use Rattle.split_ring.specs.declared.steps.Access.{Access}
+use Rattle.split_ring.specs.declared.steps.Access.TheVariants as access
+use Rattle.link_handshake.specs.PhaseTable.{state_of}
+use Rattle.scenario_text.specs.Scenario.{World, IsWorld, is_link}
+use Rattle.call_grammar.specs.Ends.{End, after_reset, end_after}
+use Rattle.call_grammar.specs.Calls.{Call, Who}
+use Rattle.call_grammar.specs.Reach.{InReach}
+use Rattle.call_grammar.specs.Places.{Place, Closed, Setting, Refusing, first_place, access_at, marks_at, next_place, step_at, is_open}
+use Rattle.link_machine.specs.LinkMachine.{Side}
+use Rattle.link_machine.specs.LinkMachine as told
+use Rattle.link_pair.specs.Layout.{Stored}
+use Rattle.link_pair.specs.Standing as pair
+use Rattle.link_pair.specs.Standing.{Standing}
+use Rattle.link_pair.specs.Alone.{Alone}
+use Rattle.link_pair.specs.Laws.{IsUntouched}
+use Rattle.pair_calls.specs.Written.{words_of}
+use Rattle.pair_calls.proofs.Spelling.{spelling}
+use Rattle.pair_calls.specs.Ground.{Ground, IsGround, section_of, who_of, layout_of, PlaceIs, MarkIs, Meets, Leaves, StandsAs}
+use Rattle.pair_calls.specs.Laws.{IsGivenTo}
+use Rattle.pair_calls.specs.Both.{OnlyComes, Holds}
+use Rattle.pair_calls.specs.Sides.{SideIs}
+use Rattle.pair_calls.proofs.Kept.{kept}
+use Rattle.pair_calls.proofs.AllRows.{follow_lem}
+use Rattle.lawful_history.specs.declared.line.Line.{Line}
+use Rattle.lawful_history.specs.declared.line.Line.TheVariants as line
+use Rattle.lawful_history.specs.Memory.{last_write}
+use Rattle.lawful_history.specs.Sides as model
+use Rattle.lawful_history.specs.Entries.{step_lines, mark_line}
+use Rattle.history_laws.specs.Told.{side_of}
+use Rattle.history_laws.specs.Rows.{EachLine}
+use Rattle.history_laws.specs.Reads.{Got, reads_of, IsReadBeyond, got}
+use Rattle.history_laws.proofs.ReadPlaces.{ReadsAre, first_reads, reads_on}
+use Rattle.history_laws.proofs.MarkFacts.{AtMarks, at_access, marks_rest}
+use Rattle.history_laws.proofs.Proper.{ground_of, is_ground}
+use Rattle.history_laws.proofs.Stands.{Fine, IsOpen, Stands, IsQuiet, Settled, BringsNone, answers}
+use Rattle.history_laws.proofs.Outside.{here_is}
+use Rattle.history_laws.proofs.StepLines.{RestsAt, StepWent, after_access, step_went, stored_at, one_told, broken_beside, AnswersMarks, ReadsAlone}
+use Rattle.history_laws.proofs.Beyond.{refuses}
+use Rattle.history_laws.proofs.Grounds.{who_is}
+use Rattle.split_ring.specs.declared.ranges.Refused.{Refused}
+use Rattle.call_grammar.specs.Steps.{Mark, Refuse}
+use Rattle.call_grammar.specs.Offers.{refusal}
+
+-- a link peer is one of two
+pub one_or_other : (p q : ℕ) → p < 2 → q < 2 → (q ≡ p) ⊎ (q ≡ 1 - p)
+one_or_other p q below below' = dite (ℕ_discrete q p) (λ e. inl e) (λ ne. inr (omega arith))
+
+other_is : (p : ℕ) → p < 2 → 1 - p ≢ p
+other_is p below e = absurd (omega arith)
+
+side_like : (end end' : End) (place place' : Place) (side side' : Side) → end' ≡ end → place' ≡ place → side' ≡ side → SideIs end place side → SideIs end' place' side'
+side_like end end' place place' side side' e f g h = subst (λ (x : End). SideIs x place' side') (sym e) (subst (λ (x : Place). SideIs end x side') (sym f) (subst (λ (x : Side). SideIs end place x) (sym g) h))
+
+-- what lines of p keep: its side has become new, and the words, the side and the reads of the other stay
+pub record Keeps (world : World) (past after : List Line) (p : ℕ) (new : Side) : Type 0 where
+  pub here : side_of after p ≡ new
+  pub beside : side_of after (1 - p) ≡ side_of past (1 - p)
+  pub untouched : IsUntouched (layout_of (ground_of world)) (last_write past) (last_write after) (1 - p)
+  pub reads_beside : reads_of after (1 - p) ≡ reads_of past (1 - p)
+  pub settled : Settled world after
+  pub fine : EachLine (Fine world) after
+
+-- The ends after lines by which end p comes to be this end at this place, and the other side stays
+
+come_stands : (world : World) (past after : List Line) (ends after_ends : ℕ → End) (places after_places : ℕ → Place) (p : ℕ) (end : End) (place : Place) (new : Side) → IsWorld world → p < 2 → is_link world p ≡ true →
+    OnlyComes ends after_ends places after_places p end place → Holds (ground_of world) (is_link world) (last_write after) after_ends after_places → SideIs end place new → IsOpen world after p place → Keeps world past after p new → Stands world past ends places →
+    Stands world after after_ends after_places
+come_stands world past after ends after_ends places after_places p end place new is below honest only holds si calls keeps s = record {
+  holds = holds;
+  sides = λ q below' honest'. sides q below' honest' (one_or_other p q below below');
+  states = λ q below'. state q (one_or_other p q below below');
+  calls = λ q below' honest'. open_at q below' honest' (one_or_other p q below below');
+  settled = keeps.settled;
+  fine = keeps.fine;
+}
+  where
+    apart_of : (q : ℕ) → q ≡ 1 - p → q ≢ p
+    apart_of q e f = other_is p below (sym e ∙ f)
+
+    sides : (q : ℕ) → q < 2 → is_link world q ≡ true → (q ≡ p) ⊎ (q ≡ 1 - p) → SideIs (after_ends q) (after_places q) (side_of after q)
+    sides q below' honest' (inl e) = side_like end (after_ends q) place (after_places q) new (side_of after q) (ap after_ends e ∙ only.end_is) (ap after_places e ∙ only.place_is) (ap (side_of after) e ∙ keeps.here) si
+    sides q below' honest' (inr e) = let ne = apart_of q e in
+        side_like (ends q) (after_ends q) (places q) (after_places q) (side_of past q) (side_of after q) (only.ends_stay q ne) (only.places_stay q ne) (ap (side_of after) e ∙ (keeps.beside ∙ ap (side_of past) (sym e))) (s.sides q below' honest')
+
+    mine : last_write after p ≡ (side_of after p).state
+    mine = let alone = holds.1.whole.alone p below honest in let stands = holds.1.stands p below honest in let is_end = ap (λ (x : End). state_of x.handshake.phase) only.end_is in
+        alone.state ∙ (stands.phase ∙ (is_end ∙ (sym si.state ∙ ap (λ (x : Side). x.state) (sym keeps.here))))
+
+    theirs : last_write after (1 - p) ≡ (side_of after (1 - p)).state
+    theirs = let o2 : 1 - p < 2 = omega arith in keeps.untouched.state ∙ (s.states (1 - p) o2 ∙ ap (λ (x : Side). x.state) (sym keeps.beside))
+
+    state : (q : ℕ) → (q ≡ p) ⊎ (q ≡ 1 - p) → last_write after q ≡ (side_of after q).state
+    state q (inl e) = subst (λ (k : ℕ). last_write after k ≡ (side_of after k).state) (sym e) mine
+    state q (inr e) = subst (λ (k : ℕ). last_write after k ≡ (side_of after k).state) (sym e) theirs
+
+    open_at : (q : ℕ) → q < 2 → is_link world q ≡ true → (q ≡ p) ⊎ (q ≡ 1 - p) → IsOpen world after q (after_places q)
+    open_at q below' honest' (inl e) = subst (λ (k : ℕ). IsOpen world after k (after_places k)) (sym e) (subst (λ (x : Place). IsOpen world after p x) (sym only.place_is) calls)
+    open_at q below' honest' (inr e) =
+        let ground = ground_of world in
+        let old = s.calls q below' honest' in
+        let stays : IsUntouched (layout_of ground) (last_write past) (last_write after) q = subst (λ (k : ℕ). IsUntouched (layout_of ground) (last_write past) (last_write after) k) (sym e) keeps.untouched in
+        let reads : reads_of after q ≡ reads_of past q = subst (λ (k : ℕ). reads_of after k ≡ reads_of past k) (sym e) keeps.reads_beside in
+        subst (λ (x : Place). IsOpen world after q x) (sym (only.places_stay q (apart_of q e))) record {
+          written = spelling.others ground q (last_write past) (last_write after) (ends q) (places q) (s.holds.0 q) (is_ground world is) (s.holds.1.stands q below' honest') stays old.written;
+          reads = subst (λ (r : List Got). ReadsAre (who_of ground q) (places q) r) (sym reads) old.reads;
+        }
+
+-- A call begins
+
+pub begins_stands : (world : World) (past : List Line) (ends after_ends : ℕ → End) (places after_places : ℕ → Place) (p : ℕ) (call : Call) → IsWorld world → p < 2 → is_link world p ≡ true → IsGivenTo (ground_of world) call → places p ≡ Closed →
+    OnlyComes ends after_ends places after_places p (ends p) (first_place (who_of (ground_of world) p) (ends p) call) → Stands world past ends places → Stands world past after_ends after_places
+begins_stands world past ends after_ends places after_places p call is below honest given closed only s =
+    let ground = ground_of world in
+    let who = who_of ground p in
+    come_stands world past past ends after_ends places after_places p (ends p) (first_place who (ends p) call) (side_of past p) is below honest only
+    (kept.begins ground (is_link world) (last_write past) ends after_ends places after_places p call (is_ground world is) below honest given closed only s.holds)
+    (follow_lem.begins who (ends p) call (side_of past p) (subst (λ (x : Place). SideIs (ends p) x (side_of past p)) closed (s.sides p below honest)))
+    (record { written = spelling.begins ground (words_of ground p (last_write past)) who (ends p) call; reads = first_reads who (reads_of past p) (ends p) call })
+    (record { here = refl; beside = refl; untouched = record { state = refl; section = λ j small. refl }; reads_beside = refl; settled = s.settled; fine = s.fine }) s
+
+-- A step
+
+-- an end that bears the mark writes State 0 alone
+abbrev IsZero : Access → Type 0
+IsZero (access.Read word) = Unit {0}
+IsZero (access.Write word written) = Unit {0}
+IsZero (access.State state) = state ≡ 0
+IsZero (access.Ring target vector) = Unit {0}
+IsZero access.Nothing = Unit {0}
+
+setting_zero : (ground : Ground) (p : ℕ) (memory : ℕ → ℕ) (end : End) (n : ℕ) (s : Standing) → Alone (layout_of ground) memory p s → s.refused ≡ true → PlaceIs ground p memory end s (Setting n) → n ≡ 0
+setting_zero ground p memory end n s alone refused (inl at) = at.0
+setting_zero ground p memory end n s alone refused (inr at) = let closed = (alone.rests refused).1 in let open_tick : pair.Ticking at.0 at.1 ≡ pair.Closed = sym at.2 ∙ closed in absurd (cc)
+
+zero_at : (ground : Ground) (p : ℕ) (memory : ℕ → ℕ) (end : End) (place : Place) (s : Standing) → Alone (layout_of ground) memory p s → end.handshake.mark ≡ true → MarkIs place s.refused end.handshake.mark → PlaceIs ground p memory end s place →
+    IsZero (access_at (who_of ground p) place)
+zero_at ground p memory end (Setting n) s alone marked mark at = setting_zero ground p memory end n s alone (mark ∙ marked) at
+zero_at ground p memory end Refusing s alone marked mark at = refl
+zero_at ground p memory end place s alone marked mark at = tt
+
+rests_at : (world : World) (past : List Line) (p : ℕ) (a : Access) → (is_link world p ≡ true → (side_of past p).refused ≡ true → IsZero a) → RestsAt world past p a
+rests_at world past p (access.Read word) none = tt
+rests_at world past p (access.Write word written) none = tt
+rests_at world past p (access.State state) none = none
+rests_at world past p (access.Ring target vector) none = tt
+rests_at world past p access.Nothing none = tt
+
+-- a step of p leaves the words of the other
+apart_sections : (ground : Ground) (p word j : ℕ) → p < 2 → section_of ground p ≤ word → word < section_of ground p + ground.words → j < ground.words → section_of ground (1 - p) + j ≢ word
+apart_sections ground zero word j below low high small e = absurd (omega arith)
+apart_sections ground (suc zero) word j below low high small e = absurd (omega arith)
+apart_sections ground (suc (suc p)) word j below low high small e = absurd (omega arith)
+
+stored_untouched : (ground : Ground) (p value : ℕ) (memory after : ℕ → ℕ) → IsGround ground → p < 2 → Stored memory after p value → IsUntouched (layout_of ground) memory after (1 - p)
+stored_untouched ground p value memory after is below stored = let first = is.first in record { state = stored.beside (1 - p) (other_is p below); section = λ j small. stored.beside (section_of ground (1 - p) + j) (λ e. absurd (omega arith)) }
+
+untouched_by : (ground : Ground) (p : ℕ) (a : Access) (memory after : ℕ → ℕ) → IsGround ground → p < 2 → InReach (who_of ground p) a → Leaves p memory a after → IsUntouched (layout_of ground) memory after (1 - p)
+untouched_by ground p (access.Read word) memory after is below reach left = record { state = ap (λ (m : ℕ → ℕ). m (1 - p)) left; section = λ j small. ap (λ (m : ℕ → ℕ). m (section_of ground (1 - p) + j)) left }
+untouched_by ground p (access.Write word written) memory after is below reach left =
+    let first = is.first in let low = reach.0 in record {
+      state = left.beside (1 - p) (λ e. absurd (omega arith));
+      section = λ j small. left.beside (section_of ground (1 - p) + j) (apart_sections ground p word j below reach.0 reach.1 small);
+    }
+untouched_by ground p (access.State state) memory after is below reach left = stored_untouched ground p state memory after is below left
+untouched_by ground p (access.Ring target vector) memory after is below reach left = record { state = ap (λ (m : ℕ → ℕ). m (1 - p)) left; section = λ j small. ap (λ (m : ℕ → ℕ). m (section_of ground (1 - p) + j)) left }
+untouched_by ground p access.Nothing memory after is below reach left = record { state = ap (λ (m : ℕ → ℕ). m (1 - p)) left; section = λ j small. ap (λ (m : ℕ → ℕ). m (section_of ground (1 - p) + j)) left }
+
+-- the marks of a read answer it: where it is out of range they are its refusal
+answered_by : (world : World) (past : List Line) (p word value : ℕ) (marks : List Mark) →
+    ((refused : Refused) → is_link world p ≡ true → IsReadBeyond (model.who_of world p) (side_of past p) (reads_of past p ++ got word value ∷ []) refused.field refused.value → marks ≡ refusal refused.field refused.value) →
+    AnswersMarks world (line.Read p word value ∷ past) p marks
+answered_by world past p word value [] all = λ refused honest beyond. let none = all refused honest beyond in absurd (cc)
+answered_by world past p word value (mark ∷ marks) all = λ refused honest beyond. let e : mark ≡ Refuse refused = first_mark mark (Refuse refused) marks [] (all refused honest beyond) in ap (mark_line p) e
+  where
+    first_mark : (a b : Mark) (xs ys : List Mark) → a ∷ xs ≡ b ∷ ys → a ≡ b
+    first_mark a b xs ys e = cc
+
+reads_alone : (world : World) (past device : List Line) (p value : ℕ) (end : End) (place : Place) (s : Standing) → IsWorld world → p < 2 → is_link world p ≡ true → (a : Access) → access_at (who_of (ground_of world) p) place ≡ a → BringsNone a device →
+    StandsAs (ground_of world) p (last_write past) end place s → Alone (layout_of (ground_of world)) (last_write past) p s → SideIs end place (side_of past p) → IsOpen world past p place →
+    ReadsAlone world p a value device (marks_at (who_of (ground_of world) p) place value) past
+reads_alone world past device p value end place s is below honest (access.Read word) at none stands alone si calls = (
+  none,
+  answered_by world past p word value (marks_at (who_of (ground_of world) p) place value) (λ refused _ beyond. refuses (ground_of world) p (last_write past) end s (side_of past p) (reads_of past p) value word refused.field refused.value (is_ground world is) place stands alone si calls.reads at
+      (subst (λ (w : Who). IsReadBeyond w (side_of past p) (reads_of past p ++ got word value ∷ []) refused.field refused.value) (who_is world p below) beyond)),
+)
+reads_alone world past device p value end place s is below honest (access.Write word written) at none stands alone si calls = tt
+reads_alone world past device p value end place s is below honest (access.State state) at none stands alone si calls = tt
+reads_alone world past device p value end place s is below honest (access.Ring target vector) at none stands alone si calls = tt
+reads_alone world past device p value end place s is below honest access.Nothing at none stands alone si calls = tt
+
+pub step_stands : (world : World) (past device : List Line) (ends after_ends : ℕ → End) (places after_places : ℕ → Place) (p value : ℕ) → IsWorld world → p < 2 → is_link world p ≡ true → AllByRecursion IsQuiet device → BringsNone (access_at (who_of (ground_of world) p) (places p)) device → is_open (places p) ≡ true →
+    Meets (last_write past) (access_at (who_of (ground_of world) p) (places p)) value → InReach (who_of (ground_of world) p) (access_at (who_of (ground_of world) p) (places p)) →
+    OnlyComes ends after_ends places after_places p (end_after (ends p) (step_at (who_of (ground_of world) p) (places p) value)) (next_place (who_of (ground_of world) p) (places p) value) →
+    Stands world past ends places → Stands world (reverse (step_lines p (step_at (who_of (ground_of world) p) (places p) value) device) ++ past) after_ends after_places
+step_stands world past device ends after_ends places after_places p value is below honest quiet none opened met reach only s =
+    let ground = ground_of world in
+    let who = who_of ground p in
+    let place = places p in
+    let step = step_at who place value in
+    let a = access_at who place in
+    let marks = marks_at who place value in
+    let o2 : 1 - p < 2 = omega arith in
+    let both = s.holds.1 in
+    let si = s.sides p below honest in
+    let calls = s.calls p below honest in
+    let f = follow_lem.steps ground (is_link world) (last_write past) ends places s.holds.0 p value (side_of past p) (side_of past (1 - p)) (is_ground world is) below honest both si (sym (s.states (1 - p) o2)) (s.sides (1 - p) o2) opened met in
+    let stands = both.stands p below honest in
+    let rests = rests_at world past p a (λ _ refused. zero_at ground p (last_write past) (ends p) place (s.holds.0 p) (both.whole.alone p below honest) (sym si.refused ∙ refused) stands.mark stands.at) in
+    let older = reverse device ++ after_access p a value past in
+    let there = at_access world p a value device past quiet in
+    let at_marks : AtMarks world p past older place value (ends p) (s.holds.0 p) = record { stands = stands; alone = both.whole.alone p below honest; side = si; calls = calls; left = there.left; stays = there.stays; reads = there.reads } in
+    let after = reverse (step_lines p step device) ++ past in
+    let went : StepWent world p past a value marks after f.0 = step_went world p a value device marks past f.0 below honest quiet f.1 rests (marks_rest world p past older value (ends p) (s.holds.0 p) is below place at_marks) (reads_alone world past device p value (ends p) place (s.holds.0 p) is below honest a refl none stands at_marks.alone si calls) s.settled s.fine in
+    come_stands world past after ends after_ends places after_places p (end_after (ends p) step) (next_place who place value) f.0 is below honest only
+    (kept.steps ground (is_link world) (last_write past) (last_write after) ends after_ends places after_places p value (is_ground world is) below honest opened met went.left only s.holds) f.2
+    (record {
+      written = spelling.steps ground p (last_write past) (last_write after) (ends p) place value (s.holds.0 p) (is_ground world is) stands went.left calls.written;
+      reads = subst (λ (r : List Got). ReadsAre who (next_place who place value) r) (sym went.reads_here) (reads_on who place value (reads_of past p) calls.reads);
+    })
+    (record { here = went.here; beside = went.beside; untouched = untouched_by ground p a (last_write past) (last_write after) (is_ground world is) below reach went.left; reads_beside = went.reads_beside; settled = went.settled; fine = went.fine }) s
+
+-- A device reset
+
+pub own_reset_stands : (world : World) (past : List Line) (ends after_ends : ℕ → End) (places after_places : ℕ → Place) (p : ℕ) → IsWorld world → p < 2 → is_link world p ≡ true →
+    OnlyComes ends after_ends places after_places p (after_reset (ends p)) Closed → Stands world past ends places → Stands world (line.Reset p ∷ past) after_ends after_places
+own_reset_stands world past ends after_ends places after_places p is below honest only s =
+    let ground = ground_of world in
+    let after = line.Reset p ∷ past in
+    let stored : Stored (last_write past) (last_write after) p 0 = record { here = here_is p 0 (last_write past p); beside = stored_at p 0 (last_write past) } in
+    let f = follow_lem.resets world.queue (is_link world (1 - p)) (ends p) (places p) (side_of past p) (side_of past (1 - p)) (s.sides p below honest) in
+    let one = one_told world past (line.Reset p) p told.WasReset f.0 below honest refl f.1 tt (answers world past (line.Reset p) s.settled) in
+    come_stands world past after ends after_ends places after_places p (after_reset (ends p)) Closed f.0 is below honest only
+    (kept.resets ground (is_link world) (last_write past) (last_write after) ends after_ends places after_places p (is_ground world is) below honest stored only s.holds) f.2 (record { written = tt; reads = tt })
+    (record { here = one.here; beside = one.beside; untouched = stored_untouched ground p 0 (last_write past) (last_write after) (is_ground world is) below stored; reads_beside = broken_beside (line.Reset p) past p below refl; settled = tt; fine = (one.fine, s.fine) }) s

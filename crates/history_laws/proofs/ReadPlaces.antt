@@ -1,0 +1,210 @@
+-- What a call has read at its place, and how each step goes on with it.
+use Rattle.std.proofs.Common.{◌≡◌, ℕ, zero, suc, ◌+◌, ◌-◌, ◌/◌, Bool, true, false, List, [], ◌∷◌, ◌++◌, length, refl, sym, ◌∙◌, ap, subst, arith, ne_eqb}
+use Rattle.std.specs.Prelude.{◌==◌, nat_le, if◌then◌else◌}
+use Rattle.std.proofs.lemmas.Bool.Decides.{nat_tests}
+use Rattle.split_ring.specs.declared.ranges.FieldName.TheVariants as field_name
+use Rattle.split_ring.specs.declared.steps.Access.{Access}
+use Rattle.split_ring.specs.declared.steps.Access.TheVariants as access
+use Rattle.split_ring.specs.Layout.{size_of, limit_of, word_place, Address, Length, Flags}
+use Rattle.split_ring.specs.Spelling.{low_half, high_half, entry_half}
+use Rattle.split_ring.specs.Ranges.{IsAvailEntry, IsDescAddress, IsDescLength, IsDescFlags}
+use Rattle.link_handshake.specs.declared.Move.{Move}
+use Rattle.link_handshake.specs.declared.Move.TheVariants.{Stay, Set, ClearThenSet}
+use Rattle.link_handshake.specs.Standing.{move_of}
+use Rattle.call_grammar.specs.Steps.{Mark, Look, Done, Deliver}
+use Rattle.call_grammar.specs.Ends.{End}
+use Rattle.call_grammar.specs.Words.{words_for, address_of, frame_in}
+use Rattle.call_grammar.specs.Calls.{Who, Call, Tick, Stop, Offer, Poll, in_run, job_of}
+use Rattle.call_grammar.specs.Offers.{Job, descriptor_of, entry_of, refusal, returned_by}
+use Rattle.call_grammar.specs.Polls.{Item, item_entry, item_address, is_entry, is_address, is_length, published_by, look_marks}
+use Rattle.call_grammar.specs.Places.{Place, Closed, AtState, Clearing, Setting, Refusing, Downed, AtUsedIndex, AtUsedId, Filling, WritingLow, WritingHigh, WritingLength, WritingFlags, WritingEntry, WritingIndex, RingingOffer, AtAvailIndex, AtEntry, AtLow, AtHigh, AtLength, AtFlags, AtWord, GivingId, GivingLength, GivingIndex, RingingPoll, clear_place, tick_place, fill_place, ids_place, items_place, words_place, first_place, access_at, marks_at, next_place}
+use Rattle.call_grammar.proofs.OfferLists.{no}
+use Rattle.call_grammar.proofs.PollLists.{entry_tells, address_tells, length_tells}
+use Rattle.history_laws.specs.Reads.{Got, got, entry_read, low_read, high_read, length_read, flags_read, word_reads}
+
+flags_tells : (f : ℕ) → (f == 0) ≡ true → IsDescFlags f
+flags_tells f test = grind (arith, nat_tests)
+
+-- what the call has read of the item in hand, and which tests it passed
+abbrev pub ReadsAre : Who → Place → List Got → Type 0
+ReadsAre who (AtEntry number more) reads = reads ≡ []
+ReadsAre who (AtLow number more entry) reads = (read : Item) × (reads ≡ entry_read who number read ∷ []) × (entry ≡ item_entry who number read) × IsAvailEntry who.sizes (item_entry who number read)
+ReadsAre who (AtHigh number more entry low) reads = (read : Item) × (reads ≡ entry_read who number read ∷ low_read who number read ∷ []) × (entry ≡ item_entry who number read) × IsAvailEntry who.sizes (item_entry who number read) × (low ≡ read.low)
+ReadsAre who (AtLength number more entry address) reads =
+    (read : Item) × (reads ≡ entry_read who number read ∷ low_read who number read ∷ high_read who number read ∷ []) × (entry ≡ item_entry who number read) × IsAvailEntry who.sizes (item_entry who number read) ×
+    (address ≡ item_address read) × IsDescAddress who.sizes (item_address read)
+ReadsAre who (AtFlags number more entry address bytes) reads =
+    (read : Item) × (reads ≡ entry_read who number read ∷ low_read who number read ∷ high_read who number read ∷ length_read who number read ∷ []) × (entry ≡ item_entry who number read) × IsAvailEntry who.sizes (item_entry who number read) ×
+    (address ≡ item_address read) × IsDescAddress who.sizes (item_address read) × (bytes ≡ read.bytes) × IsDescLength who.sizes (item_address read) read.bytes
+ReadsAre who (AtWord number more entry address bytes words left) reads =
+    (read : Item) × (reads ≡ entry_read who number read ∷ low_read who number read ∷ high_read who number read ∷ length_read who number read ∷ flags_read who number read ∷ word_reads who (item_address read) 0 words) ×
+    (entry ≡ item_entry who number read) × IsAvailEntry who.sizes (item_entry who number read) ×
+    (address ≡ item_address read) × IsDescAddress who.sizes (item_address read) × (bytes ≡ read.bytes) × IsDescLength who.sizes (item_address read) read.bytes × IsDescFlags (low_half read.flags_word)
+ReadsAre who place reads = Unit {0}
+
+-- what is read after a step: its marks begin anew, and so does a write
+abbrev pub reads_taken : Access → ℕ → List Got → List Got
+reads_taken (access.Read word) value reads = reads ++ got word value ∷ []
+reads_taken (access.Write word written) value reads = []
+reads_taken (access.State state) value reads = []
+reads_taken (access.Ring target vector) value reads = reads
+reads_taken access.Nothing value reads = reads
+
+abbrev pub reads_marked : List Mark → List Got → List Got
+reads_marked [] reads = reads
+reads_marked (mark ∷ marks) reads = []
+
+-- Places that have read nothing of an item
+
+either : (P : Place → Type 0) (b : Bool) (x y : Place) → P x → P y → P (if b then x else y)
+either P true x y px py = px
+either P false x y px py = py
+
+fill_reads : (who : Who) (reads : List Got) (job : Job) (at count : ℕ) → ReadsAre who (fill_place job at count) reads
+fill_reads who reads job at zero = tt
+fill_reads who reads job at (suc more) = tt
+
+ids_reads : (who : Who) (reads : List Got) (job : Job) (freed count : ℕ) → ReadsAre who (ids_place who job freed count) reads
+ids_reads who reads job freed zero = either (λ x. ReadsAre who x reads) (job.number == freed + limit_of who.sizes) Closed (fill_place job 0 (words_for (length job.frame))) tt (fill_reads who reads job 0 (words_for (length job.frame)))
+ids_reads who reads job freed (suc more) = tt
+
+clear_reads : (who : Who) (reads : List Got) (at count state : ℕ) → ReadsAre who (clear_place at count state) reads
+clear_reads who reads at zero state = tt
+clear_reads who reads at (suc more) state = tt
+
+tick_reads : (who : Who) (reads : List Got) (move : Move) → ReadsAre who (tick_place who move) reads
+tick_reads who reads Stay = tt
+tick_reads who reads (Set state) = tt
+tick_reads who reads (ClearThenSet state) = clear_reads who reads who.own who.words state
+
+items_reads : (who : Who) (number count : ℕ) → ReadsAre who (items_place number count) []
+items_reads who number zero = tt
+items_reads who number (suc more) = refl
+
+pub first_reads : (who : Who) (reads : List Got) (end : End) (call : Call) → ReadsAre who (first_place who end call) reads
+first_reads who reads end Tick = tt
+first_reads who reads end Stop = tt
+first_reads who reads end (Offer frame) = either (λ x. ReadsAre who x reads) (in_run end.handshake.phase) (AtUsedIndex (job_of who end frame) end.freed) Downed tt tt
+first_reads who reads end Poll = either (λ x. ReadsAre who x reads) (in_run end.handshake.phase) (AtAvailIndex (length end.delivered)) Downed tt tt
+
+-- A test that decides both the next place and the marks
+
+by_test : (who : Who) (taken : List Got) (b : Bool) (x y : Place) (marks others : List Mark) → (b ≡ true → ReadsAre who x (reads_marked marks taken)) → (b ≡ false → ReadsAre who y (reads_marked others taken)) →
+    ReadsAre who (if b then x else y) (reads_marked (if b then marks else others) taken)
+by_test who taken true x y marks others px py = px refl
+by_test who taken false x y marks others px py = py refl
+
+-- one more word of a frame
+word_last : (who : Who) (address at value : ℕ) (words : List ℕ) → word_reads who address at (words ++ value ∷ []) ≡ word_reads who address at words ++ got (who.theirs + (address / 4 + (at + length words))) value ∷ []
+word_last who address at value [] = ap (λ (k : ℕ). got (who.theirs + (address / 4 + k)) value ∷ []) (let e : at ≡ at + 0 = omega arith in e)
+word_last who address at value (word ∷ words) =
+    let rest = word_last who address (at + 1) value words in
+    let e : at + 1 + length words ≡ at + suc (length words) = omega arith in
+    ap (λ (r : List Got). got (who.theirs + (address / 4 + at)) word ∷ r) (rest ∙ ap (λ (k : ℕ). word_reads who address (at + 1) words ++ got (who.theirs + (address / 4 + k)) value ∷ []) e)
+
+pub next_word : (who : Who) (address value : ℕ) (words : List ℕ) → word_reads who address 0 words ++ got (who.theirs + (address / 4 + length words)) value ∷ [] ≡ word_reads who address 0 (words ++ value ∷ [])
+next_word who address value words =
+    let e : length words ≡ 0 + length words = omega arith in
+    ap (λ (k : ℕ). word_reads who address 0 words ++ got (who.theirs + (address / 4 + k)) value ∷ []) e ∙ sym (word_last who address 0 value words)
+
+-- The reads after each read of an item, as those of an item in which the value stands
+
+abbrev pub with_entry_word : ℕ → Item
+with_entry_word value = record { entry_word = value; low = 0; high = 0; bytes = 0; flags_word = 0; words = [] }
+
+module _ (who : Who) (number : ℕ) (value : ℕ) (reads : List Got) (read : Item) where
+  pub low_taken : (entry : ℕ) → reads ≡ entry_read who number read ∷ [] → entry ≡ item_entry who number read →
+      reads ++ got (who.theirs + word_place who.sizes (Address entry)) value ∷ [] ≡ entry_read who number (record read { low = value }) ∷ low_read who number (record read { low = value }) ∷ []
+  low_taken entry is e =
+      ap (λ (r : List Got). r ++ got (who.theirs + word_place who.sizes (Address entry)) value ∷ []) is ∙ ap (λ (k : ℕ). entry_read who number read ∷ got (who.theirs + word_place who.sizes (Address k)) value ∷ []) e
+
+  pub high_taken : (entry : ℕ) → reads ≡ entry_read who number read ∷ low_read who number read ∷ [] → entry ≡ item_entry who number read →
+      reads ++ got (who.theirs + word_place who.sizes (Address entry) + 1) value ∷ [] ≡ entry_read who number (record read { high = value }) ∷ low_read who number (record read { high = value }) ∷ high_read who number (record read { high = value }) ∷ []
+  high_taken entry is e =
+      ap (λ (r : List Got). r ++ got (who.theirs + word_place who.sizes (Address entry) + 1) value ∷ []) is ∙
+      ap (λ (k : ℕ). entry_read who number read ∷ low_read who number read ∷ got (who.theirs + word_place who.sizes (Address k) + 1) value ∷ []) e
+
+  pub length_taken : (entry : ℕ) → reads ≡ entry_read who number read ∷ low_read who number read ∷ high_read who number read ∷ [] → entry ≡ item_entry who number read →
+      reads ++ got (who.theirs + word_place who.sizes (Length entry)) value ∷ [] ≡
+      entry_read who number (record read { bytes = value }) ∷ low_read who number (record read { bytes = value }) ∷ high_read who number (record read { bytes = value }) ∷ length_read who number (record read { bytes = value }) ∷ []
+  length_taken entry is e =
+      ap (λ (r : List Got). r ++ got (who.theirs + word_place who.sizes (Length entry)) value ∷ []) is ∙
+      ap (λ (k : ℕ). entry_read who number read ∷ low_read who number read ∷ high_read who number read ∷ got (who.theirs + word_place who.sizes (Length k)) value ∷ []) e
+
+  pub flags_taken : (entry : ℕ) → reads ≡ entry_read who number read ∷ low_read who number read ∷ high_read who number read ∷ length_read who number read ∷ [] → entry ≡ item_entry who number read →
+      reads ++ got (who.theirs + word_place who.sizes (Flags entry)) value ∷ [] ≡
+      entry_read who number (record read { flags_word = value }) ∷ low_read who number (record read { flags_word = value }) ∷ high_read who number (record read { flags_word = value }) ∷
+      length_read who number (record read { flags_word = value }) ∷ flags_read who number (record read { flags_word = value }) ∷ []
+  flags_taken entry is e =
+      ap (λ (r : List Got). r ++ got (who.theirs + word_place who.sizes (Flags entry)) value ∷ []) is ∙
+      ap (λ (k : ℕ). entry_read who number read ∷ low_read who number read ∷ high_read who number read ∷ length_read who number read ∷ got (who.theirs + word_place who.sizes (Flags k)) value ∷ []) e
+
+  pub word_taken : (address : ℕ) (words : List ℕ) →
+      reads ≡ entry_read who number read ∷ low_read who number read ∷ high_read who number read ∷ length_read who number read ∷ flags_read who number read ∷ word_reads who (item_address read) 0 words → address ≡ item_address read →
+      reads ++ got (who.theirs + (address / 4 + length words)) value ∷ [] ≡
+      entry_read who number read ∷ low_read who number read ∷ high_read who number read ∷ length_read who number read ∷ flags_read who number read ∷ word_reads who (item_address read) 0 (words ++ value ∷ [])
+  word_taken address words is e =
+      ap (λ (r : List Got). r ++ got (who.theirs + (address / 4 + length words)) value ∷ []) is ∙
+      ap (λ (r : List Got). entry_read who number read ∷ low_read who number read ∷ high_read who number read ∷ length_read who number read ∷ flags_read who number read ∷ r)
+      (ap (λ (a : ℕ). word_reads who (item_address read) 0 words ++ got (who.theirs + (a / 4 + length words)) value ∷ []) e ∙ next_word who (item_address read) value words)
+
+words_reads : (who : Who) (number more entry address bytes : ℕ) (words : List ℕ) (count : ℕ) (reads : List Got) →
+    ((left : ℕ) → ReadsAre who (AtWord number more entry address bytes words left) reads) → ReadsAre who (words_place number more entry address bytes words count) reads
+words_reads who number more entry address bytes words zero reads is = tt
+words_reads who number more entry address bytes words (suc left) reads is = is left
+
+-- Each step
+
+pub reads_on : (who : Who) (place : Place) (value : ℕ) (reads : List Got) → ReadsAre who place reads → ReadsAre who (next_place who place value) (reads_marked (marks_at who place value) (reads_taken (access_at who place) value reads))
+reads_on who Closed value reads is = tt
+reads_on who (AtState handshake) value reads is = tick_reads who _ (move_of handshake value)
+reads_on who (Clearing at more state) value reads is = clear_reads who _ (at + 1) more state
+reads_on who (Setting state) value reads is = tt
+reads_on who Refusing value reads is = tt
+reads_on who Downed value reads is = tt
+reads_on who (AtUsedIndex job freed) value reads is =
+    let reads' = reads_marked (marks_at who (AtUsedIndex job freed) value) (reads_taken (access_at who (AtUsedIndex job freed)) value reads) in
+    either (λ x. ReadsAre who x reads') (nat_le (returned_by freed value) (job.number - freed)) (ids_place who job freed (returned_by freed value)) Refusing (ids_reads who reads' job freed (returned_by freed value)) tt
+reads_on who (AtUsedId job freed more) value reads is =
+    let reads' = reads_marked (marks_at who (AtUsedId job freed more) value) (reads_taken (access_at who (AtUsedId job freed more)) value reads) in
+    either (λ x. ReadsAre who x reads') (value == descriptor_of who freed) (ids_place who job (freed + 1) more) Refusing (ids_reads who reads' job (freed + 1) more) tt
+reads_on who (Filling job at more) value reads is = fill_reads who _ job (at + 1) more
+reads_on who (WritingLow job) value reads is = tt
+reads_on who (WritingHigh job) value reads is = tt
+reads_on who (WritingLength job) value reads is = tt
+reads_on who (WritingFlags job) value reads is = tt
+reads_on who (WritingEntry job) value reads is = tt
+reads_on who (WritingIndex job) value reads is = tt
+reads_on who RingingOffer value reads is = tt
+reads_on who (AtAvailIndex taken) value reads is =
+    let count = published_by taken value in
+    by_test who _ (nat_le count (size_of who.sizes)) (if count == 0 then Closed else items_place taken count) Refusing (look_marks count) (refusal field_name.AvailIndex (high_half value))
+    (λ _. by_test who _ (count == 0) Closed (items_place taken count) (Look 0 ∷ Done ∷ []) (Look count ∷ []) (λ _. tt) (λ _. items_reads who taken count)) (λ _. tt)
+reads_on who (AtEntry number more) value reads is =
+    let entry = entry_half (entry_of who number) value in
+    by_test who _ (is_entry who.sizes entry) (AtLow number more entry) Refusing [] (refusal field_name.AvailEntry entry)
+    (λ test. (with_entry_word value, ap (λ (r : List Got). r ++ entry_read who number (with_entry_word value) ∷ []) is, refl, entry_tells who.sizes entry test)) (λ _. tt)
+reads_on who (AtLow number more entry) value reads is = (record (is.0) { low = value }, low_taken who number value reads is.0 entry is.1 is.2, is.2, is.3, refl)
+reads_on who (AtHigh number more entry low) value reads is =
+    let read = record (is.0) { high = value } in
+    let address : address_of low value ≡ item_address read = ap (λ (l : ℕ). address_of l value) is.4 in
+    by_test who _ (is_address who.sizes (address_of low value)) (AtLength number more entry (address_of low value)) Refusing [] (refusal field_name.DescAddress (address_of low value))
+    (λ test. (read, high_taken who number value reads is.0 entry is.1 is.2, is.2, is.3, address, subst (IsDescAddress who.sizes) address (address_tells who.sizes (address_of low value) test))) (λ _. tt)
+reads_on who (AtLength number more entry address) value reads is =
+    let read = record (is.0) { bytes = value } in
+    by_test who _ (is_length who.sizes address value) (AtFlags number more entry address value) Refusing [] (refusal field_name.DescLength value)
+    (λ test. (read, length_taken who number value reads is.0 entry is.1 is.2, is.2, is.3, is.4, is.5, refl, subst (λ (a : ℕ). IsDescLength who.sizes a value) is.4 (length_tells who.sizes address value test))) (λ _. tt)
+reads_on who (AtFlags number more entry address bytes) value reads is =
+    let read = record (is.0) { flags_word = value } in
+    by_test who _ (low_half value == 0) (words_place number more entry address bytes [] (words_for bytes)) Refusing [] (refusal field_name.DescFlags (low_half value))
+    (λ test. words_reads who number more entry address bytes [] (words_for bytes) _ (λ left. (read, flags_taken who number value reads is.0 entry is.1 is.2, is.2, is.3, is.4, is.5, is.6, is.7, flags_tells (low_half value) test))) (λ _. tt)
+reads_on who (AtWord number more entry address bytes words zero) value reads is = tt
+reads_on who (AtWord number more entry address bytes words (suc left)) value reads is =
+    let none : (suc left == 0) ≡ false = ne_eqb (suc left) 0 (λ e. absurd (omega arith)) in
+    let marks : (if suc left == 0 then Deliver (frame_in bytes (words ++ value ∷ [])) ∷ [] else []) ≡ [] = no (suc left == 0) (Deliver (frame_in bytes (words ++ value ∷ [])) ∷ []) [] none in
+    subst (λ (m : List Mark). ReadsAre who (AtWord number more entry address bytes (words ++ value ∷ []) left) (reads_marked m (reads ++ got (who.theirs + (address / 4 + length words)) value ∷ []))) (sym marks)
+    (is.0, word_taken who number value reads is.0 address words is.1 is.4, is.2, is.3, is.4, is.5, is.6, is.7, is.8)
+reads_on who (GivingId number more entry) value reads is = tt
+reads_on who (GivingLength number more) value reads is = tt
+reads_on who (GivingIndex number more) value reads is = items_reads who (number + 1) more
+reads_on who RingingPoll value reads is = tt

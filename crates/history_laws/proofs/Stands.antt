@@ -1,0 +1,246 @@
+-- Where two link peers stand after the lines of a history, and the lines that change nothing of it.
+use Rattle.std.proofs.Common.{◌≡◌, ℕ, ◌<◌, Bool, true, false, List, [], ◌∷◌, ◌++◌, length, refl, sym, ◌∙◌, ap, subst, append_assoc}
+use Rattle.std.specs.Prelude.{if◌then◌else◌, Option, Some, None, nat_lt, reverse}
+use Rattle.std.specs.List.{AllByRecursion}
+use Rattle.std.proofs.lemmas.List.{reverse-append}
+use Rattle.doorbell_irq.specs.declared.effect.Delivery.{Delivery}
+use Rattle.doorbell_irq.specs.Events as device
+use Rattle.doorbell_irq.specs.DeviceRules.{effect_of}
+use Rattle.scenario_text.specs.Scenario.{World, is_link}
+use Rattle.call_grammar.specs.Steps.{Mark, Saw, Reclaim, Full, Accept, Look, Deliver, Return, Done, Down, Refuse, Over, Step}
+use Rattle.call_grammar.specs.Ends.{End}
+use Rattle.call_grammar.specs.Places.{Place}
+use Rattle.link_machine.specs.LinkMachine.{Side, Wrote, Marked, WasReset}
+use Rattle.pair_calls.specs.Ground as pair
+use Rattle.pair_calls.specs.Written.{words_of, HasWritten}
+use Rattle.pair_calls.specs.Ground.{StandsAs}
+use Rattle.pair_calls.specs.Both.{Holds}
+use Rattle.pair_calls.specs.Sides.{SideIs}
+use Rattle.lawful_history.specs.declared.line.Line.{Line}
+use Rattle.lawful_history.specs.declared.line.Line.TheVariants as line
+use Rattle.lawful_history.specs.Memory.{Touch, touch_of, value_after, last_write}
+use Rattle.lawful_history.specs.Memory as touch
+use Rattle.lawful_history.specs.Schedule.{Event, Asked, Automated, Stormed, Turned, Acted, Reached, Loses, Repeated, DeviceAccess, ReadsConfig, WritesConfig, ReadsRegister, WritesRegister, ReadsMsix, WritesMsix}
+use Rattle.lawful_history.specs.Schedule as event
+use Rattle.lawful_history.specs.Entries.{access_lines}
+use Rattle.lawful_history.specs.Device.{devices_of, device_events, arrival, arrived, arrivals_by, lost_count, told_by, brought_by, step_interrupts, reached_line, device_lines}
+use Rattle.history_laws.specs.Told.{Telling, Tells, Silent, telling_of, side_told, side_of}
+use Rattle.history_laws.specs.Rows.{EachLine, HasRow}
+use Rattle.history_laws.specs.Reads.{Got, Reading, Passes, reading_of, reads_with, reads_of, IsReadFrame, IsReadBeyond, Takes, Breaks, got}
+use Rattle.history_laws.specs.Spelled.{SpellsNext}
+use Rattle.history_laws.proofs.ReadPlaces.{ReadsAre}
+use Rattle.lawful_history.specs.Sides.{who_of}
+use Rattle.history_laws.proofs.Proper.{ground_of}
+use Rattle.split_ring.specs.declared.ranges.Refused.{Refused}
+use Rattle.split_ring.specs.declared.steps.Access.{Access}
+use Rattle.split_ring.specs.declared.steps.Access.TheVariants as access
+
+-- what stands where a mark does: an accepted frame is spelled, a delivered one was read, and a refused value too
+abbrev pub MarkRests : World → List Line → ℕ → Mark → Type 0
+MarkRests world older p (Saw value) = Unit {0}
+MarkRests world older p (Reclaim count) = Unit {0}
+MarkRests world older p Full = Unit {0}
+MarkRests world older p (Accept frame) = SpellsNext world older p frame
+MarkRests world older p (Look count) = Unit {0}
+MarkRests world older p (Deliver frame) = IsReadFrame (who_of world p) (length (side_of older p).delivered) (reads_of older p) frame
+MarkRests world older p Return = Unit {0}
+MarkRests world older p Done = Unit {0}
+MarkRests world older p Down = Unit {0}
+MarkRests world older p (Refuse refused) = IsReadBeyond (who_of world p) (side_of older p) (reads_of older p) refused.field refused.value
+MarkRests world older p Over = Unit {0}
+
+-- and an honest side that refused writes 0 alone
+abbrev pub Rests : World → List Line → Telling → Type 0
+Rests world older (Tells p (Wrote state)) = is_link world p ≡ true → (side_of older p).refused ≡ true → state ≡ 0
+Rests world older (Tells p (Marked mark)) = MarkRests world older p mark
+Rests world older (Tells p WasReset) = Unit {0}
+Rests world older Silent = Unit {0}
+
+-- After a read of an honest link peer out of range stands the refusal, and nothing else
+
+abbrev pub Answered : World → Reading → List Line → Line → Type 0
+Answered world (Takes p word value) older next = (refused : Refused) → is_link world p ≡ true → IsReadBeyond (who_of world p) (side_of older p) (reads_of older p ++ got word value ∷ []) refused.field refused.value → next ≡ line.Refuse p refused
+Answered world (Breaks p) older next = Unit {0}
+Answered world Passes older next = Unit {0}
+
+abbrev pub AnswersTo : World → List Line → Line → Type 0
+AnswersTo world [] next = Unit {0}
+AnswersTo world (first ∷ older) next = Answered world (reading_of first) older next
+
+abbrev pub SettledBy : World → Reading → List Line → Type 0
+SettledBy world (Takes p word value) older = (refused : Refused) → is_link world p ≡ true → ¬ IsReadBeyond (who_of world p) (side_of older p) (reads_of older p ++ got word value ∷ []) refused.field refused.value
+SettledBy world (Breaks p) older = Unit {0}
+SettledBy world Passes older = Unit {0}
+
+-- the newest of these lines is no such read
+abbrev pub Settled : World → List Line → Type 0
+Settled world [] = Unit {0}
+Settled world (line ∷ older) = SettledBy world (reading_of line) older
+
+settled_by : (world : World) (r : Reading) (older : List Line) (line : Line) → SettledBy world r older → Answered world r older line
+settled_by world (Takes p word value) older line settled = λ refused honest beyond. absurd (settled refused honest beyond)
+settled_by world (Breaks p) older line settled = tt
+settled_by world Passes older line settled = tt
+
+-- then any line may come next
+pub answers : (world : World) (past : List Line) (line : Line) → Settled world past → AnswersTo world past line
+answers world [] line settled = tt
+answers world (first ∷ older) line settled = settled_by world (reading_of first) older line settled
+
+-- what is kept of each line
+abbrev pub Fine : World → List Line → Line → Type 0
+Fine world older line = HasRow world older line (telling_of line) × Rests world older (telling_of line) × AnswersTo world older line
+
+-- the open call of an honest link peer at its place: what it has written stands in its section, and what it has read is among the lines
+pub record IsOpen (world : World) (past : List Line) (p : ℕ) (place : Place) : Type 0 where
+  pub written : HasWritten (ground_of world) (words_of (ground_of world) p (last_write past)) place
+  pub reads : ReadsAre (pair.who_of (ground_of world) p) place (reads_of past p)
+
+-- after these lines the ends stand at these places, each honest one is the side of the lines, and the state words are those of the sides
+pub record Stands (world : World) (past : List Line) (ends : ℕ → End) (places : ℕ → Place) : Type 0 where
+  pub holds : Holds (ground_of world) (is_link world) (last_write past) ends places
+  pub sides : (p : ℕ) → p < 2 → is_link world p ≡ true → SideIs (ends p) (places p) (side_of past p)
+  pub states : (p : ℕ) → p < 2 → last_write past p ≡ (side_of past p).state
+  pub calls : (p : ℕ) → p < 2 → is_link world p ≡ true → IsOpen world past p (places p)
+  pub settled : Settled world past
+  pub fine : EachLine (Fine world) past
+
+-- Lines that change nothing
+
+pub record Alike (world : World) (old new : List Line) : Type 0 where
+  pub memory : last_write new ≡ last_write old
+  pub sides : side_of new ≡ side_of old
+  pub reads : reads_of new ≡ reads_of old
+  pub settled : Settled world old → Settled world new
+  pub fine : Settled world old → EachLine (Fine world) old → EachLine (Fine world) new
+
+pub stands_alike : (world : World) (old new : List Line) (ends : ℕ → End) (places : ℕ → Place) → Alike world old new → Stands world old ends places → Stands world new ends places
+stands_alike world old new ends places a s = record {
+  holds = subst (λ (m : ℕ → ℕ). Holds (ground_of world) (is_link world) m ends places) (sym a.memory) s.holds;
+  sides = λ p below honest. subst (λ (x : ℕ → Side). SideIs (ends p) (places p) (x p)) (sym a.sides) (s.sides p below honest);
+  states = λ p below. ap (λ (m : ℕ → ℕ). m p) a.memory ∙ (s.states p below ∙ ap (λ (x : ℕ → Side). (x p).state) (sym a.sides));
+  calls = λ p below honest. record {
+    written = subst (λ (m : ℕ → ℕ). HasWritten (ground_of world) (words_of (ground_of world) p m) (places p)) (sym a.memory) (s.calls p below honest).written;
+    reads = subst (λ (r : ℕ → List Got). ReadsAre (pair.who_of (ground_of world) p) (places p) (r p)) (sym a.reads) (s.calls p below honest).reads;
+  };
+  settled = a.settled s.settled;
+  fine = a.fine s.settled s.fine;
+}
+
+-- the same ends at the same places
+pub ends_alike : (world : World) (past : List Line) (ends after_ends : ℕ → End) (places : ℕ → Place) → ((p : ℕ) → p < 2 → is_link world p ≡ true → after_ends p ≡ ends p) → Stands world past ends places → Stands world past after_ends places
+ends_alike world past ends after_ends places same s = record {
+  holds = (
+    s.holds.0,
+    record {
+      whole = s.holds.1.whole;
+      stands = λ p below honest. subst (λ (x : End). StandsAs (ground_of world) p (last_write past) x (places p) (s.holds.0 p)) (sym (same p below honest)) (s.holds.1.stands p below honest);
+    },
+  );
+  sides = λ p below honest. subst (λ (x : End). SideIs x (places p) (side_of past p)) (sym (same p below honest)) (s.sides p below honest);
+  states = s.states;
+  calls = s.calls;
+  settled = s.settled;
+  fine = s.fine;
+}
+
+-- a line that leaves every word and tells the machine nothing
+pub record IsQuiet (line : Line) : Type 0 where
+  pub apart : touch_of line ≡ touch.Apart
+  pub silent : telling_of line ≡ Silent
+  pub passes : reading_of line ≡ Passes
+
+pub memory_after : (line : Line) (past : List Line) → touch_of line ≡ touch.Apart → last_write (line ∷ past) ≡ last_write past
+memory_after line past apart = ap (λ (t : Touch). λ (at : ℕ). value_after t at (last_write past at)) apart
+
+sides_after : (line : Line) (past : List Line) → telling_of line ≡ Silent → side_of (line ∷ past) ≡ side_of past
+sides_after line past silent = ap (λ (t : Telling). λ (p : ℕ). side_told t p (side_of past p)) silent
+
+pub reads_after : (line : Line) (past : List Line) → reading_of line ≡ Passes → reads_of (line ∷ past) ≡ reads_of past
+reads_after line past passes = ap (λ (r : Reading). λ (p : ℕ). reads_with r p (reads_of past p)) passes
+
+silent_fine : (world : World) (line : Line) (past : List Line) (t : Telling) → t ≡ Silent → HasRow world past line t × Rests world past t
+silent_fine world line past t silent = subst (λ (x : Telling). HasRow world past line x × Rests world past x) (sym silent) (tt, tt)
+
+passes_settled : (world : World) (line : Line) (past : List Line) → reading_of line ≡ Passes → Settled world (line ∷ past)
+passes_settled world line past passes = subst (λ (r : Reading). SettledBy world r past) (sym passes) tt
+
+quiet_line : (world : World) (line : Line) (past : List Line) → IsQuiet line → Alike world past (line ∷ past)
+quiet_line world line past q = record {
+  memory = memory_after line past q.apart;
+  sides = sides_after line past q.silent;
+  reads = reads_after line past q.passes;
+  settled = λ settled. passes_settled world line past q.passes;
+  fine = λ settled old. let told = silent_fine world line past (telling_of line) q.silent in ((told.0, told.1, answers world past line settled), old);
+}
+
+alike_on : (world : World) (old mid new : List Line) → Alike world old mid → Alike world mid new → Alike world old new
+alike_on world old mid new a b = record { memory = b.memory ∙ a.memory; sides = b.sides ∙ a.sides; reads = b.reads ∙ a.reads; settled = λ settled. b.settled (a.settled settled); fine = λ settled f. b.fine (a.settled settled) (a.fine settled f) }
+
+-- the first of some new lines is the oldest of them
+pub first_after : (line : Line) (lines past : List Line) → reverse (line ∷ lines) ++ past ≡ reverse lines ++ (line ∷ past)
+first_after line lines past = ap (λ r. r ++ past) (reverse-append (line ∷ []) lines) ∙ append_assoc (reverse lines) (line ∷ []) past
+
+pub quiet_lines : (world : World) (lines past : List Line) → AllByRecursion IsQuiet lines → Alike world past (reverse lines ++ past)
+quiet_lines world [] past all = record { memory = refl; sides = refl; reads = refl; settled = λ settled. settled; fine = λ settled old. old }
+quiet_lines world (line ∷ lines) past all =
+    subst (λ (new : List Line). Alike world past new) (sym (first_after line lines past)) (alike_on world past (line ∷ past) (reverse lines ++ (line ∷ past)) (quiet_line world line past all.0) (quiet_lines world lines (line ∷ past) all.1))
+
+-- The lines of the devices
+
+arrival_quiet : (b : Bool) (p vector : ℕ) → IsQuiet (if b then line.Lost p vector else line.Interrupt p vector)
+arrival_quiet true p vector = record { apart = refl; silent = refl; passes = refl }
+arrival_quiet false p vector = record { apart = refl; silent = refl; passes = refl }
+
+arrived_quiet : (older : List Line) (losses : ℕ → ℕ) (deliveries : List Delivery) → AllByRecursion IsQuiet (arrived older losses deliveries)
+arrived_quiet older losses [] = tt
+arrived_quiet older losses (delivery ∷ deliveries) = (arrival_quiet (nat_lt (lost_count older delivery.peer) (losses delivery.peer)) delivery.peer delivery.vector, arrived_quiet (arrival older losses delivery ∷ older) losses deliveries)
+
+arrivals_quiet : (world : World) (older : List Line) (losses : ℕ → ℕ) (line : Line) (told : Option device.Event) → AllByRecursion IsQuiet (arrivals_by world older losses line told)
+arrivals_quiet world older losses line None = tt
+arrivals_quiet world older losses line (Some e) = arrived_quiet (line ∷ older) losses (effect_of (devices_of world) (device_events older) e).deliveries.items
+
+brought_quiet : (world : World) (older : List Line) (losses : ℕ → ℕ) (lines : List Line) → AllByRecursion IsQuiet (brought_by world older losses lines)
+brought_quiet world older losses [] = tt
+brought_quiet world older losses (line ∷ lines) = arrivals_quiet world older losses line (told_by line)
+
+pub step_quiet : (world : World) (older : List Line) (losses : ℕ → ℕ) (p : ℕ) (went : Option Step) → AllByRecursion IsQuiet (step_interrupts world older losses p went)
+step_quiet world older losses p None = tt
+step_quiet world older losses p (Some step) = brought_quiet world older losses (access_lines p step.access step.value)
+
+reached_quiet : (world : World) (older : List Line) (p : ℕ) (a : DeviceAccess) → IsQuiet (reached_line world older p a)
+reached_quiet world older p (ReadsConfig offset width) = record { apart = refl; silent = refl; passes = refl }
+reached_quiet world older p (WritesConfig offset width value) = record { apart = refl; silent = refl; passes = refl }
+reached_quiet world older p (ReadsRegister offset) = record { apart = refl; silent = refl; passes = refl }
+reached_quiet world older p (WritesRegister offset value) = record { apart = refl; silent = refl; passes = refl }
+reached_quiet world older p (ReadsMsix offset) = record { apart = refl; silent = refl; passes = refl }
+reached_quiet world older p (WritesMsix offset value) = record { apart = refl; silent = refl; passes = refl }
+
+pub device_quiet : (world : World) (older : List Line) (losses : ℕ → ℕ) (e : Event) (went : Option Step) → AllByRecursion IsQuiet (device_lines world older losses e went)
+device_quiet world older losses (Asked p call) went = tt
+device_quiet world older losses (Automated p expected) went = tt
+device_quiet world older losses (Stormed p seed) went = tt
+device_quiet world older losses (Turned p) went = step_quiet world older losses p went
+device_quiet world older losses (Acted p a) went = step_quiet world older losses p went
+device_quiet world older losses (event.WasReset p) went = arrivals_quiet world older losses (line.Reset p) (told_by (line.Reset p))
+device_quiet world older losses (Reached p a) went = (reached_quiet world older p a, tt)
+device_quiet world older losses (Loses p) went = tt
+device_quiet world older losses (Repeated p vector) went = (record { apart = refl; silent = refl; passes = refl }, tt)
+
+-- a read brings no line of the devices
+abbrev pub BringsNone : Access → List Line → Type 0
+BringsNone (access.Read word) device = device ≡ []
+BringsNone (access.Write word written) device = Unit {0}
+BringsNone (access.State state) device = Unit {0}
+BringsNone (access.Ring target vector) device = Unit {0}
+BringsNone access.Nothing device = Unit {0}
+
+brings_none : (world : World) (older : List Line) (losses : ℕ → ℕ) (p : ℕ) (a : Access) (value : ℕ) → BringsNone a (brought_by world older losses (access_lines p a value))
+brings_none world older losses p (access.Read word) value = refl
+brings_none world older losses p (access.Write word written) value = tt
+brings_none world older losses p (access.State state) value = tt
+brings_none world older losses p (access.Ring target vector) value = tt
+brings_none world older losses p access.Nothing value = tt
+
+pub step_brings : (world : World) (older : List Line) (losses : ℕ → ℕ) (p : ℕ) (step : Step) → BringsNone step.access (step_interrupts world older losses p (Some step))
+step_brings world older losses p step = brings_none world older losses p step.access step.value

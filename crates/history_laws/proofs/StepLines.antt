@@ -1,0 +1,284 @@
+-- The lines of a step of an honest link peer: they go along the rows of the step.
+use Rattle.std.proofs.Common.{◌≡◌, ◌≢◌, ℕ, ◌-◌, ◌<◌, Bool, true, List, [], ◌∷◌, ◌++◌, refl, sym, ◌∙◌, ap, subst, append_assoc, arith, inl, inr, ◌⊎◌}
+use Rattle.std.specs.Prelude.{◌==◌, if◌then◌else◌, map, reverse}
+use Rattle.std.specs.List.{AllByRecursion}
+use Rattle.std.proofs.lemmas.List.{reverse-append}
+use Rattle.split_ring.specs.declared.steps.Access.{Access}
+use Rattle.split_ring.specs.declared.steps.Access.TheVariants as access
+use Rattle.split_ring.specs.Layout.{Sizes}
+use Rattle.scenario_text.specs.Scenario.{World, is_link}
+use Rattle.call_grammar.specs.Steps.{Mark, Saw, Reclaim, Full, Accept, Look, Deliver, Return, Done, Down, Refuse, Over, step_of}
+use Rattle.link_machine.specs.LinkMachine.{Side, Told, Wrote, Marked, WasReset, MarkRow, Row}
+use Rattle.pair_calls.specs.Ground.{Leaves}
+use Rattle.pair_calls.specs.Sides.{told_of, RowsAlong}
+use Rattle.lawful_history.specs.declared.line.Line.{Line}
+use Rattle.lawful_history.specs.declared.line.Line.TheVariants as line
+use Rattle.lawful_history.specs.Memory.{last_write}
+use Rattle.lawful_history.specs.Entries.{mark_line, step_lines}
+use Rattle.lawful_history.proofs.Apart.{mark_apart}
+use Rattle.history_laws.specs.Told.{Telling, Tells, telling_of, side_marked, side_after, side_told, side_of}
+use Rattle.history_laws.specs.Rows.{EachLine, IsRow, HasRow}
+use Rattle.history_laws.specs.Reads.{Got, got, Reading, Breaks, reading_of, reads_with, reads_of}
+use Rattle.history_laws.proofs.ReadPlaces.{reads_taken, reads_marked}
+use Rattle.history_laws.proofs.Stands.{MarkRests, Rests, Fine, IsQuiet, quiet_lines, memory_after, first_after, AnswersTo, SettledBy, Settled, answers}
+use Rattle.history_laws.proofs.Outside.{here_is, there_is}
+
+-- The row of what is told determines the side after it
+
+mark_new : (sizes : Sizes) (honest : Bool) (side other : Side) (mark : Mark) (new : Side) → MarkRow sizes honest side other mark new → new ≡ side_marked mark side
+mark_new sizes honest side other (Saw value) new row = row.1
+mark_new sizes honest side other (Reclaim count) new row = row.2
+mark_new sizes honest side other Full new row = row.2
+mark_new sizes honest side other (Accept frame) new row = row.2
+mark_new sizes honest side other (Look count) new row = row.2
+mark_new sizes honest side other (Deliver frame) new row = row.3
+mark_new sizes honest side other Return new row = row.2
+mark_new sizes honest side other Done new row = row.2
+mark_new sizes honest side other Down new row = row.1
+mark_new sizes honest side other (Refuse refused) new row = row.3
+mark_new sizes honest side other Over new row = row
+
+pub row_new : (sizes : Sizes) (mine theirs : Bool) (side other : Side) (told : Told) (new : Side) → Row sizes mine theirs side other told new → new ≡ side_after told side
+row_new sizes mine theirs side other (Wrote state) new row = row.1
+row_new sizes mine theirs side other (Marked mark) new row = mark_new sizes theirs side other mark new row.1
+row_new sizes mine theirs side other WasReset new row = row
+
+mark_tells : (p : ℕ) (mark : Mark) → telling_of (mark_line p mark) ≡ Tells p (Marked mark)
+mark_tells p (Saw value) = refl
+mark_tells p (Reclaim count) = refl
+mark_tells p Full = refl
+mark_tells p (Accept frame) = refl
+mark_tells p (Look count) = refl
+mark_tells p (Deliver frame) = refl
+mark_tells p Return = refl
+mark_tells p Done = refl
+mark_tells p Down = refl
+mark_tells p (Refuse refused) = refl
+mark_tells p Over = refl
+
+-- A line that tells something of an honest link peer, and its row
+
+pub record OneTold (world : World) (past : List Line) (line : Line) (p : ℕ) (new other : Side) : Type 0 where
+  pub fine : Fine world past line
+  pub here : side_of (line ∷ past) p ≡ new
+  pub beside : side_of (line ∷ past) (1 - p) ≡ other
+
+other_of : (p : ℕ) → p < 2 → p ≢ 1 - p
+other_of p below e = absurd (omega arith)
+
+is_row : (world : World) (past : List Line) (p : ℕ) (told : Told) (new : Side) → p < 2 → Row world.queue (is_link world p) (is_link world (1 - p)) (side_of past p) (side_of past (1 - p)) told new → IsRow world past p told new
+is_row world past p (Wrote state) new below row = λ _. row
+is_row world past p (Marked mark) new below row = (below, row)
+is_row world past p WasReset new below row = λ _. row
+
+pub one_told : (world : World) (past : List Line) (line : Line) (p : ℕ) (told : Told) (new : Side) → p < 2 → is_link world p ≡ true → telling_of line ≡ Tells p told →
+    Row world.queue true (is_link world (1 - p)) (side_of past p) (side_of past (1 - p)) told new → Rests world past (Tells p told) → AnswersTo world past line → OneTold world past line p new (side_of past (1 - p))
+one_told world past line p told new below honest tells row rests answered =
+    let now : side_of (line ∷ past) p ≡ side_after told (side_of past p) = ap (λ (t : Telling). side_told t p (side_of past p)) tells ∙ here_is p (side_after told (side_of past p)) (side_of past p) in
+    let is : side_of (line ∷ past) p ≡ new = now ∙ sym (row_new world.queue true (is_link world (1 - p)) (side_of past p) (side_of past (1 - p)) told new row) in
+    let row_here : Row world.queue (is_link world p) (is_link world (1 - p)) (side_of past p) (side_of past (1 - p)) told (side_of (line ∷ past) p) =
+    subst (λ (b : Bool). Row world.queue b (is_link world (1 - p)) (side_of past p) (side_of past (1 - p)) told (side_of (line ∷ past) p)) (sym honest)
+    (subst (λ (x : Side). Row world.queue true (is_link world (1 - p)) (side_of past p) (side_of past (1 - p)) told x) (sym is) row) in
+    record {
+      fine = (
+        subst (λ (t : Telling). HasRow world past line t) (sym tells) (is_row world past p told (side_of (line ∷ past) p) below row_here),
+        subst (λ (t : Telling). Rests world past t) (sym tells) rests,
+        answered,
+      );
+      here = is;
+      beside = ap (λ (t : Telling). side_told t (1 - p) (side_of past (1 - p))) tells ∙ there_is p (1 - p) (side_after told (side_of past (1 - p))) (side_of past (1 - p)) (other_of p below);
+    }
+
+mark_breaks : (p : ℕ) (mark : Mark) → reading_of (mark_line p mark) ≡ Breaks p
+mark_breaks p (Saw value) = refl
+mark_breaks p (Reclaim count) = refl
+mark_breaks p Full = refl
+mark_breaks p (Accept frame) = refl
+mark_breaks p (Look count) = refl
+mark_breaks p (Deliver frame) = refl
+mark_breaks p Return = refl
+mark_breaks p Done = refl
+mark_breaks p Down = refl
+mark_breaks p (Refuse refused) = refl
+mark_breaks p Over = refl
+
+pub broken_here : (line : Line) (past : List Line) (p : ℕ) → reading_of line ≡ Breaks p → reads_of (line ∷ past) p ≡ []
+broken_here line past p breaks = ap (λ (r : Reading). reads_with r p (reads_of past p)) breaks ∙ here_is p [] (reads_of past p)
+
+pub broken_beside : (line : Line) (past : List Line) (p : ℕ) → p < 2 → reading_of line ≡ Breaks p → reads_of (line ∷ past) (1 - p) ≡ reads_of past (1 - p)
+broken_beside line past p below breaks = ap (λ (r : Reading). reads_with r (1 - p) (reads_of past (1 - p))) breaks ∙ there_is p (1 - p) [] (reads_of past (1 - p)) (other_of p below)
+
+marked_none : (marks : List Mark) → reads_marked marks [] ≡ []
+marked_none [] = refl
+marked_none (mark ∷ marks) = refl
+
+-- what stands where each of these marks does, after these lines
+abbrev pub MarksRest : World → List Line → ℕ → List Mark → Type 0
+MarksRest world older p [] = Unit {0}
+MarksRest world older p (mark ∷ marks) = MarkRests world older p mark × MarksRest world (mark_line p mark ∷ older) p marks
+
+-- the first of these marks may come next, or where there is none any line
+abbrev pub AnswersMarks : World → List Line → ℕ → List Mark → Type 0
+AnswersMarks world past p [] = Settled world past
+AnswersMarks world past p (mark ∷ marks) = AnswersTo world past (mark_line p mark)
+
+settled_marks : (world : World) (past : List Line) (p : ℕ) (marks : List Mark) → Settled world past → AnswersMarks world past p marks
+settled_marks world past p [] settled = settled
+settled_marks world past p (mark ∷ marks) settled = answers world past (mark_line p mark) settled
+
+mark_settled : (world : World) (past : List Line) (p : ℕ) (mark : Mark) → Settled world (mark_line p mark ∷ past)
+mark_settled world past p mark = subst (λ (r : Reading). SettledBy world r past) (sym (mark_breaks p mark)) tt
+
+-- After some lines with these marks: memory is as before, the side of p has become new and that of its partner stays
+
+pub record Went (world : World) (p : ℕ) (old new_lines : List Line) (marks : List Mark) (new : Side) : Type 0 where
+  pub memory : last_write new_lines ≡ last_write old
+  pub here : side_of new_lines p ≡ new
+  pub beside : side_of new_lines (1 - p) ≡ side_of old (1 - p)
+  pub reads_here : reads_of new_lines p ≡ reads_marked marks (reads_of old p)
+  pub reads_beside : reads_of new_lines (1 - p) ≡ reads_of old (1 - p)
+  pub settled : Settled world new_lines
+  pub fine : EachLine (Fine world) new_lines
+
+marks_went : (world : World) (p : ℕ) (marks : List Mark) (past : List Line) (side new : Side) → p < 2 → is_link world p ≡ true → side_of past p ≡ side → MarksRest world past p marks → AnswersMarks world past p marks →
+    RowsAlong world.queue (is_link world (1 - p)) (side_of past (1 - p)) side (map Marked marks) new → EachLine (Fine world) past → Went world p past (reverse (map (mark_line p) marks) ++ past) marks new
+marks_went world p [] past side new below honest is rests answered along fine = record { memory = refl; here = is ∙ sym along; beside = refl; reads_here = refl; reads_beside = refl; settled = answered; fine = fine }
+marks_went world p (mark ∷ marks) past side new below honest is rests answered along fine =
+    let first = mark_line p mark in
+    let row : Row world.queue true (is_link world (1 - p)) (side_of past p) (side_of past (1 - p)) (Marked mark) along.0 =
+    subst (λ (x : Side). Row world.queue true (is_link world (1 - p)) x (side_of past (1 - p)) (Marked mark) along.0) (sym is) along.1 in
+    let one = one_told world past first p (Marked mark) along.0 below honest (mark_tells p mark) row rests.0 answered in
+    let rest = marks_went world p marks (first ∷ past) along.0 new below honest one.here rests.1 (settled_marks world (first ∷ past) p marks (mark_settled world past p mark))
+    (subst (λ (x : Side). RowsAlong world.queue (is_link world (1 - p)) x along.0 (map Marked marks) new) (sym one.beside) along.2) (one.fine, fine) in
+    subst (λ (new_lines : List Line). Went world p past new_lines (mark ∷ marks) new) (sym (first_after first (map (mark_line p) marks) past)) record {
+      memory = rest.memory ∙ memory_after first past (mark_apart p mark);
+      here = rest.here;
+      beside = rest.beside ∙ one.beside;
+      reads_here = rest.reads_here ∙ (ap (reads_marked marks) (broken_here first past p (mark_breaks p mark)) ∙ marked_none marks);
+      reads_beside = rest.reads_beside ∙ broken_beside first past p below (mark_breaks p mark);
+      settled = rest.settled;
+      fine = rest.fine;
+    }
+
+-- the lines of the devices and the marks: where the marks answer the line before, there are none of the devices
+abbrev Begins : World → List Line → ℕ → List Line → List Mark → Type 0
+Begins world past p device marks = Settled world past ⊎ ((device ≡ []) × AnswersMarks world past p marks)
+
+begun : (world : World) (p : ℕ) (device : List Line) (marks : List Mark) (past : List Line) → AllByRecursion IsQuiet device → Begins world past p device marks → EachLine (Fine world) past →
+    EachLine (Fine world) (reverse device ++ past) × AnswersMarks world (reverse device ++ past) p marks
+begun world p device marks past quiet (inl settled) fine = let a = quiet_lines world device past quiet in (a.fine settled fine, settled_marks world (reverse device ++ past) p marks (a.settled settled))
+begun world p device marks past quiet (inr b) fine = subst (λ (d : List Line). EachLine (Fine world) (reverse d ++ past) × AnswersMarks world (reverse d ++ past) p marks) (sym b.0) (fine, b.1)
+
+tail_went : (world : World) (p : ℕ) (device : List Line) (marks : List Mark) (past : List Line) (side new : Side) → p < 2 → is_link world p ≡ true → AllByRecursion IsQuiet device → side_of past p ≡ side → MarksRest world (reverse device ++ past) p marks → Begins world past p device marks →
+    RowsAlong world.queue (is_link world (1 - p)) (side_of past (1 - p)) side (map Marked marks) new → EachLine (Fine world) past → Went world p past (reverse (device ++ map (mark_line p) marks) ++ past) marks new
+tail_went world p device marks past side new below honest quiet is rests begins along fine =
+    let a = quiet_lines world device past quiet in
+    let mid = reverse device ++ past in
+    let b = begun world p device marks past quiet begins fine in
+    let rest = marks_went world p marks mid side new below honest (ap (λ (x : ℕ → Side). x p) a.sides ∙ is) rests b.1
+    (subst (λ (x : ℕ → Side). RowsAlong world.queue (is_link world (1 - p)) (x (1 - p)) side (map Marked marks) new) (sym a.sides) along) b.0 in
+    let lines : reverse (device ++ map (mark_line p) marks) ++ past ≡ reverse (map (mark_line p) marks) ++ mid =
+    ap (λ r. r ++ past) (reverse-append device (map (mark_line p) marks)) ∙ append_assoc (reverse (map (mark_line p) marks)) (reverse device) past in
+    subst (λ (new_lines : List Line). Went world p past new_lines marks new) (sym lines) record {
+      memory = rest.memory ∙ a.memory;
+      here = rest.here;
+      beside = rest.beside ∙ ap (λ (x : ℕ → Side). x (1 - p)) a.sides;
+      reads_here = rest.reads_here ∙ ap (λ (x : ℕ → List Got). reads_marked marks (x p)) a.reads;
+      reads_beside = rest.reads_beside ∙ ap (λ (x : ℕ → List Got). x (1 - p)) a.reads;
+      settled = rest.settled;
+      fine = rest.fine;
+    }
+
+-- After the lines of a step
+
+pub record StepWent (world : World) (p : ℕ) (past : List Line) (a : Access) (value : ℕ) (marks : List Mark) (after : List Line) (new : Side) : Type 0 where
+  pub left : Leaves p (last_write past) a (last_write after)
+  pub here : side_of after p ≡ new
+  pub beside : side_of after (1 - p) ≡ side_of past (1 - p)
+  pub reads_here : reads_of after p ≡ reads_marked marks (reads_taken a value (reads_of past p))
+  pub reads_beside : reads_of after (1 - p) ≡ reads_of past (1 - p)
+  pub settled : Settled world after
+  pub fine : EachLine (Fine world) after
+
+-- a State access of an honest side that refused is of 0
+abbrev pub RestsAt : World → List Line → ℕ → Access → Type 0
+RestsAt world past p (access.Read word) = Unit {0}
+RestsAt world past p (access.Write word written) = Unit {0}
+RestsAt world past p (access.State state) = Rests world past (Tells p (Wrote state))
+RestsAt world past p (access.Ring target vector) = Unit {0}
+RestsAt world past p access.Nothing = Unit {0}
+
+pub stored_at : (word value : ℕ) (memory : ℕ → ℕ) (w : ℕ) → w ≢ word → (if word == w then value else memory w) ≡ memory w
+stored_at word value memory w ne = there_is word w value (memory w) (λ e. ne (sym e))
+
+-- the line of the access
+abbrev pub after_access : ℕ → Access → ℕ → List Line → List Line
+after_access p (access.Read word) value past = line.Read p word value ∷ past
+after_access p (access.Write word written) value past = line.Write p word written ∷ past
+after_access p (access.State state) value past = line.State p state ∷ past
+after_access p (access.Ring target vector) value past = line.Doorbell p target vector ∷ past
+after_access p access.Nothing value past = past
+
+-- a read brings no lines of the devices, and its marks answer it
+abbrev pub ReadsAlone : World → ℕ → Access → ℕ → List Line → List Mark → List Line → Type 0
+ReadsAlone world p (access.Read word) value device marks past = (device ≡ []) × AnswersMarks world (line.Read p word value ∷ past) p marks
+ReadsAlone world p (access.Write word written) value device marks past = Unit {0}
+ReadsAlone world p (access.State state) value device marks past = Unit {0}
+ReadsAlone world p (access.Ring target vector) value device marks past = Unit {0}
+ReadsAlone world p access.Nothing value device marks past = Unit {0}
+
+pub step_went : (world : World) (p : ℕ) (a : Access) (value : ℕ) (device : List Line) (marks : List Mark) (past : List Line) (new : Side) → p < 2 → is_link world p ≡ true → AllByRecursion IsQuiet device →
+    RowsAlong world.queue (is_link world (1 - p)) (side_of past (1 - p)) (side_of past p) (told_of a ++ map Marked marks) new → RestsAt world past p a → MarksRest world (reverse device ++ after_access p a value past) p marks → ReadsAlone world p a value device marks past → Settled world past → EachLine (Fine world) past →
+    StepWent world p past a value marks (reverse (step_lines p (step_of a value marks) device) ++ past) new
+step_went world p (access.Read word) value device marks past new below honest quiet along rests marks_rest alone settled fine =
+    let first = line.Read p word value in
+    let rest = tail_went world p device marks (first ∷ past) (side_of past p) new below honest quiet refl marks_rest (inr alone) along ((tt, tt, answers world past first settled), fine) in
+    subst (λ (after : List Line). StepWent world p past (access.Read word) value marks after new) (sym (first_after first (device ++ map (mark_line p) marks) past)) record {
+      left = rest.memory;
+      here = rest.here;
+      beside = rest.beside;
+      reads_here = rest.reads_here ∙ ap (reads_marked marks) (here_is p (reads_of past p ++ got word value ∷ []) (reads_of past p));
+      reads_beside = rest.reads_beside ∙ there_is p (1 - p) (reads_of past (1 - p) ++ got word value ∷ []) (reads_of past (1 - p)) (other_of p below);
+      settled = rest.settled;
+      fine = rest.fine;
+    }
+step_went world p (access.Write word written) value device marks past new below honest quiet along rests marks_rest alone settled fine =
+    let first = line.Write p word written in
+    let rest = tail_went world p device marks (first ∷ past) (side_of past p) new below honest quiet refl marks_rest (inl tt) along ((tt, tt, answers world past first settled), fine) in
+    subst (λ (after : List Line). StepWent world p past (access.Write word written) value marks after new) (sym (first_after first (device ++ map (mark_line p) marks) past)) record {
+      left = record {
+        here = ap (λ (m : ℕ → ℕ). m word) rest.memory ∙ here_is word written (last_write past word);
+        beside = λ w ne. ap (λ (m : ℕ → ℕ). m w) rest.memory ∙ stored_at word written (last_write past) w ne;
+      };
+      here = rest.here;
+      beside = rest.beside;
+      reads_here = rest.reads_here ∙ ap (reads_marked marks) (broken_here first past p refl);
+      reads_beside = rest.reads_beside ∙ broken_beside first past p below refl;
+      settled = rest.settled;
+      fine = rest.fine;
+    }
+step_went world p (access.State state) value device marks past new below honest quiet along rests marks_rest alone settled fine =
+    let first = line.State p state in
+    let one = one_told world past first p (Wrote state) along.0 below honest refl along.1 rests (answers world past first settled) in
+    let rest = tail_went world p device marks (first ∷ past) along.0 new below honest quiet one.here marks_rest (inl tt)
+    (subst (λ (x : Side). RowsAlong world.queue (is_link world (1 - p)) x along.0 (map Marked marks) new) (sym one.beside) along.2) (one.fine, fine) in
+    subst (λ (after : List Line). StepWent world p past (access.State state) value marks after new) (sym (first_after first (device ++ map (mark_line p) marks) past)) record {
+      left = record {
+        here = ap (λ (m : ℕ → ℕ). m p) rest.memory ∙ here_is p state (last_write past p);
+        beside = λ w ne. ap (λ (m : ℕ → ℕ). m w) rest.memory ∙ stored_at p state (last_write past) w ne;
+      };
+      here = rest.here;
+      beside = rest.beside ∙ one.beside;
+      reads_here = rest.reads_here ∙ ap (reads_marked marks) (broken_here first past p refl);
+      reads_beside = rest.reads_beside ∙ broken_beside first past p below refl;
+      settled = rest.settled;
+      fine = rest.fine;
+    }
+step_went world p (access.Ring target vector) value device marks past new below honest quiet along rests marks_rest alone settled fine =
+    let first = line.Doorbell p target vector in
+    let rest = tail_went world p device marks (first ∷ past) (side_of past p) new below honest quiet refl marks_rest (inl tt) along ((tt, tt, answers world past first settled), fine) in
+    subst (λ (after : List Line). StepWent world p past (access.Ring target vector) value marks after new) (sym (first_after first (device ++ map (mark_line p) marks) past))
+    record { left = rest.memory; here = rest.here; beside = rest.beside; reads_here = rest.reads_here; reads_beside = rest.reads_beside; settled = rest.settled; fine = rest.fine }
+step_went world p access.Nothing value device marks past new below honest quiet along rests marks_rest alone settled fine =
+    let rest = tail_went world p device marks past (side_of past p) new below honest quiet refl marks_rest (inl settled) along fine in
+    record { left = rest.memory; here = rest.here; beside = rest.beside; reads_here = rest.reads_here; reads_beside = rest.reads_beside; settled = rest.settled; fine = rest.fine }

@@ -1,0 +1,164 @@
+-- What a peer may have before it: an honest link peer calls that may be given, any other peer none.
+use Rattle.std.proofs.Common.{◌≡◌, ℕ, Bool, true, false, List, [], ◌∷◌, ◌++◌, refl, sym, ◌∙◌}
+use Rattle.std.specs.Prelude.{drop, nat_le, if◌then◌else◌}
+use Rattle.std.specs.List.{AllByRecursion}
+use Rattle.link_handshake.specs.declared.Phase.{Phase}
+use Rattle.link_handshake.specs.declared.Phase.TheVariants.{Reset, Init, Ready, Run}
+use Rattle.scenario_text.specs.Scenario.{World, is_link}
+use Rattle.call_grammar.specs.Steps.{Mark, Saw, Reclaim, Full, Accept, Look, Deliver, Return, Done, Down, Refuse, Over}
+use Rattle.call_grammar.specs.Trees.{CallTree, Ended, Does, Reads}
+use Rattle.call_grammar.specs.Calls.{Who, Call, Tick, Stop, Offer, Poll}
+use Rattle.call_grammar.specs.Automatic.{Round, Anew, AfterOffer, AfterPoll, Choice, ChoosesTick, ChoosesOffer, ChoosesPoll, IsFinished, in_phase, choice_of}
+use Rattle.pair_calls.specs.Ground.{IsOffered, AreOffered}
+use Rattle.pair_calls.specs.Laws.{IsGivenTo}
+use Rattle.lawful_history.specs.declared.line.Line.{Line}
+use Rattle.lawful_history.specs.Schedule.{Event, Asked, Automated, Stormed, Turned, Acted, WasReset, Reached, Loses, Repeated, event_peer}
+use Rattle.lawful_history.specs.Memory.{last_write}
+use Rattle.lawful_history.specs.Sides.{who_of}
+use Rattle.lawful_history.specs.Peers.{Auto, Driver, Waits, Chooses, Storms, Peer, at_start, asked_by, cut, with_choice, chosen, opened_by, opened, counted, counted_all, driver_after}
+use Rattle.lawful_history.specs.History.{driven, moved_by, peer_in}
+use Rattle.history_laws.proofs.Proper.{ground_of, IsProper}
+
+-- an honest peer isn't a storm, and no other is automatic; the frames of an automatic peer may be offered
+abbrev pub DriverSuits : World → Bool → Driver → Type 0
+DriverSuits world honest Waits = Unit {0}
+DriverSuits world honest (Chooses auto) = (honest ≡ true) × AreOffered (ground_of world) auto.frames
+DriverSuits world honest (Storms x) = honest ≡ false
+
+pub record Suits (world : World) (honest : Bool) (peer : Peer) : Type 0 where
+  pub waiting : AllByRecursion (IsGivenTo (ground_of world)) peer.waiting
+  pub driver : DriverSuits world honest peer.driver
+  pub idle : honest ≡ false → (peer.left ≡ Ended) × (peer.waiting ≡ [])
+
+never : {A : Type 0} → (b : Bool) → b ≡ true → b ≡ false → A
+never b is_one is_none = let f : true ≡ false = sym is_one ∙ is_none in absurd (cc)
+
+-- The choice of an automatic peer
+
+abbrev pub ChoiceSuits : World → Choice → Type 0
+ChoiceSuits world ChoosesTick = Unit {0}
+ChoiceSuits world (ChoosesOffer frame) = IsOffered (ground_of world) frame
+ChoiceSuits world ChoosesPoll = Unit {0}
+ChoiceSuits world IsFinished = Unit {0}
+
+phase_suits : (world : World) (phase : Phase) (round : Round) (frames : List (List ℕ)) → AreOffered (ground_of world) frames → ChoiceSuits world (in_phase phase round frames)
+phase_suits world Reset round frames given = tt
+phase_suits world Init round frames given = tt
+phase_suits world Ready round frames given = tt
+phase_suits world Run Anew [] given = tt
+phase_suits world Run Anew (frame ∷ frames) given = given.0
+phase_suits world Run AfterOffer frames given = tt
+phase_suits world Run AfterPoll frames given = tt
+
+finished_suits : (world : World) (b : Bool) (choice : Choice) → ChoiceSuits world choice → ChoiceSuits world (if b then IsFinished else choice)
+finished_suits world true choice suits = tt
+finished_suits world false choice suits = suits
+
+pub choice_suits : (world : World) (phase : Phase) (round : Round) (frames : List (List ℕ)) (delivered expected : ℕ) → AreOffered (ground_of world) frames → ChoiceSuits world (choice_of phase round frames delivered expected)
+choice_suits world phase round [] delivered expected given = finished_suits world (nat_le expected delivered) _ (phase_suits world phase round [] given)
+choice_suits world phase round (frame ∷ frames) delivered expected given = phase_suits world phase round (frame ∷ frames) given
+
+-- A peer is opened
+
+with_choice_suits : (world : World) (who : Who) (peer : Peer) (honest : Bool) (auto : Auto) (choice : Choice) → honest ≡ true → AreOffered (ground_of world) auto.frames → Suits world honest peer → Suits world honest (with_choice who peer auto choice)
+with_choice_suits world who peer honest auto ChoosesTick is_one given s = record { waiting = s.waiting; driver = (is_one, given); idle = never honest is_one }
+with_choice_suits world who peer honest auto (ChoosesOffer frame) is_one given s = record { waiting = s.waiting; driver = (is_one, given); idle = never honest is_one }
+with_choice_suits world who peer honest auto ChoosesPoll is_one given s = record { waiting = s.waiting; driver = (is_one, given); idle = never honest is_one }
+with_choice_suits world who peer honest auto IsFinished is_one given s = s
+
+chosen_suits : (world : World) (who : Who) (peer : Peer) (honest : Bool) (driver : Driver) → DriverSuits world honest driver → Suits world honest peer → Suits world honest (chosen who peer driver)
+chosen_suits world who peer honest Waits given s = s
+chosen_suits world who peer honest (Chooses auto) given s = with_choice_suits world who peer honest auto (choice_of peer.end.handshake.phase auto.round auto.frames auto.delivered auto.expected) given.0 given.1 s
+chosen_suits world who peer honest (Storms x) given s = s
+
+opened_by_suits : (world : World) (who : Who) (peer : Peer) (honest : Bool) (tree : CallTree) (waiting : List Call) → waiting ≡ peer.waiting → AllByRecursion (IsGivenTo (ground_of world)) waiting → Suits world honest peer → Suits world honest (opened_by who peer tree waiting)
+opened_by_suits world who peer honest Ended [] is given s = chosen_suits world who peer honest peer.driver s.driver s
+opened_by_suits world who peer honest Ended (call ∷ waiting) is given s = record { waiting = given.1; driver = s.driver; idle = λ is_none. let none = is ∙ (s.idle is_none).1 in absurd (cc) }
+opened_by_suits world who peer honest (Does a marks rest) waiting is given s = s
+opened_by_suits world who peer honest (Reads word marks rest) waiting is given s = s
+
+pub opened_suits : (world : World) (who : Who) (peer : Peer) (honest : Bool) → Suits world honest peer → Suits world honest (opened who peer)
+opened_suits world who peer honest s = opened_by_suits world who peer honest peer.left peer.waiting refl s.waiting s
+
+-- It moves
+
+tail_offered : (world : World) (frames : List (List ℕ)) → AreOffered (ground_of world) frames → AreOffered (ground_of world) (drop 1 frames)
+tail_offered world [] given = tt
+tail_offered world (frame ∷ frames) given = given.1
+
+counted_offered : (world : World) (auto : Auto) (marks : List Mark) → AreOffered (ground_of world) auto.frames → AreOffered (ground_of world) (counted_all auto marks).frames
+counted_offered world auto [] given = given
+counted_offered world auto (Saw value ∷ marks) given = counted_offered world auto marks given
+counted_offered world auto (Reclaim count ∷ marks) given = counted_offered world auto marks given
+counted_offered world auto (Full ∷ marks) given = counted_offered world auto marks given
+counted_offered world auto (Accept frame ∷ marks) given = counted_offered world (counted auto (Accept frame)) marks (tail_offered world auto.frames given)
+counted_offered world auto (Look count ∷ marks) given = counted_offered world auto marks given
+counted_offered world auto (Deliver frame ∷ marks) given = counted_offered world (counted auto (Deliver frame)) marks given
+counted_offered world auto (Return ∷ marks) given = counted_offered world auto marks given
+counted_offered world auto (Done ∷ marks) given = counted_offered world auto marks given
+counted_offered world auto (Down ∷ marks) given = counted_offered world auto marks given
+counted_offered world auto (Refuse refused ∷ marks) given = counted_offered world auto marks given
+counted_offered world auto (Over ∷ marks) given = counted_offered world auto marks given
+
+driver_suits : (world : World) (honest : Bool) (driver : Driver) (marks : List Mark) → DriverSuits world honest driver → DriverSuits world honest (driver_after driver marks)
+driver_suits world honest Waits marks given = tt
+driver_suits world honest (Chooses auto) marks given = (given.0, counted_offered world auto marks given.1)
+driver_suits world honest (Storms x) marks given = given
+
+driven_suits : (world : World) (honest : Bool) (peer : Peer) (driver : Driver) → DriverSuits world honest driver → Suits world honest peer → Suits world honest (driven peer driver)
+driven_suits world honest peer Waits given s = s
+driven_suits world honest peer (Chooses auto) given s = s
+driven_suits world honest peer (Storms x) given s = record { waiting = s.waiting; driver = given; idle = s.idle }
+
+moved_suits : (world : World) (honest : Bool) (peer : Peer) (tree : CallTree) (past : List Line) → tree ≡ peer.left → Suits world honest peer → Suits world honest (moved_by peer tree past)
+moved_suits world honest peer Ended past is s = driven_suits world honest peer peer.driver s.driver s
+moved_suits world honest peer (Does a marks rest) past is s = record { waiting = s.waiting; driver = driver_suits world honest peer.driver marks s.driver; idle = λ is_none. let none = is ∙ (s.idle is_none).0 in absurd (cc) }
+moved_suits world honest peer (Reads word marks rest) past is s = record { waiting = s.waiting; driver = driver_suits world honest peer.driver (marks (last_write past word)) s.driver; idle = λ is_none. let none = is ∙ (s.idle is_none).0 in absurd (cc) }
+
+-- It is asked, or reset
+
+waiting_given : (P : Call → Type 0) (waiting : List Call) (call : Call) → AllByRecursion P waiting → P call → AllByRecursion P (waiting ++ call ∷ [])
+waiting_given P [] call given this = (this, tt)
+waiting_given P (other ∷ waiting) call given this = (given.0, waiting_given P waiting call given.1 this)
+
+frames_offered : (world : World) (frames : List (List ℕ)) (frame : List ℕ) → AreOffered (ground_of world) frames → IsOffered (ground_of world) frame → AreOffered (ground_of world) (frames ++ frame ∷ [])
+frames_offered world [] frame given this = (this, tt)
+frames_offered world (other ∷ frames) frame given this = (given.0, frames_offered world frames frame given.1 this)
+
+queued_suits : (world : World) (honest : Bool) (peer : Peer) (call : Call) → honest ≡ true → IsGivenTo (ground_of world) call → Suits world honest peer → Suits world honest (record peer { waiting = peer.waiting ++ call ∷ [] })
+queued_suits world honest peer call is_one this s = record { waiting = waiting_given (IsGivenTo (ground_of world)) peer.waiting call s.waiting this; driver = s.driver; idle = never honest is_one }
+
+asked_suits : (world : World) (honest : Bool) (peer : Peer) (driver : Driver) (call : Call) → honest ≡ true → DriverSuits world honest driver → IsGivenTo (ground_of world) call → Suits world honest peer → Suits world honest (asked_by peer driver call)
+asked_suits world honest peer (Chooses auto) (Offer frame) is_one given this s = record { waiting = s.waiting; driver = (is_one, frames_offered world auto.frames frame given.1 this); idle = never honest is_one }
+asked_suits world honest peer (Chooses auto) Tick is_one given this s = queued_suits world honest peer Tick is_one this s
+asked_suits world honest peer (Chooses auto) Stop is_one given this s = queued_suits world honest peer Stop is_one this s
+asked_suits world honest peer (Chooses auto) Poll is_one given this s = queued_suits world honest peer Poll is_one this s
+asked_suits world honest peer Waits Tick is_one given this s = queued_suits world honest peer Tick is_one this s
+asked_suits world honest peer Waits Stop is_one given this s = queued_suits world honest peer Stop is_one this s
+asked_suits world honest peer Waits (Offer frame) is_one given this s = queued_suits world honest peer (Offer frame) is_one this s
+asked_suits world honest peer Waits Poll is_one given this s = queued_suits world honest peer Poll is_one this s
+asked_suits world honest peer (Storms x) Tick is_one given this s = queued_suits world honest peer Tick is_one this s
+asked_suits world honest peer (Storms x) Stop is_one given this s = queued_suits world honest peer Stop is_one this s
+asked_suits world honest peer (Storms x) (Offer frame) is_one given this s = queued_suits world honest peer (Offer frame) is_one this s
+asked_suits world honest peer (Storms x) Poll is_one given this s = queued_suits world honest peer Poll is_one this s
+
+cut_suits : (world : World) (honest : Bool) (driver : Driver) → DriverSuits world honest driver → DriverSuits world honest (cut driver)
+cut_suits world honest Waits given = tt
+cut_suits world honest (Chooses auto) given = given
+cut_suits world honest (Storms x) given = given
+
+-- after each event its peer suits
+pub event_suits : (world : World) (peer : Peer) (past : List Line) (event : Event) → IsProper world event → Suits world (is_link world (event_peer event)) peer → Suits world (is_link world (event_peer event)) (peer_in world peer past event)
+event_suits world peer past (Asked p call) proper s = asked_suits world (is_link world p) peer peer.driver call proper.0 s.driver proper.1 s
+event_suits world peer past (Automated p expected) proper s = record { waiting = s.waiting; driver = (proper, tt); idle = s.idle }
+event_suits world peer past (Stormed p seed) proper s = record { waiting = s.waiting; driver = proper; idle = s.idle }
+event_suits world peer past (Turned p) proper s =
+    let o = opened_suits world (who_of world p) peer (is_link world p) s in moved_suits world (is_link world p) (opened (who_of world p) peer) (opened (who_of world p) peer).left past refl o
+event_suits world peer past (Acted p a) proper s = s
+event_suits world peer past (WasReset p) proper s = record { waiting = tt; driver = cut_suits world (is_link world p) peer.driver s.driver; idle = λ is_none. (refl, refl) }
+event_suits world peer past (Reached p a) proper s = s
+event_suits world peer past (Loses p) proper s = s
+event_suits world peer past (Repeated p vector) proper s = s
+
+pub starts_suit : (world : World) (honest : Bool) → Suits world honest at_start
+starts_suit world honest = record { waiting = tt; driver = tt; idle = λ is_none. (refl, refl) }

@@ -1,0 +1,5 @@
+use Rattle.history_laws.proofs.Polling.{polls_lem}
+use Rattle.history_laws.proofs.done_polls_deliver_all.Goals as goal
+
+pub returns : goal.returns
+returns c = polls_lem

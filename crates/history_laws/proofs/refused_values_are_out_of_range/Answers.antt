@@ -1,0 +1,5 @@
+use Rattle.history_laws.proofs.Refusing.{refusal_lem}
+use Rattle.history_laws.proofs.refused_values_are_out_of_range.Goals as goal
+
+pub returns : goal.returns
+returns c = refusal_lem

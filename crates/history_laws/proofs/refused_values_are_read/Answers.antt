@@ -1,0 +1,5 @@
+use Rattle.history_laws.proofs.AtMarks.{refused_lem}
+use Rattle.history_laws.proofs.refused_values_are_read.Goals as goal
+
+pub returns : goal.returns
+returns c = refused_lem

@@ -1,0 +1,75 @@
+//! What holds of every lawful history of a scenario. It stands on `lawful_history` for the histories and on `pair_calls` for what two ends
+//! keep. It holds no code: each law is the contract of a function that does nothing.
+#![tactic(auto)]
+
+ghost use Rattle.history_laws.specs.Devices.{DeviceActsChangeNothing};
+ghost use Rattle.history_laws.specs.Polls.{DonePollsDeliverAll};
+ghost use Rattle.history_laws.specs.Reads.{DeliveredFramesAreRead, OutOfRangeIsRefused, RefusedValuesAreRead};
+ghost use Rattle.history_laws.specs.Refusals.{HonestPeersNeverRefuse, RefusedPeersRest, RefusesOutOfRange};
+ghost use Rattle.history_laws.specs.Rows.{HistoriesRunTheMachine};
+ghost use Rattle.history_laws.specs.Sessions.{HistoriesDeliver};
+ghost use Rattle.history_laws.specs.Spelled.{HistoriesSpellAccepted};
+
+use lawful_history::{history_is_lawful, one_history};
+
+#[cfg(test)]
+mod tests;
+
+/// Each line of a link peer that tells the link machine something has its row: a write of its state, a mark, or its reset.
+pub fn histories_run_the_machine()
+    ensures { HistoriesRunTheMachine }
+{}
+
+/// Where both link peers are honest, none refuses.
+pub fn honest_peers_never_refuse()
+    ensures { HonestPeersNeverRefuse }
+{}
+
+/// A value is refused by an honest peer against a hostile one alone, and it is outside the range of its field.
+pub fn refused_values_are_out_of_range()
+    ensures { RefusesOutOfRange }
+{}
+
+/// A peer that refused sets no state but 0 until its device is reset.
+pub fn refused_peers_rest()
+    ensures { RefusedPeersRest }
+{}
+
+/// Between a look and the end of its poll as many frames are delivered as the look found.
+pub fn done_polls_deliver_all()
+    ensures { DonePollsDeliverAll }
+{}
+
+/// Between honest peers each has delivered, at each moment, what the other accepted: in each session a beginning of what was accepted
+/// in the session that it carries, each frame once and in order, through stops and resets.
+pub fn histories_deliver()
+    ensures { HistoriesDeliver }
+{}
+
+/// Where a frame is accepted the section of its peer spells it, whatever the other side writes.
+pub fn accepted_frames_stand_in_the_section()
+    ensures { HistoriesSpellAccepted }
+{}
+
+/// A delivered frame is the one that was read for its item: each field once, in its order and in range.
+pub fn delivered_frames_are_read()
+    ensures { DeliveredFramesAreRead }
+{}
+
+/// A refused value stands in what its peer read last, in the field by whose name it is refused, and is outside that field's range.
+pub fn refused_values_are_read()
+    ensures { RefusedValuesAreRead }
+{}
+
+/// Each value that an honest peer reads outside its field's range is refused at once, by the name of the field.
+pub fn values_out_of_range_are_refused()
+    ensures { OutOfRangeIsRefused }
+{}
+
+/// Where two schedules differ in what devices alone are asked, lose or repeat, the histories differ in lines of devices alone.
+pub fn device_acts_change_nothing()
+    ensures { DeviceActsChangeNothing }
+{
+    one_history();
+    history_is_lawful();
+}

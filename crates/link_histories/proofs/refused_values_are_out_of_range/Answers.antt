@@ -1,5 +1,0 @@
-use Rattle.link_histories.proofs.Refusing.{refusal_lem}
-use Rattle.link_histories.proofs.refused_values_are_out_of_range.Goals as goal
-
-pub returns : goal.returns
-returns c = refusal_lem

@@ -1,5 +1,0 @@
-use Rattle.link_histories.proofs.AtMarks.{answered_lem}
-use Rattle.link_histories.proofs.values_out_of_range_are_refused.Goals as goal
-
-pub returns : goal.returns
-returns c = answered_lem

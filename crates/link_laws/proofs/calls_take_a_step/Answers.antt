@@ -1,5 +1,0 @@
-use Rattle.link_laws.proofs.Lists.{takes_a_step}
-use Rattle.link_laws.proofs.calls_take_a_step.Goals as goal
-
-pub returns : goal.returns
-returns c = takes_a_step

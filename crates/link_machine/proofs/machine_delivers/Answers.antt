@@ -1,0 +1,5 @@
+use Rattle.link_machine.proofs.MachineLaws.{machine}
+use Rattle.link_machine.proofs.machine_delivers.Goals as goal
+
+pub returns : goal.returns
+returns c = machine

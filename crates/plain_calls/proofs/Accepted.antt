@@ -1,0 +1,151 @@
+-- The worked lists are calls.
+use Rattle.std.proofs.Common.{[], ◌∷◌, ◌++◌, refl}
+use Rattle.std.specs.Prelude.{replicate}
+use Rattle.link_handshake.specs.declared.Phase.TheVariants.{Reset, Init, Ready, Run}
+use Rattle.split_ring.specs.declared.steps.Access.TheVariants.{Nothing}
+use Rattle.split_ring.specs.Layout.{queue_size, limit_of}
+use Rattle.call_grammar.specs.Steps.{Saw, Look, Done, Down, Over, step_of}
+use Rattle.call_grammar.specs.Trees.{CallTree, GoesAlong}
+use Rattle.call_grammar.specs.Calls.{Tick, Stop, Offer, Poll, tree_of, IsCall}
+use Rattle.call_grammar.proofs.Cuts.{cuts}
+use Rattle.call_grammar.proofs.Lists.{lists}
+use Rattle.plain_calls.specs.WorkedCalls.{peer_0, peer_1, small_peer_0, end_at, end_full, frame, r, w, s, to_init, to_ready, to_run, offer_begun, offer_ended, item_read, item_returned, full_offer, offer_46, index_refused, entry_refused, address_refused, length_refused, flags_refused, id_refused, used_refused, RowsAreCalls}
+use Rattle.call_grammar.proofs.Playing.{playing}
+
+shortest_handshake_init_is : IsCall peer_0 (end_at Reset []) Tick to_init
+unfolding queue_size limit_of
+shortest_handshake_init_is = playing.call peer_0 (end_at Reset []) Tick to_init (refl, refl, (refl, refl, refl))
+
+shortest_handshake_ready_is : IsCall small_peer_0 (end_at Init []) Tick to_ready
+unfolding queue_size limit_of
+shortest_handshake_ready_is = playing.call small_peer_0 (end_at Init []) Tick to_ready (refl, refl, (refl, refl, (refl, refl, (refl, refl, (refl, refl, refl)))))
+
+shortest_handshake_run_is : IsCall peer_0 (end_at Ready []) Tick to_run
+unfolding queue_size limit_of
+shortest_handshake_run_is = playing.call peer_0 (end_at Ready []) Tick to_run (refl, refl, (refl, refl, refl))
+
+one_frame_offered_is : IsCall peer_0 (end_at Run []) (Offer frame) (offer_begun ++ offer_ended)
+unfolding queue_size limit_of
+one_frame_offered_is = playing.call peer_0 (end_at Run []) (Offer frame) (offer_begun ++ offer_ended) (refl, refl, (refl, refl, (refl, refl, (refl, refl, (refl, refl, (refl, refl, (refl, refl, (refl, refl, (refl, refl, (refl, refl, (refl, refl, (refl, refl, refl))))))))))))
+
+one_frame_polled_is : IsCall peer_1 (end_at Run []) Poll (item_read ++ item_returned)
+unfolding queue_size limit_of
+one_frame_polled_is = playing.call peer_1 (end_at Run []) Poll (item_read ++ item_returned) (refl, refl, (refl, refl, (refl, refl, (refl, refl, (refl, refl, (refl, refl, (refl, refl, (refl, refl, (refl, refl, (refl, refl, (refl, refl, (refl, refl, (refl, refl, (refl, refl, refl))))))))))))))
+
+full_ring_is : IsCall peer_0 (end_at Run (replicate 45 frame)) (Offer frame) full_offer
+unfolding queue_size limit_of
+full_ring_is = playing.call peer_0 (end_at Run (replicate 45 frame)) (Offer frame) full_offer (refl, refl, refl)
+
+full_ring_returned_is : IsCall peer_0 end_full (Offer frame) (offer_46 44)
+unfolding queue_size limit_of
+full_ring_returned_is = playing.call peer_0 end_full (Offer frame) (offer_46 44) (refl, refl, (refl, refl, (refl, refl, (refl, refl, (refl, refl, (refl, refl, (refl, refl, (refl, refl, (refl, refl, (refl, refl, (refl, refl, (refl, refl, (refl, refl, (refl, refl, (refl, refl, (refl, refl, (refl, refl, (refl, refl, (refl, refl, (refl, refl, (refl, refl, (refl, refl, (refl, refl, (refl, refl, (refl, refl, (refl, refl, (refl, refl, (refl, refl, (refl, refl, (refl, refl, (refl, refl, (refl, refl, (refl, refl, (refl, refl, (refl, refl, (refl, refl, (refl, refl, (refl, refl, (refl, refl, (refl, refl, (refl, refl, (refl, refl, (refl, refl, (refl, refl, (refl, refl, (refl, refl, (refl, refl, (refl, refl, (refl, refl, (refl, refl, (refl, refl, (refl, refl, (refl, refl, (refl, refl, (refl, refl, (refl, refl, (refl, refl, refl)))))))))))))))))))))))))))))))))))))))))))))))))))))))))
+
+nothing_published_is : IsCall peer_1 (end_at Run []) Poll (r 1280 0 (Look 0 ∷ Done ∷ []) ∷ [])
+unfolding queue_size limit_of
+nothing_published_is = playing.call peer_1 (end_at Run []) Poll (r 1280 0 (Look 0 ∷ Done ∷ []) ∷ []) (refl, refl, refl)
+
+state_seven_stays_is : IsCall peer_0 (end_at Reset []) Tick (r 1 7 (Saw 7 ∷ Over ∷ []) ∷ [])
+unfolding queue_size limit_of
+state_seven_stays_is = playing.call peer_0 (end_at Reset []) Tick (r 1 7 (Saw 7 ∷ Over ∷ []) ∷ []) (refl, refl, refl)
+
+state_seven_clears_is : IsCall small_peer_0 (end_at Init []) Tick (r 1 7 (Saw 7 ∷ []) ∷ w 1024 0 [] ∷ w 1025 0 [] ∷ w 1026 0 [] ∷ s 2 (Over ∷ []) ∷ [])
+unfolding queue_size limit_of
+state_seven_clears_is = playing.call small_peer_0 (end_at Init []) Tick (r 1 7 (Saw 7 ∷ []) ∷ w 1024 0 [] ∷ w 1025 0 [] ∷ w 1026 0 [] ∷ s 2 (Over ∷ []) ∷ []) (refl, refl, (refl, refl, (refl, refl, (refl, refl, (refl, refl, refl)))))
+
+state_seven_runs_is : IsCall peer_0 (end_at Ready []) Tick (r 1 7 (Saw 7 ∷ []) ∷ s 3 (Over ∷ []) ∷ [])
+unfolding queue_size limit_of
+state_seven_runs_is = playing.call peer_0 (end_at Ready []) Tick (r 1 7 (Saw 7 ∷ []) ∷ s 3 (Over ∷ []) ∷ []) (refl, refl, (refl, refl, refl))
+
+index_bound_is : IsCall peer_0 (end_at Run []) Poll index_refused
+unfolding queue_size limit_of
+index_bound_is = playing.call peer_0 (end_at Run []) Poll index_refused (refl, refl, (refl, refl, refl))
+
+each_descriptor_entry_is : IsCall peer_0 (end_at Run []) Poll entry_refused
+unfolding queue_size limit_of
+each_descriptor_entry_is = playing.call peer_0 (end_at Run []) Poll entry_refused (refl, refl, (refl, refl, (refl, refl, refl)))
+
+each_descriptor_address_below_is : IsCall peer_0 (end_at Run []) Poll (address_refused 1788 0 1788)
+unfolding queue_size limit_of
+each_descriptor_address_below_is = playing.call peer_0 (end_at Run []) Poll (address_refused 1788 0 1788) (refl, refl, (refl, refl, (refl, refl, (refl, refl, (refl, refl, refl)))))
+
+each_descriptor_address_odd_is : IsCall peer_0 (end_at Run []) Poll (address_refused 1794 0 1794)
+unfolding queue_size limit_of
+each_descriptor_address_odd_is = playing.call peer_0 (end_at Run []) Poll (address_refused 1794 0 1794) (refl, refl, (refl, refl, (refl, refl, (refl, refl, (refl, refl, refl)))))
+
+each_descriptor_address_past_is : IsCall peer_0 (end_at Run []) Poll (address_refused 16384 0 16384)
+unfolding queue_size limit_of
+each_descriptor_address_past_is = playing.call peer_0 (end_at Run []) Poll (address_refused 16384 0 16384) (refl, refl, (refl, refl, (refl, refl, (refl, refl, (refl, refl, refl)))))
+
+each_descriptor_address_high_is : IsCall peer_0 (end_at Run []) Poll (address_refused 1792 1 4294969088)
+unfolding queue_size limit_of
+each_descriptor_address_high_is = playing.call peer_0 (end_at Run []) Poll (address_refused 1792 1 4294969088) (refl, refl, (refl, refl, (refl, refl, (refl, refl, (refl, refl, refl)))))
+
+each_descriptor_length_short_is : IsCall peer_0 (end_at Run []) Poll (length_refused 13)
+unfolding queue_size limit_of
+each_descriptor_length_short_is = playing.call peer_0 (end_at Run []) Poll (length_refused 13) (refl, refl, (refl, refl, (refl, refl, (refl, refl, (refl, refl, (refl, refl, refl))))))
+
+each_descriptor_length_past_is : IsCall peer_0 (end_at Run []) Poll (length_refused 14593)
+unfolding queue_size limit_of
+each_descriptor_length_past_is = playing.call peer_0 (end_at Run []) Poll (length_refused 14593) (refl, refl, (refl, refl, (refl, refl, (refl, refl, (refl, refl, (refl, refl, refl))))))
+
+each_descriptor_flags_is : IsCall peer_0 (end_at Run []) Poll flags_refused
+unfolding queue_size limit_of
+each_descriptor_flags_is = playing.call peer_0 (end_at Run []) Poll flags_refused (refl, refl, (refl, refl, (refl, refl, (refl, refl, (refl, refl, (refl, refl, (refl, refl, refl)))))))
+
+hostile_returns_id_is : IsCall peer_0 (end_at Run (frame ∷ [])) (Offer frame) id_refused
+unfolding queue_size limit_of
+hostile_returns_id_is = playing.call peer_0 (end_at Run (frame ∷ [])) (Offer frame) id_refused (refl, refl, (refl, refl, (refl, refl, refl)))
+
+hostile_returns_index_is : IsCall peer_0 (end_at Run (frame ∷ [])) (Offer frame) used_refused
+unfolding queue_size limit_of
+hostile_returns_index_is = playing.call peer_0 (end_at Run (frame ∷ [])) (Offer frame) used_refused (refl, refl, (refl, refl, refl))
+
+reset_in_mid_offer_stays_is : IsCall peer_0 (end_at Reset []) Tick (r 1 3 (Saw 3 ∷ Over ∷ []) ∷ [])
+unfolding queue_size limit_of
+reset_in_mid_offer_stays_is = playing.call peer_0 (end_at Reset []) Tick (r 1 3 (Saw 3 ∷ Over ∷ []) ∷ []) (refl, refl, refl)
+
+reset_in_mid_offer_follows_is : IsCall peer_1 (end_at Run []) Tick (r 0 0 (Saw 0 ∷ []) ∷ s 0 (Over ∷ []) ∷ [])
+unfolding queue_size limit_of
+reset_in_mid_offer_follows_is = playing.call peer_1 (end_at Run []) Tick (r 0 0 (Saw 0 ∷ []) ∷ s 0 (Over ∷ []) ∷ []) (refl, refl, (refl, refl, refl))
+
+stop_is : IsCall peer_0 (end_at Run []) Stop (s 0 (Over ∷ []) ∷ [])
+unfolding queue_size limit_of
+stop_is = playing.call peer_0 (end_at Run []) Stop (s 0 (Over ∷ []) ∷ []) (refl, refl, refl)
+
+stop_is_down_is : IsCall peer_1 (end_at Reset []) Poll (step_of Nothing 0 (Down ∷ []) ∷ [])
+unfolding queue_size limit_of
+stop_is_down_is = playing.call peer_1 (end_at Reset []) Poll (step_of Nothing 0 (Down ∷ []) ∷ []) (refl, refl, refl)
+
+begun_lem : (left : CallTree) × GoesAlong (tree_of peer_0 (end_at Run []) (Offer frame)) offer_begun left
+begun_lem = let cut = cuts.splits (tree_of peer_0 (end_at Run []) (Offer frame)) offer_begun offer_ended (lists.made peer_0 (end_at Run []) (Offer frame) (offer_begun ++ offer_ended) one_frame_offered_is) in (cut.0, cut.1)
+
+pub accepted : RowsAreCalls
+accepted = record {
+  shortest_handshake_init = shortest_handshake_init_is;
+  shortest_handshake_ready = shortest_handshake_ready_is;
+  shortest_handshake_run = shortest_handshake_run_is;
+  one_frame_offered = one_frame_offered_is;
+  one_frame_polled = one_frame_polled_is;
+  full_ring = full_ring_is;
+  full_ring_returned = full_ring_returned_is;
+  nothing_published = nothing_published_is;
+  state_seven_stays = state_seven_stays_is;
+  state_seven_clears = state_seven_clears_is;
+  state_seven_runs = state_seven_runs_is;
+  index_bound = index_bound_is;
+  each_descriptor_entry = each_descriptor_entry_is;
+  each_descriptor_address_below = each_descriptor_address_below_is;
+  each_descriptor_address_odd = each_descriptor_address_odd_is;
+  each_descriptor_address_past = each_descriptor_address_past_is;
+  each_descriptor_address_high = each_descriptor_address_high_is;
+  each_descriptor_length_short = each_descriptor_length_short_is;
+  each_descriptor_length_past = each_descriptor_length_past_is;
+  each_descriptor_flags = each_descriptor_flags_is;
+  hostile_returns_id = hostile_returns_id_is;
+  hostile_returns_index = hostile_returns_index_is;
+  reset_in_mid_offer_begun = begun_lem;
+  reset_in_mid_offer_stays = reset_in_mid_offer_stays_is;
+  reset_in_mid_offer_follows = reset_in_mid_offer_follows_is;
+  stop = stop_is;
+  stop_is_down = stop_is_down_is;
+}

@@ -1,0 +1,5 @@
+pub mod Along
+pub mod Same
+pub mod Following
+pub mod Accepted
+pub mod Changed

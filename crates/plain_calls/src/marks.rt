@@ -1,0 +1,213 @@
+//! The marks of the step at a place.
+ghost use Rattle.std.specs.Prelude.{◌≡◌, ◌==◌, if◌then◌else◌, ◌+◌, ◌<◌, ◌^◌, IfOk, List, [], ◌∷◌, ◌++◌};
+ghost use Rattle.split_ring.specs.Layout.{limit_of};
+ghost use Rattle.call_grammar.specs.Steps.{Deliver};
+ghost use Rattle.call_grammar.specs.Words.{frame_in};
+ghost use Rattle.call_grammar.specs.Ticks.{tick_marks};
+ghost use Rattle.call_grammar.specs.Offers.{full_marks, reclaim_marks, refusal};
+ghost use Rattle.call_grammar.specs.Polls.{look_marks};
+ghost use Rattle.call_grammar.specs.Places.{marks_at};
+ghost use Rattle.plain_calls.specs.Seen.{who_seen, marks_seen};
+ghost use Rattle.plain_calls.specs.Standing.{job_of, place_seen, IsSmall};
+
+use crate::places::{Begun, Place, is_address, is_entry, is_length};
+use crate::words::{address_of, descriptor_of, entry_half, entry_of, frame_in, published_by};
+use crate::{Mark, Who};
+use ivs_base::{Frame, NoMemory};
+use link_handshake::Move;
+use split_ring::{FieldName, Refused};
+use std::alloc::Global;
+
+/// This mark alone.
+fn only(alloc: Global, mark: Mark) -> Result<Vec<Mark>, NoMemory>
+    ensures { IfOk result (λ marks. marks.items ≡ mark ∷ []) }
+{
+    let mut marks = Vec::new(alloc);
+    match marks.push(mark) {
+        Ok(()) => Ok(marks),
+        Err(_) => Err(NoMemory),
+    }
+}
+
+/// These two marks.
+fn both(alloc: Global, first: Mark, second: Mark) -> Result<Vec<Mark>, NoMemory>
+    ensures { IfOk result (λ marks. marks.items ≡ first ∷ second ∷ []) }
+{
+    let mut marks = only(alloc, first)?;
+    match marks.push(second) {
+        Ok(()) => Ok(marks),
+        Err(_) => Err(NoMemory),
+    }
+}
+
+/// The mark of a value that its field refuses.
+fn refuse(alloc: Global, field: FieldName, value: u64) -> Result<Vec<Mark>, NoMemory>
+    ensures { IfOk result (λ marks. marks_seen marks.items ≡ refusal field value) }
+{
+    only(alloc, Mark::Refuse(Refused { field, value }))
+}
+
+/// The marks of a Tick's read.
+fn tick_marks(alloc: Global, value: u32, found: Move) -> Result<Vec<Mark>, NoMemory>
+    ensures { IfOk result (λ marks. marks_seen marks.items ≡ tick_marks value found) }
+{
+    match found {
+        Move::Stay => both(alloc, Mark::Saw(value), Mark::Over),
+        Move::Set(_) | Move::ClearThenSet(_) => only(alloc, Mark::Saw(value)),
+    }
+}
+
+/// Are as many frames in flight as may be, where so many were freed?
+fn is_full(who: &Who, begun: &Begun, freed: u64) -> bool
+    requires { freed < 2 ^ 34 }
+    ensures { result ≡ begun.now.number == freed + limit_of who.now.queue }
+{
+    u64::from(begun.number) == freed + u64::from(who.queue.limit())
+}
+
+/// The marks of an offer's read of the used index.
+fn used_index_marks(
+    alloc: Global,
+    who: &Who,
+    begun: &Begun,
+    value: u32,
+) -> Result<Vec<Mark>, NoMemory>
+    ensures { IfOk result (λ marks. marks_seen marks.items ≡ marks_at (who_seen who.now) (place_seen begun.now Place.AtUsedIndex) value) }
+{
+    let freed = u64::from(begun.freed);
+    let found = published_by(freed, value);
+    if found > u64::from(begun.number).saturating_sub(freed) {
+        refuse(alloc, FieldName::UsedIndex, u64::from(value / 65_536))
+    } else if found > 0 {
+        only(alloc, Mark::Reclaim(found))
+    } else if is_full(who, begun, freed) {
+        both(alloc, Mark::Reclaim(0), Mark::Full)
+    } else {
+        only(alloc, Mark::Reclaim(0))
+    }
+}
+
+/// The marks of a poll's read of the available index.
+fn available_index_marks(
+    alloc: Global,
+    who: &Who,
+    begun: &Begun,
+    value: u32,
+) -> Result<Vec<Mark>, NoMemory>
+    ensures { IfOk result (λ marks. marks_seen marks.items ≡ marks_at (who_seen who.now) (place_seen begun.now Place.AtAvailIndex) value) }
+{
+    let found = published_by(u64::from(begun.taken), value);
+    if found > u64::from(who.queue.size()) {
+        refuse(alloc, FieldName::AvailIndex, u64::from(value / 65_536))
+    } else if found > 0 {
+        only(alloc, Mark::Look(found))
+    } else {
+        both(alloc, Mark::Look(0), Mark::Done)
+    }
+}
+
+/// The marks of the read of a frame's word, with so many words after it.
+fn word_marks(
+    alloc: Global,
+    bytes: u32,
+    read: &[u32],
+    value: u32,
+    words: u64,
+) -> Result<Vec<Mark>, NoMemory>
+    ensures { IfOk result (λ marks. marks_seen marks.items ≡ (if words == 0 then Deliver (frame_in bytes (read.now ++ value ∷ [])) ∷ [] else [])) }
+{
+    if words > 0 {
+        return Ok(Vec::new(alloc));
+    }
+    let Ok(mut all) = read.to_vec(alloc) else {
+        return Err(NoMemory);
+    };
+    if all.push(value).is_err() {
+        return Err(NoMemory);
+    }
+    let frame = frame_in(alloc, bytes, all.as_slice())?;
+    only(alloc, Mark::Deliver(frame))
+}
+
+/// The marks of the step at a place, where its read gave this value.
+pub fn marks_at(
+    alloc: Global,
+    who: &Who,
+    begun: &Begun,
+    place: &Place,
+    value: u32,
+) -> Result<Vec<Mark>, NoMemory>
+    requires { IsSmall place.now }
+    ensures { IfOk result (λ marks. marks_seen marks.items ≡ marks_at (who_seen who.now) (place_seen begun.now place.now) value) }
+{
+    match place {
+        Place::AtState => tick_marks(alloc, value, begun.handshake.saw(value)),
+        Place::Setting { .. } | Place::Refusing | Place::RingingOffer => only(alloc, Mark::Over),
+        Place::Downed => only(alloc, Mark::Down),
+        Place::AtUsedIndex => used_index_marks(alloc, who, begun, value),
+        Place::AtUsedId { freed, more } => {
+            if value != descriptor_of(who, *freed) {
+                refuse(alloc, FieldName::UsedId, u64::from(value))
+            } else if *more == 0 && is_full(who, begun, *freed + 1) {
+                only(alloc, Mark::Full)
+            } else {
+                Ok(Vec::new(alloc))
+            }
+        }
+        Place::WritingIndex => {
+            let frame = Frame::of(alloc, begun.frame.as_slice())?;
+            only(alloc, Mark::Accept(frame))
+        }
+        Place::AtAvailIndex => available_index_marks(alloc, who, begun, value),
+        Place::AtEntry { number, .. } => {
+            let entry = entry_half(entry_of(who, *number), value);
+            if is_entry(who, entry) {
+                Ok(Vec::new(alloc))
+            } else {
+                refuse(alloc, FieldName::AvailEntry, u64::from(entry))
+            }
+        }
+        Place::AtHigh { low, .. } => {
+            let address = address_of(*low, value);
+            if is_address(who, address) {
+                Ok(Vec::new(alloc))
+            } else {
+                refuse(alloc, FieldName::DescAddress, address)
+            }
+        }
+        Place::AtLength { address, .. } => {
+            if is_length(who, *address, value) {
+                Ok(Vec::new(alloc))
+            } else {
+                refuse(alloc, FieldName::DescLength, u64::from(value))
+            }
+        }
+        Place::AtFlags { .. } => {
+            let flags = value % 65_536;
+            if flags == 0 {
+                Ok(Vec::new(alloc))
+            } else {
+                refuse(alloc, FieldName::DescFlags, u64::from(flags))
+            }
+        }
+        Place::AtWord {
+            bytes,
+            read,
+            words,
+            ..
+        } => word_marks(alloc, *bytes, read.as_slice(), value, *words),
+        Place::GivingIndex { .. } => only(alloc, Mark::Return),
+        Place::RingingPoll => only(alloc, Mark::Done),
+        Place::Closed
+        | Place::Clearing { .. }
+        | Place::Filling { .. }
+        | Place::WritingLow
+        | Place::WritingHigh
+        | Place::WritingLength
+        | Place::WritingFlags
+        | Place::WritingEntry
+        | Place::AtLow { .. }
+        | Place::GivingId { .. }
+        | Place::GivingLength { .. } => Ok(Vec::new(alloc)),
+    }
+}

@@ -1,0 +1,96 @@
+//! An open call: where it is, its next step, and where it goes on. A step costs the same wherever the call is.
+ghost use Rattle.std.specs.Prelude.{◌≡◌, IfOk};
+ghost use Rattle.call_grammar.specs.Ends as ends;
+ghost use Rattle.call_grammar.specs.Places.{Closed, first_place, access_at, step_at, next_place, is_open};
+ghost use Rattle.plain_calls.specs.Seen.{who_seen, call_seen, access_seen, step_seen, IsSeenAs};
+
+use crate::calls::given;
+use crate::marks::marks_at;
+use crate::places::{Begun, Place, access_at, begin, first_place, next_place};
+use crate::{Access, Call, End, Step, Who};
+use ivs_base::NoMemory;
+use link_handshake::Handshake;
+use std::alloc::Global;
+use std::marker::Model;
+
+/// A call between two steps, or none that is open.
+#[derive(Drop)]
+pub struct OpenCall {
+    begun: Begun,
+    place: Place,
+}
+
+impl Model for OpenCall {
+    ghost use Rattle.call_grammar.specs.Places as laws;
+    ghost use Rattle.plain_calls.specs.Standing.{place_seen, IsSmall};
+
+    ghost Value = { laws.Place };
+
+    ghost view = { λ call. place_seen call.begun call.place };
+
+    ghost invariant = { λ call. IsSmall call.place };
+}
+
+impl OpenCall {
+    /// No call is open.
+    pub fn closed(alloc: Global) -> OpenCall
+        ensures { result ≡ Closed }
+    {
+        OpenCall {
+            begun: Begun {
+                handshake: Handshake::new(),
+                frame: Vec::new(alloc),
+                number: 0,
+                beside: 0,
+                freed: 0,
+                taken: 0,
+            },
+            place: Place::Closed,
+        }
+    }
+
+    /// The call that an end begins, before its first step. NoMemory comes only where memory ran out.
+    pub fn open(alloc: Global, who: &Who, end: &End, asked: &Call) -> Result<OpenCall, NoMemory>
+        ensures { IfOk result (λ call. (seen : ends.End) → IsSeenAs end.now seen → call ≡ first_place (who_seen who.now) seen (call_seen asked.now)) }
+    {
+        let begun = begin(alloc, who, end, asked)?;
+        let place = first_place(&begun, asked);
+        Ok(OpenCall { begun, place })
+    }
+
+    /// Is a call open?
+    pub fn is_open(&self) -> bool
+        ensures { result ≡ is_open self.now }
+    {
+        !matches!(&self.place, Place::Closed)
+    }
+
+    /// The access of its next step.
+    pub fn access(&self, who: &Who) -> Access
+        ensures { access_seen result ≡ access_at (who_seen who.now) self.now }
+    {
+        access_at(who, &self.begun, &self.place)
+    }
+
+    /// Its next step, where a read gives this value. NoMemory comes only where memory ran out.
+    pub fn step(&self, alloc: Global, who: &Who, value: u32) -> Result<Step, NoMemory>
+        ensures { IfOk result (λ step. step_seen step ≡ step_at (who_seen who.now) self.now value) }
+    {
+        let access = access_at(who, &self.begun, &self.place);
+        let marks = marks_at(alloc, who, &self.begun, &self.place, value)?;
+        Ok(Step {
+            access,
+            value: given(access, value),
+            marks,
+        })
+    }
+
+    /// The call after that step. NoMemory comes only where memory ran out.
+    pub fn after(self, alloc: Global, who: &Who, value: u32) -> Result<OpenCall, NoMemory>
+        ensures { IfOk result (λ next. next ≡ next_place (who_seen who.now) self value) }
+    {
+        let OpenCall { begun, place } = self;
+        let place = next_place(alloc, who, &begun, place, value)?;
+        Ok(OpenCall { begun, place })
+    }
+}

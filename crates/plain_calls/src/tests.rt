@@ -1,0 +1,393 @@
+//! The worked rows, line by line, and each of them with each of its lines changed.
+use super::{Access, Call, End, Mark, OpenCall, Step, Who, is_call, next_step};
+use crate::steps::same_marks;
+use ivs_base::Frame;
+use link_handshake::{Handshake, Phase};
+use split_ring::{FieldName, Queue, QueueFault, Refused};
+use std::alloc::Global;
+use std::process::Abort;
+use std::test::Fail;
+
+/// The frame of 14 bytes.
+const FRAME: [u8; 14] = [255, 255, 255, 255, 255, 255, 2, 0, 0, 0, 0, 1, 8, 0];
+
+/// A line without its peer. Accesses: `r` read, `w` write, `s` State, `d` doorbell, `-` none. Marks: `v` saw, `c` reclaim,
+/// `l` look, `f` full, `a` accept, `g` deliver, `t` return, `k` done, `n` down, `x` refuse (the field by its place), `o` over.
+type Line = (char, u32, u64);
+
+fn small(value: u64) -> u32 {
+    u32::try_from(value).unwrap_or(0)
+}
+
+/// The frame, or another one.
+fn frame(alloc: Global, other: u32) -> Result<Frame, Fail> {
+    if other == 0 {
+        Ok(Frame::of(alloc, &FRAME)?)
+    } else {
+        Ok(Frame::of(alloc, &FRAME[1..])?)
+    }
+}
+
+fn field(place: u32) -> FieldName {
+    match place {
+        1 => FieldName::AvailEntry,
+        2 => FieldName::DescAddress,
+        3 => FieldName::DescLength,
+        4 => FieldName::DescFlags,
+        5 => FieldName::UsedIndex,
+        6 => FieldName::UsedId,
+        _ => FieldName::AvailIndex,
+    }
+}
+
+fn mark_of(alloc: Global, line: Line) -> Result<Mark, Fail> {
+    let (kind, number, value) = line;
+    Ok(match kind {
+        'v' => Mark::Saw(number),
+        'c' => Mark::Reclaim(u64::from(number)),
+        'l' => Mark::Look(u64::from(number)),
+        'f' => Mark::Full,
+        'a' => Mark::Accept(frame(alloc, number)?),
+        'g' => Mark::Deliver(frame(alloc, number)?),
+        't' => Mark::Return,
+        'k' => Mark::Done,
+        'n' => Mark::Down,
+        'x' => Mark::Refuse(Refused {
+            field: field(number),
+            value,
+        }),
+        _ => Mark::Over,
+    })
+}
+
+/// The steps of these lines: an access begins one, and the marks after it are its own.
+fn steps_of(alloc: Global, lines: &[Line]) -> Result<Vec<Step>, Fail> {
+    let mut steps: Vec<Step> = Vec::new(alloc);
+    for line in lines {
+        let (kind, number, value) = *line;
+        let access = match kind {
+            'r' => Access::Read(u64::from(number)),
+            'w' => Access::Write(u64::from(number), value),
+            's' => Access::State(number),
+            'd' => Access::Ring {
+                target: number,
+                vector: small(value),
+            },
+            '-' => Access::Nothing,
+            _ => {
+                let mark = mark_of(alloc, *line)?;
+                if let Some(step) = steps.last_mut() {
+                    step.marks.push(mark)?;
+                }
+                continue;
+            }
+        };
+        steps.push(Step {
+            access,
+            value: if kind == 'r' { small(value) } else { 0 },
+            marks: Vec::new(alloc),
+        })?;
+    }
+    Ok(steps)
+}
+
+/// The line with its first number changed, or another mark.
+fn changed(line: Line) -> Line {
+    match line.0 {
+        'f' | 't' | 'k' | 'n' | '-' => ('o', 0, 0),
+        'o' => ('k', 0, 0),
+        kind => (kind, line.1.wrapping_add(1), line.2),
+    }
+}
+
+/// Peer 0 or peer 1 of a link with sections of 16,384 bytes and an MTU of 256, of which so many words are cleared.
+fn who(me: u32, words: u32) -> Result<Who, Fail> {
+    let (other, own, theirs) = if me == 0 {
+        (1, 1024, 5120)
+    } else {
+        (0, 5120, 1024)
+    };
+    Ok(Who {
+        me,
+        other,
+        own,
+        theirs,
+        words,
+        queue: Queue::of(16_384, 256)?,
+        vector: 1,
+    })
+}
+
+/// An end in this phase, which accepted so many frames.
+fn end(alloc: Global, phase: Phase, accepted: u32) -> End {
+    let mut handshake = Handshake::new();
+    handshake.enter(phase);
+    End {
+        handshake,
+        accepted,
+        freed: 0,
+        delivered: 0,
+        stores: Vec::new(alloc),
+    }
+}
+
+/// An open call goes along these steps to its end.
+fn goes_along(
+    rt: &impl Abort,
+    alloc: Global,
+    who: &Who,
+    call: OpenCall,
+    steps: &[Step],
+) -> Result<(), Fail> {
+    let mut open = call;
+    for step in steps {
+        assert!(rt; open.is_open() && open.access(who) == step.access);
+        let next = open.step(alloc, who, step.value)?;
+        assert!(rt; next.access == step.access && next.value == step.value);
+        assert!(rt; same_marks(next.marks.as_slice(), step.marks.as_slice()));
+        open = open.after(alloc, who, step.value)?;
+    }
+    assert!(rt; !open.is_open());
+    Ok(())
+}
+
+/// The lines are the call, step for step, and with any of them changed they aren't.
+fn check(
+    rt: &impl Abort,
+    alloc: Global,
+    who: &Who,
+    end: &End,
+    call: &Call,
+    lines: &[Line],
+) -> Result<(), Fail> {
+    let steps = steps_of(alloc, lines)?;
+    assert!(rt; is_call(alloc, who, end, call, steps.as_slice())?);
+    for i in 0..steps.len() {
+        let step = &steps[i];
+        let next = next_step(alloc, who, end, call, &steps[..i], step.value)?;
+        let Some(next) = next else {
+            panic!(rt; "no step {i}");
+        };
+        assert!(rt; next.access == step.access && next.value == step.value);
+        assert!(rt; same_marks(next.marks.as_slice(), step.marks.as_slice()));
+    }
+    assert!(rt; next_step(alloc, who, end, call, steps.as_slice(), 0)?.is_none());
+    goes_along(
+        rt,
+        alloc,
+        who,
+        OpenCall::open(alloc, who, end, call)?,
+        steps.as_slice(),
+    )?;
+    for i in 0..lines.len() {
+        let mut others = lines.to_vec(alloc)?;
+        others[i] = changed(others[i]);
+        let steps = steps_of(alloc, others.as_slice())?;
+        assert!(rt;
+            !is_call(alloc, who, end, call, steps.as_slice())?,
+            "line {i}"
+        );
+    }
+    Ok(())
+}
+
+/// The lines of an offer's frame, to the descriptor's last word.
+const WRITES: [Line; 8] = [
+    ('w', 1472, 4_294_967_295),
+    ('w', 1473, 196_607),
+    ('w', 1474, 16_777_216),
+    ('w', 1475, 8),
+    ('w', 1024, 1792),
+    ('w', 1025, 0),
+    ('w', 1026, 14),
+    ('w', 1027, 0),
+];
+
+#[test]
+fn shortest_handshake_and_stop(rt: HostRuntime) -> Result<(), Fail> {
+    let alloc = rt.alloc();
+    let who = who(0, 3)?;
+    let rows: [(Phase, Call, &[Line]); 6] = [
+        (
+            Phase::Reset,
+            Call::Tick,
+            &[('r', 1, 0), ('v', 0, 0), ('s', 1, 0), ('o', 0, 0)],
+        ),
+        (
+            Phase::Init,
+            Call::Tick,
+            &[
+                ('r', 1, 1),
+                ('v', 1, 0),
+                ('w', 1024, 0),
+                ('w', 1025, 0),
+                ('w', 1026, 0),
+                ('s', 2, 0),
+                ('o', 0, 0),
+            ],
+        ),
+        (
+            Phase::Ready,
+            Call::Tick,
+            &[('r', 1, 2), ('v', 2, 0), ('s', 3, 0), ('o', 0, 0)],
+        ),
+        (
+            Phase::Reset,
+            Call::Tick,
+            &[('r', 1, 3), ('v', 3, 0), ('o', 0, 0)],
+        ),
+        (Phase::Run, Call::Stop, &[('s', 0, 0), ('o', 0, 0)]),
+        (Phase::Reset, Call::Poll, &[('-', 0, 0), ('n', 0, 0)]),
+    ];
+    for (phase, call, lines) in &rows {
+        check(&rt, alloc, &who, &end(alloc, *phase, 0), call, lines)?;
+    }
+    Ok(())
+}
+
+#[test]
+fn offers(rt: HostRuntime) -> Result<(), Fail> {
+    let alloc = rt.alloc();
+    let who = who(0, 4096)?;
+    let call = Call::Offer(frame(alloc, 0)?);
+    let mut one_frame = Vec::from_slice(alloc, &[('r', 5424, 0), ('c', 0, 0)])?;
+    one_frame.extend_from_slice(&WRITES)?;
+    one_frame.extend_from_slice(&[
+        ('w', 1281, 0),
+        ('w', 1280, 65_536),
+        ('a', 0, 0),
+        ('d', 1, 1),
+        ('o', 0, 0),
+    ])?;
+    let rows: [(u32, &[Line]); 4] = [
+        (0, one_frame.as_slice()),
+        (45, &[('r', 5424, 0), ('c', 0, 0), ('f', 0, 0)]),
+        (
+            1,
+            &[
+                ('r', 5424, 65_536),
+                ('c', 1, 0),
+                ('r', 5425, 7),
+                ('x', 6, 7),
+                ('s', 0, 0),
+                ('o', 0, 0),
+            ],
+        ),
+        (
+            1,
+            &[('r', 5424, 131_072), ('x', 5, 2), ('s', 0, 0), ('o', 0, 0)],
+        ),
+    ];
+    for (accepted, lines) in &rows {
+        check(
+            &rt,
+            alloc,
+            &who,
+            &end(alloc, Phase::Run, *accepted),
+            &call,
+            lines,
+        )?;
+    }
+    Ok(())
+}
+
+#[test]
+fn polls(rt: HostRuntime) -> Result<(), Fail> {
+    let alloc = rt.alloc();
+    let one_frame: [Line; 18] = [
+        ('r', 1280, 65_536),
+        ('l', 1, 0),
+        ('r', 1281, 0),
+        ('r', 1024, 1792),
+        ('r', 1025, 0),
+        ('r', 1026, 14),
+        ('r', 1027, 0),
+        ('r', 1472, 4_294_967_295),
+        ('r', 1473, 196_607),
+        ('r', 1474, 16_777_216),
+        ('r', 1475, 8),
+        ('g', 0, 0),
+        ('w', 5425, 0),
+        ('w', 5426, 1),
+        ('w', 5424, 65_536),
+        ('t', 0, 0),
+        ('d', 0, 1),
+        ('k', 0, 0),
+    ];
+    let at_run = end(alloc, Phase::Run, 0);
+    check(&rt, alloc, &who(1, 4096)?, &at_run, &Call::Poll, &one_frame)?;
+    let read: [Line; 7] = [
+        ('r', 5376, 65_536),
+        ('l', 1, 0),
+        ('r', 5377, 0),
+        ('r', 5120, 1792),
+        ('r', 5121, 0),
+        ('r', 5122, 14),
+        ('r', 5123, 0),
+    ];
+    // How many of those lines stay, the read that is refused, and its mark.
+    let rows: [(usize, Line, Line); 9] = [
+        (0, ('r', 5376, 4_259_840), ('x', 0, 65)),
+        (2, ('r', 5377, 64), ('x', 1, 64)),
+        (3, ('r', 5120, 1788), ('x', 2, 1788)),
+        (3, ('r', 5120, 1794), ('x', 2, 1794)),
+        (3, ('r', 5120, 16_384), ('x', 2, 16_384)),
+        (4, ('r', 5121, 1), ('x', 2, 4_294_969_088)),
+        (5, ('r', 5122, 13), ('x', 3, 13)),
+        (5, ('r', 5122, 14_593), ('x', 3, 14_593)),
+        (6, ('r', 5123, 1), ('x', 4, 1)),
+    ];
+    for (kept, refused, mark) in &rows {
+        let mut lines = Vec::from_slice(alloc, read.get(..*kept).unwrap_or(&[]))?;
+        lines.push(*refused)?;
+        if refused.1 == 5120 {
+            lines.push(('r', 5121, 0))?;
+        }
+        lines.extend_from_slice(&[*mark, ('s', 0, 0), ('o', 0, 0)])?;
+        check(
+            &rt,
+            alloc,
+            &who(0, 4096)?,
+            &at_run,
+            &Call::Poll,
+            lines.as_slice(),
+        )?;
+    }
+    Ok(())
+}
+
+#[test]
+fn an_end_follows_its_steps(rt: HostRuntime) -> Result<(), Fail> {
+    let alloc = rt.alloc();
+    let mut end = End::fresh(alloc);
+    let mut step = Step {
+        access: Access::Write(1281, 5),
+        value: 0,
+        marks: Vec::new(alloc),
+    };
+    end.follow(&step)?;
+    step.access = Access::Write(1281, 6);
+    end.follow(&step)?;
+    step.access = Access::State(3);
+    end.follow(&step)?;
+    assert!(rt; end.written(1281) == 6 && end.written(1282) == 0);
+    assert!(rt; matches!(end.handshake.phase(), Phase::Run));
+    end.reset();
+    assert!(rt; matches!(end.handshake.phase(), Phase::Reset) && end.written(1281) == 6);
+    assert!(rt; !OpenCall::closed(alloc).is_open());
+    Ok(())
+}
+
+/// Which section the worked examples stand on, and which frames it has no room for: a slot is the MTU and 18 bytes, at a multiple of 64.
+#[test]
+fn sections_of_the_worked_examples(rt: HostRuntime) {
+    let example = Queue::of(16_384, 256).expect(&rt, "a queue");
+    assert_eq!(rt;
+        (example.size(), example.slot(), example.limit()),
+        (64, 320, 45)
+    );
+    for (mtu, slot) in [(16_384, 16_448), (65_535, 65_600)] {
+        let no_slot = QueueFault::NoSlot { slot, room: 14_592 };
+        assert_eq!(rt; Queue::of(16_384, mtu).err(), Some(no_slot));
+    }
+}

@@ -1,0 +1,119 @@
+-- Interrupts that come one after the other, and what a read gave.
+use Rattle.std.proofs.Common.{◌≡◌, ℕ, ◌+◌, ◌<◌, List, [], ◌∷◌, ◌++◌, length, take, get_or, arith, refl, sym, ◌∙◌, ap, subst, append_assoc}
+use Rattle.std.specs.Prelude.{◌==◌, if◌then◌else◌, Option, Some, None, true, reverse, slice_get, slice_index, slice_set}
+use Rattle.std.proofs.lemmas.Bool.Decides.{nat_tests}
+use Rattle.std.proofs.lemmas.Grind.{common_steps}
+use Rattle.std.proofs.lemmas.Option.{gets}
+use Rattle.std.proofs.lemmas.List.{reverse-append, take_more}
+use Rattle.doorbell_irq.specs.declared.effect.Delivery.{Delivery}
+use Rattle.scenario_text.specs.Scenario.{World}
+use Rattle.lawful_history.specs.declared.line.Line.{Line}
+use Rattle.lawful_history.specs.declared.line.Line.TheVariants as line
+use Rattle.lawful_history.specs.Memory.{value_after, last_write}
+use Rattle.doorbell_irq.specs.Events as device
+use Rattle.doorbell_irq.specs.DeviceRules.{effect_of}
+use Rattle.doorbell_irq.specs.Stands.{Stands}
+use Rattle.lawful_history.specs.Device.{devices_of, told_by, device_events, lost_by, arrival, arrived, arrivals_by}
+use Rattle.std.proofs.lemmas.List.Folds.{list_all-append}
+use Rattle.lawful_history.specs.Frames.{has_frame, HaveFrames}
+use Rattle.stage.specs.Scene.{Holds, SceneStands, IsRemark, BringsBy}
+use Rattle.stage.specs.declared.scene.Scene.{Scene}
+
+frames-append : (xs ys : List Line) → HaveFrames xs → HaveFrames ys → HaveFrames (xs ++ ys)
+frames-append xs ys have more = list_all-append has_frame xs ys ∙ rw (have, more) refl
+
+one_frame : (line : Line) → has_frame line ≡ true → HaveFrames (line ∷ [])
+one_frame line frame = rw frame refl
+
+-- one line more, told after those that are kept
+told_lines : (gone lines lines' past : List Line) (line : Line) → gone ++ lines ≡ reverse past → lines' ≡ lines ++ line ∷ [] → gone ++ lines' ≡ reverse (line ∷ past)
+told_lines gone lines lines' past line scene_stands put =
+    ap (λ ls. gone ++ ls) put ∙ sym (append_assoc gone lines (line ∷ [])) ∙ ap (λ ls. ls ++ line ∷ []) scene_stands ∙ sym (reverse-append (line ∷ []) past)
+
+-- one line more, told after some new lines
+pub after_more : (new : List Line) (line : Line) (past : List Line) → reverse (line ∷ new) ++ past ≡ reverse new ++ (line ∷ past)
+after_more new line past = ap (λ r. r ++ past) (reverse-append (line ∷ []) new) ∙ append_assoc (reverse new) (line ∷ []) past
+
+arrived-snoc : (older : List Line) (losses : ℕ → ℕ) (ds : List Delivery) (d : Delivery) →
+    arrived older losses (ds ++ d ∷ []) ≡ arrived older losses ds ++ arrival (reverse (arrived older losses ds) ++ older) losses d ∷ []
+arrived-snoc older losses [] d = refl
+arrived-snoc older losses (x ∷ ds) d =
+    let a = arrival older losses x in
+    let rest = arrived (a ∷ older) losses ds in
+    ap (λ ls. a ∷ ls) (arrived-snoc (a ∷ older) losses ds d) ∙ ap (λ ls. a ∷ (rest ++ arrival ls losses d ∷ [])) (sym (after_more rest a older))
+
+pub one_arrived : (past : List Line) (losses : ℕ → ℕ) (ds : List Delivery) (i : ℕ) (d : Delivery) → i < length ds → d ≡ get_or ds i d →
+    reverse (arrived past losses (take (i + 1) ds)) ++ past ≡ arrival (reverse (arrived past losses (take i ds)) ++ past) losses d ∷ (reverse (arrived past losses (take i ds)) ++ past)
+one_arrived past losses ds i d inside is =
+    let older = reverse (arrived past losses (take i ds)) ++ past in
+    ap (λ xs. reverse (arrived past losses xs) ++ past) (take_more ds i d inside ∙ ap (λ (x : Delivery). take i ds ++ x ∷ []) (sym is)) ∙
+    ap (λ ls. reverse ls ++ past) (arrived-snoc past losses (take i ds) d) ∙ ap (λ ls. ls ++ past) (reverse-append (arrived past losses (take i ds)) (arrival older losses d ∷ []))
+
+-- what a read gave is what was written last
+pub known_at : (words : List ℕ) (value : ℕ) (past : List Line) (word : ℕ) → Holds words past → slice_get words word ≡ Some value → value ≡ last_write past word
+known_at words value past word holds at = grind (arith, common_steps, gets, holds word)
+
+pub read_after : (world : World) (gone past : List Line) (losses : ℕ → ℕ) (s s' : Scene) (me word value : ℕ) → SceneStands world gone past losses s → slice_get s.region.words word ≡ Some value →
+    s'.region ≡ s.region → s'.device ≡ s.device → s'.unspent ≡ s.unspent → s'.lines ≡ s.lines ++ line.Read me word value ∷ [] →
+    (value ≡ last_write past word) × SceneStands world gone (line.Read me word value ∷ past) losses s'
+read_after world gone past losses s s' me word value scene_stands at region device unspent lines = (
+  known_at s.region.words value past word scene_stands.words at,
+  record {
+    is_world = scene_stands.is_world;
+    shape = ap (λ r. r.shape) region ∙ scene_stands.shape;
+    lines = told_lines gone s.lines s'.lines past (line.Read me word value) scene_stands.lines lines;
+    frames = rw lines (frames-append s.lines (line.Read me word value ∷ []) scene_stands.frames refl);
+    words = rw region scene_stands.words;
+    devices = rw device scene_stands.devices;
+    unspent = λ p. let u = scene_stands.unspent p in rw unspent (omega arith);
+    seats = rw unspent scene_stands.seats;
+  },
+)
+
+-- a line that tells the devices something, after which the words and the devices stand
+pub told_after : (world : World) (gone past : List Line) (losses : ℕ → ℕ) (s s' : Scene) (line : Line) (event : device.Event) → SceneStands world gone past losses s → told_by line ≡ Some event → ((p : ℕ) → lost_by line p ≡ 0) →
+    has_frame line ≡ true → Holds s'.region.words (line ∷ past) → s'.region.shape ≡ s.region.shape → Stands (devices_of world) (event ∷ device_events past) s'.device → s'.unspent ≡ s.unspent →
+    s'.lines ≡ s.lines ++ line ∷ [] → SceneStands world gone (line ∷ past) losses s'
+told_after world gone past losses s s' line event scene_stands told lost frame words shape devices unspent lines = record {
+  is_world = scene_stands.is_world;
+  shape = shape ∙ scene_stands.shape;
+  lines = told_lines gone s.lines s'.lines past line scene_stands.lines lines;
+  frames = rw lines (frames-append s.lines (line ∷ []) scene_stands.frames (one_frame line frame));
+  words = words;
+  devices = rw told devices;
+  unspent = λ p. let u = scene_stands.unspent p in let none = lost p in rw unspent (omega arith);
+  seats = rw unspent scene_stands.seats;
+}
+
+-- a word after a write to a word
+written : (words : List ℕ) (past : List Line) (at value word : ℕ) → word < length (slice_set words at value) → Holds words past →
+    slice_index (slice_set words at value) word ≡ (if at == word then value else last_write past word)
+written words past at value word inside holds = grind (arith, common_steps, nat_tests, holds word)
+
+pub state_words : (words : List ℕ) (past : List Line) (me value : ℕ) → Holds words past → Holds (slice_set words me value) (line.State me value ∷ past)
+state_words words past me value holds = λ word inside. written words past me value word inside holds
+
+pub reset_words : (words : List ℕ) (past : List Line) (me : ℕ) → Holds words past → Holds (slice_set words me 0) (line.Reset me ∷ past)
+reset_words words past me holds = λ word inside. written words past me 0 word inside holds
+
+-- the interrupts that a line brings come after it
+pub come_after : (P : List Line → Type 0) (world : World) (past : List Line) (losses : ℕ → ℕ) (line : Line) (o : Option device.Event) (deliveries : List Delivery) → BringsBy world past o deliveries →
+    P (reverse (arrived (line ∷ past) losses deliveries) ++ (line ∷ past)) → P (reverse (line ∷ arrivals_by world past losses line o) ++ past)
+come_after P world past losses line None deliveries brings holds =
+    subst P (ap (λ ds. reverse (arrived (line ∷ past) losses ds) ++ (line ∷ past)) brings) holds
+come_after P world past losses line (Some event) deliveries brings holds =
+    subst P (ap (λ ds. reverse (arrived (line ∷ past) losses ds) ++ (line ∷ past)) brings ∙ sym (after_more (arrived (line ∷ past) losses (effect_of (devices_of world) (device_events past) event).deliveries.items) line past)) holds
+
+-- a line that changes nothing, told after the others
+pub remarked : (world : World) (gone past : List Line) (losses : ℕ → ℕ) (s s' : Scene) (line : Line) → SceneStands world gone past losses s → IsRemark line →
+    s'.region ≡ s.region → s'.device ≡ s.device → s'.unspent ≡ s.unspent → s'.lines ≡ s.lines ++ line ∷ [] → SceneStands world gone (line ∷ past) losses s'
+remarked world gone past losses s s' line scene_stands remark region device unspent lines = record {
+  is_world = scene_stands.is_world;
+  shape = ap (λ r. r.shape) region ∙ scene_stands.shape;
+  lines = told_lines gone s.lines s'.lines past line scene_stands.lines lines;
+  frames = rw lines (frames-append s.lines (line ∷ []) scene_stands.frames (one_frame line remark.frame));
+  words = rw region (λ word inside. scene_stands.words word inside ∙ ap (λ t. value_after t word (last_write past word)) (sym remark.touch));
+  devices = rw (device, remark.told) scene_stands.devices;
+  unspent = λ p. let u = scene_stands.unspent p in let none = remark.lost p in rw unspent (omega arith);
+  seats = rw unspent scene_stands.seats;
+}

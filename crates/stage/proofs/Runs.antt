@@ -1,0 +1,458 @@
+-- One event more.
+use Rattle.std.proofs.Common.{◌≡◌, ◌≢◌, ℕ, zero, suc, ◌<◌, ◌≤◌, Bool, true, false, List, [], ◌∷◌, ◌++◌, length, get_or, take, replicate, ◌+◌, refl, sym, ◌∙◌, ap, subst, arith, length-set}
+use Rattle.std.specs.Prelude.{◌==◌, ◌&&◌, ◌/◌, ◌%◌, Result, Ok, Err, OnOk, not, nat_lt, slice_index_or, if◌then◌else◌, Option, Some, None, reverse, slice_get, slice_set}
+use Rattle.std.specs.List.{AllByRecursion}
+use Rattle.std.proofs.lemmas.Bool.Decides.{nat_tests}
+use Rattle.std.proofs.lemmas.Option.{slice_get-get_or, slice_get_within, same_Some}
+use Rattle.std.proofs.lemmas.List.{reverse-reverse, append-nil, take_more, take_all, get_or-set_same, get_or-set_other, get_or-replicate, length-append, length-replicate, length-take}
+use Rattle.std.proofs.lemmas.List.Concat.{flat_map-append}
+use Rattle.scenario_text.specs.declared.acts.Act.{Act}
+use Rattle.scenario_text.specs.Scenario.{World, IsWorld, is_link}
+use Rattle.call_grammar.specs.Calls.{Who}
+use Rattle.call_grammar.specs.Reach.{CallsStayInReach}
+use Rattle.lawful_history.specs.declared.line.Line.{Line}
+use Rattle.split_ring.specs.declared.steps.Access.TheVariants as access
+use Rattle.call_grammar.specs.Steps.{Step, step_of}
+use Rattle.scenario_text.specs.declared.acts.Act.TheVariants as act
+use Rattle.call_grammar.specs.Trees.{Ended}
+use Rattle.lawful_history.specs.Schedule.{Event, Asked, Automated, Stormed, Turned, Acted, WasReset, Reached, Loses, Repeated, WritesRegister, event_peer, register_event, events_of, schedule}
+use Rattle.lawful_history.specs.Given.{IsThere}
+use Rattle.lawful_history.specs.Sides.{who_of}
+use Rattle.lawful_history.specs.Entries.{acted_lines, lines_by}
+use Rattle.lawful_history.specs.Device.{arrivals, step_interrupts, device_lines, losses_with}
+use Rattle.lawful_history.specs.Peers.{Peer, at_start}
+use Rattle.lawful_history.specs.History.{Moment, may_write, acted_step, peer_at, peer_after, happens, run, beginning, history}
+use Rattle.lawful_history.proofs.Owners.{is_same, is_other}
+use Rattle.lawful_history.proofs.There.{there_below, act_there}
+use Rattle.lawful_history.proofs.Exists.{IsFit, Good, good_on, good_at_first}
+use Rattle.stage.specs.Scene.{SceneStands, IsSeated, told}
+use Rattle.stage.specs.Seats.{SeatStands, SeatFits, is_honest}
+use Rattle.stage.specs.Stage.{AreAtStart, IsLinked, moment_of, RunsTo, IsAct, Happens, Plays}
+use Rattle.stage.proofs.Openings.{link_fits}
+use Rattle.stage.specs.declared.seat.Seat.{Seat}
+use Rattle.stage.specs.declared.seat.Seat.TheVariants.{Honest, Storm, Idle}
+use Rattle.stage.specs.declared.link.Link.{Link}
+use Rattle.stage.specs.declared.stage.Stage.{Stage}
+
+run-snoc : (world : World) (events : List Event) (event : Event) (moment : Moment) → run world (events ++ event ∷ []) moment ≡ happens world (run world events moment) event
+run-snoc world [] event moment = refl
+run-snoc world (x ∷ events) event moment = run-snoc world events event (happens world moment x)
+
+run_count : (world : World) (events : List Event) (moment : Moment) → length (run world events moment).peers ≡ length moment.peers
+run_count world [] moment = refl
+run_count world (event ∷ events) moment = run_count world events (happens world moment event) ∙ length-set moment.peers (event_peer event) (peer_after world moment event)
+
+moment_count : (world : World) (events : List Event) → length (moment_of world events).peers ≡ world.geometry.peers
+moment_count world events = run_count world events (beginning world) ∙ length-replicate world.geometry.peers at_start
+
+there-snoc : (P : Event → Type 0) (events : List Event) (event : Event) → AllByRecursion P events → P event → AllByRecursion P (events ++ event ∷ [])
+there-snoc P [] event all here = (here, tt)
+there-snoc P (x ∷ events) event all here = (all.0, there-snoc P events event all.1 here)
+
+good_run : CallsStayInReach → (world : World) (events : List Event) (moment : Moment) → IsWorld world → AllByRecursion (IsThere world) events → Good world moment → Good world (run world events moment)
+good_run reach world [] moment is there good = good
+good_run reach world (event ∷ events) moment is there good = good_run reach world events (happens world moment event) is there.1 (good_on reach world moment event is there.0 good)
+
+-- each peer of a running stage is fit for its calls
+pub fit_at : CallsStayInReach → (world : World) (events : List Event) (p : ℕ) → IsWorld world → AllByRecursion (IsThere world) events → IsFit (who_of world p) (peer_at (moment_of world events) p)
+fit_at reach world events p is there = (good_run reach world events (beginning world) is there (good_at_first world)).fits p
+
+-- what a list with one element set has there, and elsewhere
+set_at : {A : Type 0} (xs : List A) (p k : ℕ) (x y : A) → k ≡ p → slice_get (slice_set xs p x) k ≡ Some y → x ≡ y
+set_at [] p k x y is at = absurd (cc)
+set_at (z ∷ xs) zero zero x y is at = cc
+set_at (z ∷ xs) zero (suc k) x y is at = absurd (omega arith)
+set_at (z ∷ xs) (suc p) zero x y is at = absurd (omega arith)
+set_at (z ∷ xs) (suc p) (suc k) x y is at = set_at xs p k x y (omega arith) at
+
+set_beside : {A : Type 0} (xs : List A) (p k : ℕ) (x : A) → k ≢ p → slice_get (slice_set xs p x) k ≡ slice_get xs k
+set_beside [] p k x other = refl
+set_beside (z ∷ xs) zero zero x other = absurd (other refl)
+set_beside (z ∷ xs) zero (suc k) x other = refl
+set_beside (z ∷ xs) (suc p) zero x other = refl
+set_beside (z ∷ xs) (suc p) (suc k) x other = set_beside xs p k x (λ e. other (ap suc e))
+
+-- an element of a list with one more is one of the list, or the last
+last_or : (xs : List Seat) (x : Seat) (k : ℕ) (found : Seat) → slice_get (xs ++ x ∷ []) k ≡ Some found → (P : ℕ → Seat → Type 0) →
+    ((q : ℕ) (s : Seat) → slice_get xs q ≡ Some s → P q s) → P (length xs) x → P k found
+last_or [] x zero found at P all here = subst (λ (s : Seat). P 0 s) (same_Some x found at) here
+last_or [] x (suc k) found at P all here = absurd (cc)
+last_or (y ∷ xs) x zero found at P all here = all 0 found at
+last_or (y ∷ xs) x (suc k) found at P all here = last_or xs x k found at (λ q s. P (suc q) s) (λ q s is. all (suc q) s is) here
+
+-- one more seat at the start
+pub one_seat : (world : World) (count : ℕ) (seats : List Seat) (seat : Seat) → AreAtStart world count seats → SeatStands (who_of world count) at_start seat → is_honest seat ≡ is_link world count →
+    AreAtStart world (count + 1) (seats ++ seat ∷ [])
+one_seat world count seats seat start stands linked =
+    let length_is = start.length_is in
+    record {
+      length_is = simp length-append (omega arith);
+      stands = λ p found at. (last_or seats seat p found at (λ q s. SeatStands (who_of world q) at_start s) start.stands (rw length_is stands));
+      linked = λ p found at. (last_or seats seat p found at (λ q s. is_honest s ≡ is_link world q) start.linked (rw length_is linked));
+    }
+
+-- a stage at the start
+pub begun : (world : World) (s : Stage) → AreAtStart world world.geometry.peers s.seats.items → s.ground.geometry ≡ world.geometry → s.ground.queue ≡ world.queue → SceneStands world [] [] (λ p. 0) s.scene →
+    ((p : ℕ) → p < world.geometry.peers → IsSeated s.scene p) → RunsTo world [] [] s
+begun world s start geometry queue scene_stands seated = record {
+  there = tt;
+  geometry = geometry;
+  queue = queue;
+  scene_stands = scene_stands;
+  count = start.length_is;
+  seated = seated;
+  stands = λ p seat at. let within = slice_get_within s.seats.items p seat at in let count = start.length_is in
+      subst (λ (x : Peer). SeatStands (who_of world p) x seat) (sym (get_or-replicate world.geometry.peers p at_start at_start (omega arith))) (start.stands p seat at);
+  linked = start.linked;
+}
+
+-- the lines after an event in which this step was made
+abbrev pub past_of : World → List Line → (ℕ → ℕ) → Event → Option Step → List Line
+past_of world past losses event went = reverse (lines_by event went (device_lines world past losses event went)) ++ past
+
+-- the lines and losses after an event
+abbrev pub past_after : World → Moment → Event → List Line
+past_after world moment event = (happens world moment event).past
+
+-- one event of a peer, after which its seat and the scene stand
+pub record OneMore (world : World) (gone : List Line) (moment : Moment) (event : Event) (s s' : Stage) (seat : Seat) : Type 0 where
+  pub items : s'.seats.items ≡ slice_set s.seats.items (event_peer event) seat
+  pub ground : s'.ground ≡ s.ground
+  pub scene_stands : SceneStands world gone (past_after world moment event) (losses_with event moment.losses) s'.scene
+  pub seated : (p : ℕ) → IsSeated s.scene p → IsSeated s'.scene p
+  pub stands : SeatStands (who_of world (event_peer event)) (peer_after world moment event) seat
+  pub linked : is_honest seat ≡ is_link world (event_peer event)
+
+stands_on : (world : World) (gone : List Line) (events : List Event) (event : Event) (s s' : Stage) (seat : Seat) → OneMore world gone (moment_of world events) event s s' seat → event_peer event < world.geometry.peers → RunsTo world gone events s →
+    (k : ℕ) (found : Seat) (b : Bool) → (event_peer event == k) ≡ b → slice_get (slice_set s.seats.items (event_peer event) seat) k ≡ Some found →
+    SeatStands (who_of world k) (peer_at (happens world (moment_of world events) event) k) found × (is_honest found ≡ is_link world k)
+stands_on world gone events event s s' seat more inside runs k found true is at =
+    let moment = moment_of world events in
+    let p = event_peer event in
+    let same : p ≡ k = is_same p k is in
+    let here : peer_at (happens world moment event) p ≡ peer_after world moment event = get_or-set_same moment.peers p (peer_after world moment event) at_start (omega (arith, moment_count world events)) in
+    let seat_is : seat ≡ found = set_at s.seats.items p k seat found (sym same) at in
+    let P : ℕ → Seat → Type 0 = λ q x. SeatStands (who_of world q) (peer_at (happens world moment event) q) x × (is_honest x ≡ is_link world q) in
+    let now : P p seat = (subst (λ (x : Peer). SeatStands (who_of world p) x seat) (sym here) more.stands, more.linked) in
+    subst (λ (q : ℕ). P q found) same (subst (λ (x : Seat). P p x) seat_is now)
+stands_on world gone events event s s' seat more inside runs k found false is at =
+    let moment = moment_of world events in
+    let p = event_peer event in
+    let other : k ≢ p = is_other p k is in
+    let here : peer_at (happens world moment event) k ≡ peer_at moment k = get_or-set_other moment.peers p k (peer_after world moment event) at_start other in
+    let old : slice_get s.seats.items k ≡ Some found = sym (set_beside s.seats.items p k seat other) ∙ at in
+    (subst (λ (x : Peer). SeatStands (who_of world k) x found) (sym here) (runs.stands k found old), runs.linked k found old)
+
+pub goes_on : (world : World) (gone : List Line) (events : List Event) (event : Event) (s s' : Stage) (seat : Seat) → IsThere world event → OneMore world gone (moment_of world events) event s s' seat →
+    RunsTo world gone events s → RunsTo world gone (events ++ event ∷ []) s'
+goes_on world gone events event s s' seat there more runs =
+    let moment = moment_of world events in
+    let inside = there_below world event there in
+    let next : moment_of world (events ++ event ∷ []) ≡ happens world moment event = run-snoc world events event (beginning world) in
+    let at = λ (k : ℕ) (found : Seat) (is : slice_get s'.seats.items k ≡ Some found).
+    stands_on world gone events event s s' seat more inside runs k found (event_peer event == k) refl (subst (λ (xs : List Seat). slice_get xs k ≡ Some found) more.items is) in
+    record {
+      there = there-snoc (IsThere world) events event runs.there there;
+      geometry = ap (λ g. g.geometry) more.ground ∙ runs.geometry;
+      queue = ap (λ g. g.queue) more.ground ∙ runs.queue;
+      scene_stands = subst (λ (m : Moment). SceneStands world gone m.past m.losses s'.scene) (sym next) more.scene_stands;
+      count = ap length more.items ∙ length-set s.seats.items (event_peer event) seat ∙ runs.count;
+      seated = λ p below. more.seated p (runs.seated p below);
+      stands = λ k found is. subst (λ (m : Moment). SeatStands (who_of world k) (peer_at m k) found) (sym next) (at k found is).0;
+      linked = λ k found is. (at k found is).1;
+    }
+
+-- an event of the scene alone
+get_set : (xs : List Seat) (p : ℕ) (x : Seat) → slice_get xs p ≡ Some x → slice_set xs p x ≡ xs
+get_set [] p x is = absurd (cc)
+get_set (y ∷ xs) zero x is = ap (λ (z : Seat). z ∷ xs) (sym (same_Some y x is))
+get_set (y ∷ xs) (suc p) x is = ap (λ zs. y ∷ zs) (get_set xs p x is)
+
+pub scene_goes_on : (world : World) (gone : List Line) (events : List Event) (event : Event) (s s' : Stage) → IsThere world event → s'.seats ≡ s.seats → s'.ground ≡ s.ground →
+    peer_after world (moment_of world events) event ≡ peer_at (moment_of world events) (event_peer event) →
+    SceneStands world gone (past_after world (moment_of world events) event) (losses_with event (moment_of world events).losses) s'.scene →
+    ((p : ℕ) → IsSeated s.scene p → IsSeated s'.scene p) → RunsTo world gone events s → RunsTo world gone (events ++ event ∷ []) s'
+scene_goes_on world gone events event s s' there seats ground same scene_stands seated runs =
+    let p = event_peer event in
+    let below = there_below world event there in
+    let count = runs.count in
+    let seat = get_or s.seats.items p Idle in
+    let here : slice_get s.seats.items p ≡ Some seat = slice_get-get_or s.seats.items p Idle (omega arith) in
+    goes_on world gone events event s s' seat there (record {
+      items = ap (λ v. v.items) seats ∙ sym (get_set s.seats.items p seat here);
+      ground = ground;
+      scene_stands = scene_stands;
+      seated = seated;
+      stands = subst (λ (x : Peer). SeatStands (who_of world p) x seat) (sym same) (runs.stands p seat here);
+      linked = runs.linked p seat here;
+    }) runs
+
+-- an event of a seat alone, or of a seat and the scene
+pub seat_goes_on : (world : World) (gone : List Line) (events : List Event) (event : Event) (s s' : Stage) (old seat : Seat) → IsThere world event → old ≡ get_or s.seats.items (event_peer event) old →
+    s'.seats.items ≡ slice_set s.seats.items (event_peer event) seat → s'.ground ≡ s.ground →
+    (SeatStands (who_of world (event_peer event)) (peer_at (moment_of world events) (event_peer event)) old →
+    SeatStands (who_of world (event_peer event)) (peer_after world (moment_of world events) event) seat) →
+    (is_honest old ≡ is_link world (event_peer event) → is_honest seat ≡ is_link world (event_peer event)) →
+    SceneStands world gone (past_after world (moment_of world events) event) (losses_with event (moment_of world events).losses) s'.scene →
+    ((p : ℕ) → IsSeated s.scene p → IsSeated s'.scene p) → RunsTo world gone events s → RunsTo world gone (events ++ event ∷ []) s'
+seat_goes_on world gone events event s s' old seat there is items ground stands kind scene_stands seated runs =
+    let p = event_peer event in
+    let below = there_below world event there in
+    let count = runs.count in
+    let here : slice_get s.seats.items p ≡ Some old = slice_get-get_or s.seats.items p old (omega arith) ∙ ap Some (sym is) in
+    goes_on world gone events event s s' seat there (record {
+      items = items;
+      ground = ground;
+      scene_stands = scene_stands;
+      seated = seated;
+      stands = stands (runs.stands p old here);
+      linked = kind (runs.linked p old here);
+    }) runs
+
+-- a poke brings no interrupt
+quiet_write : (world : World) (past : List Line) (losses : ℕ → ℕ) (p word value : ℕ) (b : Bool) → step_interrupts world past losses p (if b then Some (step_of (access.Write word value) 0 []) else None) ≡ []
+quiet_write world past losses p word value true = refl
+quiet_write world past losses p word value false = refl
+
+pub poked : (world : World) (past : List Line) (losses : ℕ → ℕ) (p word value : ℕ) (P : List Line → Type 0) → P (reverse (acted_lines p (access.Write word value) (acted_step world p (access.Write word value) past) []) ++ past) →
+    P (past_of world past losses (Acted p (access.Write word value)) (acted_step world p (access.Write word value) past))
+poked world past losses p word value P holds =
+    subst (λ (dev : List Line). P (reverse (acted_lines p (access.Write word value) (acted_step world p (access.Write word value) past) dev) ++ past))
+    (sym (quiet_write world past losses p word value (may_write world.geometry p word))) holds
+
+-- a line that stands without marks
+pub told_alone : (world : World) (past : List Line) (losses : ℕ → ℕ) (line : Line) (P : List Line → Type 0) → P (reverse (told world past losses line) ++ past) → P (reverse (line ∷ (arrivals world past losses line ++ [])) ++ past)
+told_alone world past losses line P holds = subst (λ (ls : List Line). P (reverse (line ∷ ls) ++ past)) (sym (append-nil (arrivals world past losses line))) holds
+
+-- what a seat holds fits its peer
+pub seat_fits : (who : Who) (peer : Peer) (seat : Seat) → SeatStands who peer seat → IsFit who peer → SeatFits who seat
+seat_fits who peer (Honest link) stands fit = link_fits who peer link stands fit
+seat_fits who peer (Storm x) stands fit = tt
+seat_fits who peer Idle stands fit = tt
+
+-- an honest end of the link has its seat in a running stage
+honest_link : (seat : Seat) → is_honest seat ≡ true → (link : Link) × (seat ≡ Honest link)
+honest_link (Honest link) is = (link, refl)
+honest_link (Storm x) is = absurd (cc)
+honest_link Idle is = absurd (cc)
+
+pub linked_there : (world : World) (gone : List Line) (events : List Event) (s : Stage) (p : ℕ) → RunsTo world gone events s → p < world.geometry.peers → is_link world p ≡ true → IsLinked s.seats.items p
+linked_there world gone events s p runs below is =
+    let seat = get_or s.seats.items p Idle in
+    let count = runs.count in
+    let here : slice_get s.seats.items p ≡ Some seat = slice_get-get_or s.seats.items p Idle (omega arith) in
+    let found = honest_link seat (runs.linked p seat here ∙ is) in
+    (found.0, here ∙ ap Some found.1)
+
+-- the events of the acts so far, and of one more
+pub schedule_more : (acts : List Act) (i : ℕ) (act : Act) → i < length acts → act ≡ get_or acts i act → schedule (take (i + 1) acts) ≡ schedule (take i acts) ++ events_of act
+schedule_more acts i act inside is =
+    ap (λ (xs : List Act). schedule xs) (take_more acts i act inside ∙ ap (λ (a : Act). take i acts ++ a ∷ []) (sym is)) ∙ flat_map-append events_of (take i acts) (act ∷ []) ∙ ap (λ es. schedule (take i acts) ++ es) (append-nil (events_of act))
+
+pub one_act : (world : World) (gone : List Line) (acts : List Act) (i : ℕ) (act : Act) (s : Stage) → i < length acts → act ≡ get_or acts i act → RunsTo world gone (schedule (take i acts) ++ events_of act) s → RunsTo world gone (schedule (take (i + 1) acts)) s
+one_act world gone acts i act s inside is runs = subst (λ (es : List Event). RunsTo world gone es s) (sym (schedule_more acts i act inside is)) runs
+
+-- the lines of a stage that took all acts are the history
+pub whole_history : (world : World) (i : ℕ) (s : Stage) → length world.acts ≤ i → RunsTo world [] (schedule (take i world.acts)) s → s.scene.lines ≡ history world
+whole_history world i s whole runs =
+    runs.scene_stands.lines ∙ ap (λ (xs : List Act). reverse (moment_of world (schedule xs)).past) (take_all i world.acts whole)
+
+-- the lines that are kept so far are taken away
+pub forgotten : (world : World) (gone : List Line) (events : List Event) (s s' : Stage) → s'.ground ≡ s.ground → s'.seats.items ≡ s.seats.items → s'.scene.region ≡ s.scene.region → s'.scene.device ≡ s.scene.device →
+    s'.scene.unspent ≡ s.scene.unspent → s'.scene.lines ≡ [] → RunsTo world gone events s → RunsTo world (gone ++ s.scene.lines) events s'
+forgotten world gone events s s' ground seats region device unspent lines runs = record {
+  there = runs.there;
+  geometry = ap (λ g. g.geometry) ground ∙ runs.geometry;
+  queue = ap (λ g. g.queue) ground ∙ runs.queue;
+  scene_stands = record {
+    is_world = runs.scene_stands.is_world;
+    shape = ap (λ r. r.shape) region ∙ runs.scene_stands.shape;
+    lines = ap (λ ls. (gone ++ s.scene.lines) ++ ls) lines ∙ append-nil (gone ++ s.scene.lines) ∙ runs.scene_stands.lines;
+    frames = rw lines refl;
+    words = rw region runs.scene_stands.words;
+    devices = rw device runs.scene_stands.devices;
+    unspent = λ p. let u = runs.scene_stands.unspent p in rw unspent u;
+    seats = rw unspent runs.scene_stands.seats;
+  };
+  count = ap length seats ∙ runs.count;
+  seated = λ p below. let old = runs.seated p below in record {
+    in_region = rw region old.in_region;
+    in_devices = rw device old.in_devices;
+    few = rw unspent old.few;
+  };
+  stands = λ p seat at. runs.stands p seat (subst (λ (xs : List Seat). slice_get xs p ≡ Some seat) seats at);
+  linked = λ p seat at. runs.linked p seat (subst (λ (xs : List Seat). slice_get xs p ≡ Some seat) seats at);
+}
+
+-- a seat that isn't one of an honest end sits
+pub sits_down : (who : Who) (peer : Peer) (seat : Seat) → is_honest seat ≡ false → SeatStands who peer seat → (peer.left ≡ Ended) × (peer.waiting ≡ [])
+sits_down who peer (Honest link) is stands = absurd (cc)
+sits_down who peer (Storm x) is stands = (stands.left, stands.waiting)
+sits_down who peer Idle is stands = (stands.left, stands.waiting)
+
+-- a write of a register that is neither State nor the Doorbell
+not_same : (a b : ℕ) → a ≢ b → (a == b) ≡ false
+not_same a b other = grind (arith, nat_tests)
+
+pub other_register : (p offset value : ℕ) → offset ≢ 0x10 → offset ≢ 0x0C → register_event p offset value ≡ Reached p (WritesRegister offset value)
+other_register p offset value state doorbell = rw (not_same offset 0x10 state, not_same offset 0x0C doorbell) refl
+
+pub state_register : (p offset value : ℕ) → offset ≡ 0x10 → register_event p offset value ≡ Acted p (access.State value)
+state_register p offset value is = rw is refl
+
+pub doorbell_register : (p offset value : ℕ) → offset ≡ 0x0C → register_event p offset value ≡ Acted p (access.Ring (value / 65536) (value % 65536))
+doorbell_register p offset value is = rw is refl
+
+pub below_peers : (p peers : ℕ) → nat_lt p peers ≡ true → p < peers
+below_peers p peers is = grind (arith, nat_tests)
+
+-- what an act that is allowed asks for
+pub act_fits : (world : World) (act : Act) → IsWorld world → IsAct world act → AllByRecursion (IsThere world) (events_of act ++ [])
+act_fits world act is allowed = act_there world act [] is.geometry.two_peers allowed.1.peer allowed.1.frame tt
+
+-- an act of one event is played where its event happens
+pub played_on : (a x : Act) (event : Event) (old new : Stage) → a ≡ x → events_of x ≡ event ∷ [] → Happens event old new → Plays a old new
+played_on a x event old new is one happens = λ world gone events allowed runs.
+    let fits = act_fits world x runs.scene_stands.is_world (subst (λ (b : Act). IsAct world b) is allowed) in
+    let there : AllByRecursion (IsThere world) ((event ∷ []) ++ []) = subst (λ (es : List Event). AllByRecursion (IsThere world) (es ++ [])) one fits in
+    subst (λ (b : Act). RunsTo world gone (events ++ events_of b) new) (sym is)
+    (subst (λ (es : List Event). RunsTo world gone (events ++ es) new) (sym one) (happens world gone events there.0 runs))
+
+pub played : {T E : Type 0} (result : Result T E) (a x : Act) (event : Event) (old new : Stage) → a ≡ x → events_of x ≡ event ∷ [] → OnOk result (Happens event old new) → OnOk result (Plays a old new)
+played (Ok t) a x event old new is one happens = played_on a x event old new is one happens
+played (Err e) a x event old new is one happens = tt
+
+-- so are turns
+turns_on : (a : Act) (peer steps : ℕ) (old new : Stage) → a ≡ act.Turn peer steps →
+    ((world : World) (gone : List Line) (events : List Event) → IsThere world (Turned peer) → RunsTo world gone events old → RunsTo world gone (events ++ replicate steps (Turned peer)) new) → Plays a old new
+turns_on a peer steps old new is turns = λ world gone events allowed runs.
+    let here : IsAct world (act.Turn peer steps) = subst (λ (b : Act). IsAct world b) is allowed in
+    subst (λ (b : Act). RunsTo world gone (events ++ events_of b) new) (sym is) (turns world gone events (below_peers peer world.geometry.peers here.1.peer) runs)
+
+pub played_turns : {T E : Type 0} (result : Result T E) (a : Act) (peer steps : ℕ) (old new : Stage) → a ≡ act.Turn peer steps →
+    OnOk result ((world : World) (gone : List Line) (events : List Event) → IsThere world (Turned peer) → RunsTo world gone events old → RunsTo world gone (events ++ replicate steps (Turned peer)) new) →
+    OnOk result (Plays a old new)
+played_turns (Ok t) a peer steps old new is turns = turns_on a peer steps old new is turns
+played_turns (Err e) a peer steps old new is turns = tt
+
+-- how many losses acts ask for
+abbrev loses_by : Event → ℕ → ℕ
+loses_by (Loses p) q = if p == q then 1 else 0
+loses_by (Asked p call) q = 0
+loses_by (Automated p expected) q = 0
+loses_by (Stormed p seed) q = 0
+loses_by (Turned p) q = 0
+loses_by (Acted p a) q = 0
+loses_by (WasReset p) q = 0
+loses_by (Reached p a) q = 0
+loses_by (Repeated p vector) q = 0
+
+abbrev loses_in : List Event → ℕ → ℕ
+loses_in [] q = 0
+loses_in (event ∷ events) q = loses_by event q + loses_in events q
+
+one_loss : (p q n : ℕ) (b : Bool) → (if b then n + 1 else n) ≡ n + (if b then 1 else 0)
+one_loss p q n true = refl
+one_loss p q n false = omega arith
+
+losses_by : (event : Event) (losses : ℕ → ℕ) (q : ℕ) → losses_with event losses q ≡ losses q + loses_by event q
+losses_by (Loses p) losses q = one_loss p q (losses q) (p == q)
+losses_by (Asked p call) losses q = omega arith
+losses_by (Automated p expected) losses q = omega arith
+losses_by (Stormed p seed) losses q = omega arith
+losses_by (Turned p) losses q = omega arith
+losses_by (Acted p a) losses q = omega arith
+losses_by (WasReset p) losses q = omega arith
+losses_by (Reached p a) losses q = omega arith
+losses_by (Repeated p vector) losses q = omega arith
+
+losses_run : (world : World) (events : List Event) (moment : Moment) (q : ℕ) → (run world events moment).losses q ≡ moment.losses q + loses_in events q
+losses_run world [] moment q = omega arith
+losses_run world (event ∷ events) moment q =
+    let rest = losses_run world events (happens world moment event) q in
+    let here = losses_by event moment.losses q in omega arith
+
+loses_append : (xs ys : List Event) (q : ℕ) → loses_in (xs ++ ys) q ≡ loses_in xs q + loses_in ys q
+loses_append [] ys q = omega arith
+loses_append (x ∷ xs) ys q = let rest = loses_append xs ys q in omega arith
+
+turns_lose : (n p q : ℕ) → loses_in (replicate n (Turned p)) q ≡ 0
+turns_lose zero p q = refl
+turns_lose (suc n) p q = let rest = turns_lose n p q in omega arith
+
+at_most_one : (b : Bool) → (if b then 1 else 0) + 0 ≤ 1
+at_most_one true = omega arith
+at_most_one false = omega arith
+
+register_loses : (p offset value q : ℕ) (b c : Bool) → (offset == 0x10) ≡ b → (offset == 0x0C) ≡ c → loses_in (register_event p offset value ∷ []) q ≤ 1
+register_loses p offset value q true c is is' = rw is (omega arith)
+register_loses p offset value q false true is is' = rw (is, is') (omega arith)
+register_loses p offset value q false false is is' = rw (is, is') (omega arith)
+
+act_loses : (act : Act) (q : ℕ) → loses_in (events_of act) q ≤ 1
+act_loses (act.Tick p) q = omega arith
+act_loses (act.Offer p frame) q = omega arith
+act_loses (act.Poll p) q = omega arith
+act_loses (act.Stop p) q = omega arith
+act_loses (act.Auto p expected) q = omega arith
+act_loses (act.Storm p seed) q = omega arith
+act_loses (act.Turn p steps) q = let none = turns_lose steps p q in omega arith
+act_loses (act.Reset p) q = omega arith
+act_loses (act.Poke p word value) q = omega arith
+act_loses (act.Peek p word) q = omega arith
+act_loses (act.Set p value) q = omega arith
+act_loses (act.Ring p target vector) q = omega arith
+act_loses (act.CfgRead p offset width) q = omega arith
+act_loses (act.CfgWrite p offset width value) q = omega arith
+act_loses (act.MmioRead p offset) q = omega arith
+act_loses (act.MmioWrite p offset value) q = register_loses p offset value q _ _ refl refl
+act_loses (act.MsixRead p offset) q = omega arith
+act_loses (act.MsixWrite p offset value) q = omega arith
+act_loses (act.Lose p) q = at_most_one (p == q)
+act_loses (act.Again p vector) q = omega arith
+
+acts_lose : (acts : List Act) (q : ℕ) → loses_in (schedule acts) q ≤ length acts
+acts_lose [] q = omega arith
+acts_lose (act ∷ acts) q =
+    let whole = loses_append (events_of act) (schedule acts) q in
+    let here = act_loses act q in
+    let rest = acts_lose acts q in omega arith
+
+-- so many acts ask for no more losses
+pub losses_few : (world : World) (acts : List Act) (i : ℕ) (q : ℕ) → (moment_of world (schedule (take i acts))).losses q ≤ i
+losses_few world acts i q =
+    let all = losses_run world (schedule (take i acts)) (beginning world) q in
+    let few = acts_lose (take i acts) q in
+    let count = length-take i acts in omega arith
+
+-- an element that is there doesn't depend on what would stand in its place
+pub same_or : (xs : List Seat) (p : ℕ) (d : Seat) → p < length xs → get_or xs p d ≡ get_or xs p (get_or xs p d)
+same_or [] p d below = absurd (omega arith)
+same_or (x ∷ xs) zero d below = refl
+same_or (x ∷ xs) (suc p) d below = same_or xs p d (omega arith)
+
+two_below : (p : ℕ) (flag : Bool) → (nat_lt p 2 && flag) ≡ true → p < 2
+two_below p flag is = grind (arith, nat_tests)
+
+-- an act of a call is for an honest end of the link, and a storm is for none
+pub call_linked : (world : World) (gone : List Line) (events : List Event) (s : Stage) (p : ℕ) → RunsTo world gone events s → (nat_lt p 2 && slice_index_or world.honest p false) ≡ true → IsLinked s.seats.items p
+call_linked world gone events s p runs is = let two = runs.scene_stands.is_world.geometry.two_peers in let below = two_below p _ is in linked_there world gone events s p runs (omega arith) is
+
+pub hostile_below : (p peers : ℕ) (flag : Bool) → (nat_lt p peers && not flag) ≡ true → p < peers
+hostile_below p peers flag is = grind (arith, nat_tests)
+
+last_false : (b : Bool) → (b && false) ≡ true → ⊥
+last_false true is = cc
+last_false false is = cc
+
+and_false : (b : Bool) → (b && false) ≡ false
+and_false true = refl
+and_false false = refl
+
+pub hostile_unlinked : (p peers : ℕ) (flag : Bool) → (nat_lt p peers && not flag) ≡ true → (nat_lt p 2 && flag) ≡ false
+hostile_unlinked p peers true is = absurd (last_false (nat_lt p peers) is)
+hostile_unlinked p peers false is = and_false (nat_lt p 2)
+
+-- the act at a place of a scenario is one of it
+pub act_at : (world : World) (i : ℕ) (a : Act) → IsWorld world → i < length world.acts → a ≡ get_or world.acts i a → IsAct world a
+act_at world i a is inside at = (take i world.acts, is.allowed i a (slice_get-get_or world.acts i a inside ∙ ap Some (sym at)))

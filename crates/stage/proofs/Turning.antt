@@ -1,0 +1,310 @@
+-- The turn of an honest end of the link.
+use Rattle.std.proofs.Common.{◌≡◌, ℕ, zero, suc, ◌+◌, ◌*◌, ◌<◌, ◌≤◌, Bool, true, false, List, [], ◌∷◌, ◌++◌, length, take, get_or, refl, sym, ◌∙◌, ap, subst, arith, inl, inr}
+use Rattle.std.specs.Prelude.{Option, Some, None, ◌&&◌, reverse, map, drop}
+use Rattle.std.proofs.Math.Nat.{mul-le-mul_right}
+use Rattle.std.proofs.lemmas.List.{reverse-append, take_more, map-append}
+use Rattle.split_ring.specs.declared.steps.Access.{Access}
+use Rattle.split_ring.specs.declared.steps.Access.TheVariants as access
+use Rattle.split_ring.specs.declared.steps.Note.{Note}
+use Rattle.scenario_text.specs.Scenario.{World, IsWorld}
+use Rattle.call_grammar.specs.Steps.{Mark, Saw, Reclaim, Full, Accept, Look, Deliver, Return, Done, Down, Refuse, Over, Step, value_given, step_of}
+use Rattle.call_grammar.specs.Trees.{CallTree, Ended}
+use Rattle.call_grammar.specs.Ends.{End, end_after}
+use Rattle.call_grammar.specs.Calls.{Who}
+use Rattle.call_grammar.specs.Calls as calls
+use Rattle.call_grammar.specs.Places as places
+use Rattle.call_grammar.specs.Places.{Place, Closed, remaining, access_at, marks_at, next_place, step_at, is_open, PlacesFollowTrees}
+use Rattle.call_grammar.specs.Reach.{InReach}
+use Rattle.link_endpoint.specs.declared.place.Place as ends
+use Rattle.link_endpoint.specs.declared.place.Place.TheVariants as seats
+use Rattle.link_endpoint.specs.Engine.{Engine, is_open_at, is_busy, offered, delivered}
+use Rattle.link_endpoint.specs.Stands.{StandsAt, IsAt, goes_on, Takes, mark_between, marks_between}
+use Rattle.link_endpoint.specs.Plan.{Plan}
+use Rattle.lawful_history.specs.declared.line.Line.{Line}
+use Rattle.lawful_history.specs.declared.line.Line.TheVariants as line
+use Rattle.lawful_history.specs.Sides.{who_of}
+use Rattle.lawful_history.specs.Entries.{mark_line, turn_lines}
+use Rattle.lawful_history.specs.Peers.{Auto, Driver, Waits, Chooses, Storms, Peer, asked_by, asked, counted, counted_all, driver_after, stepped, chosen, opened_by, opened}
+use Rattle.lawful_history.specs.Device.{step_interrupts}
+use Rattle.lawful_history.specs.History.{driven_step, driven, step_by, moved_by, moved, turn_step, turned}
+use Rattle.lawful_history.specs.Frames.{has_frame, HaveFrames}
+use Rattle.stage.specs.Scene.{SceneStands, IsRemark, CanPerform, GaveLast, accessed}
+use Rattle.stage.specs.declared.scene.Scene.{Scene}
+use Rattle.stage.specs.declared.link.Link.{Link}
+use Rattle.stage.specs.declared.link.Waiting.TheVariants as waiting
+use Rattle.lawful_history.specs.Storm.{next_number, draw, drawn_access, storm_step, storm_after}
+use Rattle.lawful_history.proofs.Exists.{ring_words, storm_does}
+use Rattle.stage.specs.Seats.{call_of, IsPlanOf, DriverIs, LinkStands, SitsBy, IsPlaced}
+use Rattle.stage.proofs.AtPlaces.{rings_other}
+use Rattle.stage.proofs.Framing.{marks_after, marks_frames, next_frames}
+use Rattle.stage.proofs.Steps.{lines_are, step_taken}
+use Rattle.stage.proofs.Openings.{shut_left}
+
+-- Notes as lines
+
+-- a mark changes no word and tells the devices nothing
+pub mark_remark : (me : ℕ) (mark : Mark) → has_frame (mark_line me mark) ≡ true → IsRemark (mark_line me mark)
+mark_remark me (Saw value) has = record { touch = refl; told = refl; lost = λ p. refl; frame = refl }
+mark_remark me (Reclaim count) has = record { touch = refl; told = refl; lost = λ p. refl; frame = refl }
+mark_remark me Full has = record { touch = refl; told = refl; lost = λ p. refl; frame = refl }
+mark_remark me (Accept frame) has = record { touch = refl; told = refl; lost = λ p. refl; frame = has }
+mark_remark me (Look count) has = record { touch = refl; told = refl; lost = λ p. refl; frame = refl }
+mark_remark me (Deliver frame) has = record { touch = refl; told = refl; lost = λ p. refl; frame = has }
+mark_remark me Return has = record { touch = refl; told = refl; lost = λ p. refl; frame = refl }
+mark_remark me Done has = record { touch = refl; told = refl; lost = λ p. refl; frame = refl }
+mark_remark me Down has = record { touch = refl; told = refl; lost = λ p. refl; frame = refl }
+mark_remark me (Refuse refused) has = record { touch = refl; told = refl; lost = λ p. refl; frame = refl }
+mark_remark me Over has = record { touch = refl; told = refl; lost = λ p. refl; frame = refl }
+
+both : (a b : Bool) → (a && b) ≡ true → (a ≡ true) × (b ≡ true)
+both true true is = (refl, refl)
+both true false is = absurd (cc)
+both false b is = absurd (cc)
+
+-- the frame of one note among some
+pub frame_at : (me : ℕ) (one other : List ℕ) (notes : List Note) (i : ℕ) (note : Note) → HaveFrames (map (mark_line me) (marks_between one other notes)) → i < length notes → note ≡ get_or notes i note →
+    has_frame (mark_line me (mark_between one other note)) ≡ true
+frame_at me one other [] i note has inside is = absurd (omega arith)
+frame_at me one other (x ∷ notes) zero note has inside is = subst (λ (n : Note). has_frame (mark_line me (mark_between one other n)) ≡ true) (sym is) (both _ _ has).0
+frame_at me one other (x ∷ notes) (suc i) note has inside is = frame_at me one other notes i note (both _ _ has).1 (omega arith) is
+
+-- one line more
+pub one_note : (me : ℕ) (one other : List ℕ) (notes : List Note) (i : ℕ) (note : Note) (past : List Line) → i < length notes → note ≡ get_or notes i note →
+    reverse (map (mark_line me) (marks_between one other (take (i + 1) notes))) ++ past ≡ mark_line me (mark_between one other note) ∷ (reverse (map (mark_line me) (marks_between one other (take i notes))) ++ past)
+one_note me one other notes i note past inside is =
+    let f : Note → Line = λ n. mark_line me (mark_between one other n) in
+    let first = map (mark_line me) (marks_between one other (take i notes)) in
+    let taken : take (i + 1) notes ≡ take i notes ++ note ∷ [] = take_more notes i note inside ∙ ap (λ (n : Note). take i notes ++ n ∷ []) (sym is) in
+    ap (λ ns. reverse (map (mark_line me) (marks_between one other ns)) ++ past) taken
+    ∙ ap (λ ms. reverse (map (mark_line me) ms) ++ past) (map-append (mark_between one other) (take i notes) (note ∷ []))
+    ∙ ap (λ ls. reverse ls ++ past) (map-append (mark_line me) (marks_between one other (take i notes)) (mark_between one other note ∷ []))
+    ∙ ap (λ ls. ls ++ past) (reverse-append first (f note ∷ []))
+
+-- one count more
+counted-snoc : (auto : Auto) (marks : List Mark) (mark : Mark) → counted_all auto (marks ++ mark ∷ []) ≡ counted (counted_all auto marks) mark
+counted-snoc auto [] mark = refl
+counted-snoc auto (x ∷ marks) mark = counted-snoc (counted auto x) marks mark
+
+pub one_count : (auto : Auto) (one other : List ℕ) (notes : List Note) (i : ℕ) (note : Note) → i < length notes → note ≡ get_or notes i note →
+    counted_all auto (marks_between one other (take (i + 1) notes)) ≡ counted (counted_all auto (marks_between one other (take i notes))) (mark_between one other note)
+one_count auto one other notes i note inside is =
+    let taken : take (i + 1) notes ≡ take i notes ++ note ∷ [] = take_more notes i note inside ∙ ap (λ (n : Note). take i notes ++ n ∷ []) (sym is) in
+    ap (λ ns. counted_all auto (marks_between one other ns)) taken ∙ ap (λ ms. counted_all auto ms) (map-append (mark_between one other) (take i notes) (note ∷ []))
+    ∙ counted-snoc auto (marks_between one other (take i notes)) (mark_between one other note)
+
+-- the plan after the accepted head, or where there is none
+pub head_gone : (plan new : Plan) (auto : Auto) (frame : List ℕ) → IsPlanOf plan auto → plan.frames ≡ frame ∷ new.frames → new ≡ record plan { frames = new.frames } → IsPlanOf new (record auto { frames = drop 1 auto.frames })
+head_gone plan new auto frame is head kept =
+    let frames : new.frames ≡ drop 1 auto.frames = ap (λ fs. drop 1 fs) (sym head) ∙ ap (λ fs. drop 1 fs) is.frames in
+    record {
+      frames = frames;
+      expected = ap (λ (p : Plan). p.expected) kept ∙ is.expected;
+      delivered = rw kept is.delivered;
+      round = ap (λ (p : Plan). p.round) kept ∙ is.round;
+    }
+
+pub no_head_gone : (plan : Plan) (auto : Auto) → IsPlanOf plan auto → plan.frames ≡ [] → IsPlanOf plan (record auto { frames = drop 1 auto.frames })
+no_head_gone plan auto is none =
+    let frames : auto.frames ≡ [] = sym is.frames ∙ none in
+    record { frames = none ∙ ap (λ fs. drop 1 fs) (sym frames); expected = is.expected; delivered = is.delivered; round = is.round }
+
+-- The next step
+
+goes_open : (place : Place) → goes_on place ≡ true → true ≡ is_open place
+goes_open Closed is = absurd (cc)
+goes_open places.Refusing is = absurd (cc)
+goes_open _ is = refl
+
+open_at : (at : ends.Place) (e : Engine) (who : Who) (end : End) (place : Place) → IsAt at e who end place → is_open_at at ≡ is_open place
+open_at seats.Closed e who end place is = ap is_open (sym is.0)
+open_at seats.Looking e who end place is = ap is_open (sym is.0)
+open_at (seats.Clearing at state) e who end place is = ap is_open (sym is.0)
+open_at (seats.Setting state) e who end place is = ap is_open (sym is.0)
+open_at seats.Refusing e who end place is = ap is_open (sym is.0)
+open_at seats.Downed e who end place is = ap is_open (sym is.0)
+open_at seats.Offering e who end place is = goes_open place is.0
+open_at seats.Polling e who end place is = goes_open place is.0
+
+-- an endpoint is busy where a call is open
+pub busy_is : (e : Engine) (who : Who) (end : End) (place : Place) → StandsAt e who end place → is_busy e ≡ is_open place
+busy_is e who end place stands = open_at e.place e who end place stands.at
+
+pub busy_next : (e e' : Engine) (value : ℕ) (notes : List Note) (who : Who) (end : End) (place : Place) → Takes e value notes e' → StandsAt e who end place → is_busy e' ≡ is_open (next_place who place value)
+busy_next e e' value notes who end place took stands = busy_is e' who (end_after end (step_at who place value)) (next_place who place value) (took.stands who end place stands)
+
+section_fits : (other peers out : ℕ) → other < peers → other * out + out ≤ peers * out
+section_fits other peers out below = let h : (other + 1) * out ≤ peers * out = mul-le-mul_right out (omega arith) in omega arith
+
+-- an access in reach can be performed
+pub can : (scene : Scene) (me : ℕ) (who : Who) (a : Access) → IsPlaced scene.region.shape me who → InReach who a → ((t v : ℕ) → a ≡ access.Ring t v → (t ≡ who.other) × (v ≡ who.vector)) → CanPerform scene me a
+can scene me who (access.Read word) placed (inl is) rings =
+    let states = placed.is_shape.states in let other = placed.other in omega arith
+can scene me who (access.Read word) placed (inr there) rings =
+    let fits = section_fits who.other scene.region.shape.peers scene.region.shape.out placed.other in
+    let theirs = placed.theirs in
+    let words = placed.words in
+    let high = there.1 in omega arith
+can scene me who (access.Write word value) placed reach rings =
+    let own = placed.own in let words = placed.words in let low = reach.0 in let high = reach.1 in inl (omega arith, omega arith)
+can scene me who (access.State state) placed reach rings = tt
+can scene me who (access.Ring target vector) placed reach rings =
+    let at = rings target vector refl in
+    let target_is = at.0 in
+    let vector_is = at.1 in
+    let other = placed.other in
+    let most = placed.is_shape.most_peers in
+    let small = placed.vector in (omega arith, omega arith)
+can scene me who access.Nothing placed reach rings = tt
+
+pub rings_of : (who : Who) (place : Place) (a : Access) → a ≡ access_at who place → (t v : ℕ) → a ≡ access.Ring t v → (t ≡ who.other) × (v ≡ who.vector)
+rings_of who place a is t v rings = rings_other who place t v (sym is ∙ rings)
+
+-- the marks of the step after it
+pub marks_now : (e e' : Engine) (value : ℕ) (notes : List Note) (who : Who) (end : End) (place : Place) → Takes e value notes e' → StandsAt e who end place → is_busy e' ≡ is_open (next_place who place value) →
+    marks_between (offered e') (delivered e') notes ≡ marks_at who place value
+marks_now e e' value notes who end place took stands busy = marks_after who place value (offered e) (offered e') (delivered e') notes (is_busy e') (took.marked who end place stands) busy took.offered
+
+pub frames_now : (me : ℕ) (e e' : Engine) (value : ℕ) (notes : List Note) (who : Who) (peer : Peer) (link : Link) (stands : LinkStands who peer link) → Takes link.end value notes e' → is_busy e' ≡ is_open (next_place who stands.place value) →
+    HaveFrames (map (mark_line me) (marks_between (offered e') (delivered e') notes))
+frames_now me e e' value notes who peer link stands took busy =
+    subst (λ (ms : List Mark). HaveFrames (map (mark_line me) ms)) (sym (marks_now link.end e' value notes who peer.end stands.place took stands.end busy)) (marks_frames me who stands.place value stands.frames)
+
+-- where the link stands after a step
+pub steps_on : (who : Who) (peer : Peer) (link link' : Link) (stands : LinkStands who peer link) (value : ℕ) (notes : List Note) → Takes link.end value notes link'.end → is_busy link'.end ≡ is_open (next_place who stands.place value) →
+    link'.waiting ≡ link.waiting → DriverIs link'.auto (driver_after peer.driver (marks_between (offered link'.end) (delivered link'.end) notes)) →
+    LinkStands who (stepped peer (step_at who stands.place value) (remaining who (next_place who stands.place value))) link'
+steps_on who peer link link' stands value notes took busy waits driver = record {
+  place = next_place who stands.place value;
+  end = took.stands who peer.end stands.place stands.end;
+  left = refl;
+  frames = next_frames who stands.place value stands.frames;
+  waiting = ap (λ w. map call_of w.items) waits ∙ stands.waiting;
+  driver = subst (λ (ms : List Mark). DriverIs link'.auto (driver_after peer.driver ms)) (marks_now link.end link'.end value notes who peer.end stands.place took stands.end busy) driver;
+}
+
+pub driver_counts : (plan new : Plan) (driver : Driver) (marks : List Mark) → DriverIs (Some plan) driver → ((auto : Auto) → IsPlanOf plan auto → IsPlanOf new (counted_all auto marks)) → DriverIs (Some new) (driver_after driver marks)
+driver_counts plan new driver marks is counts =
+    (counted_all is.0 marks, ap (λ (d : Driver). driver_after d marks) is.1, counts is.0 is.2)
+
+pub driver_waits : (plan : Option Plan) (driver : Driver) (marks : List Mark) → plan ≡ None → DriverIs plan driver → DriverIs plan (driver_after driver marks)
+driver_waits plan driver marks none is =
+    let waits : driver ≡ Waits = subst (λ (o : Option Plan). DriverIs o driver) none is in
+    subst (λ (o : Option Plan). DriverIs o (driver_after driver marks)) (sym none) (ap (λ (d : Driver). driver_after d marks) waits)
+
+-- the whole step
+pub carried : PlacesFollowTrees → (world : World) (gone past : List Line) (losses : ℕ → ℕ) (me : ℕ) (peer : Peer) (link link' : Link) (scene scene' : Scene) (a : Access) (value : ℕ) (notes : List Note) (stands : LinkStands (who_of world me) peer link) →
+    is_open stands.place ≡ true → a ≡ access_at (who_of world me) stands.place → GaveLast past a value × SceneStands world gone (reverse (accessed world past losses me a value) ++ past) losses scene →
+    Takes link.end value notes link'.end → is_busy link'.end ≡ is_open (next_place (who_of world me) stands.place value) → link'.waiting ≡ link.waiting →
+    DriverIs link'.auto (driver_after peer.driver (marks_between (offered link'.end) (delivered link'.end) notes)) →
+    ((w : World) (g p : List Line) (l : ℕ → ℕ) → SceneStands w g p l scene → SceneStands w g (reverse (map (mark_line me) (marks_between (offered link'.end) (delivered link'.end) notes)) ++ p) l scene') →
+    SceneStands world gone (reverse (turn_lines me (step_by world me peer.driver peer.left past) (step_interrupts world past losses me (step_by world me peer.driver peer.left past))) ++ past) losses scene'
+    × LinkStands (who_of world me) (moved peer past) link'
+carried follow world gone past losses me peer link link' scene scene' a value notes stands opens is performed took busy waits driver tell =
+    let who = who_of world me in
+    let told = tell world gone (reverse (accessed world past losses me a value) ++ past) losses performed.1 in
+    let marks : marks_between (offered link'.end) (delivered link'.end) notes ≡ marks_at who stands.place value = marks_now link.end link'.end value notes who peer.end stands.place took stands.end busy in
+    step_taken follow world past losses me peer stands.place a value (λ ls x. SceneStands world gone ls losses scene' × LinkStands who x link') stands.left opens is performed.0 (
+      subst (λ (ms : List Mark). SceneStands world gone (reverse (map (mark_line me) ms) ++ (reverse (accessed world past losses me a value) ++ past)) losses scene') marks told,
+      steps_on who peer link link' stands value notes took busy waits driver,
+    )
+
+-- A turn without a step
+
+none_driven : (world : World) (p : ℕ) (peer : Peer) (plan : Option Plan) (driver : Driver) → DriverIs plan driver → (driven_step world p driver ≡ None) × (driven peer driver ≡ peer)
+none_driven world p peer None driver is = (ap (λ (d : Driver). driven_step world p d) is, ap (λ (d : Driver). driven peer d) is)
+none_driven world p peer (Some plan) driver is = (ap (λ (d : Driver). driven_step world p d) is.1, ap (λ (d : Driver). driven peer d) is.1)
+
+-- an end with no call is idle
+pub idles : (world : World) (gone past : List Line) (losses : ℕ → ℕ) (me : ℕ) (peer : Peer) (link : Link) (scene : Scene) (stands : LinkStands (who_of world me) (opened (who_of world me) peer) link) → is_open stands.place ≡ false →
+    SceneStands world gone (line.Idle me ∷ past) losses scene →
+    SceneStands world gone (reverse (turn_lines me (turn_step world me peer past) (step_interrupts world past losses me (turn_step world me peer past))) ++ past) losses scene
+    × LinkStands (who_of world me) (turned world me peer past) link
+idles world gone past losses me peer link scene stands shut scene_stands =
+    let who = who_of world me in
+    let next = opened who peer in
+    let none : next.left ≡ Ended = shut_left who next link stands shut in
+    let still = none_driven world me next link.auto next.driver stands.driver in
+    let step_is : turn_step world me peer past ≡ None = ap (λ (t : CallTree). step_by world me next.driver t past) none ∙ still.0 in
+    let turned_is : turned world me peer past ≡ next = ap (λ (t : CallTree). moved_by next t past) none ∙ still.1 in (
+      subst (λ (w : Option Step). SceneStands world gone (reverse (turn_lines me w (step_interrupts world past losses me w)) ++ past) losses scene) (sym step_is) scene_stands,
+      subst (λ (x : Peer). LinkStands who x link) (sym turned_is) stands,
+    )
+
+-- a frame that is put after those of an automatic peer
+pub frame_added : (who : Who) (peer : Peer) (link link' : Link) (plan new : Plan) (frame : List ℕ) → LinkStands who peer link → link.auto ≡ Some plan → link'.end ≡ link.end → link'.waiting ≡ link.waiting → link'.auto ≡ Some new →
+    new ≡ record plan { frames = plan.frames ++ frame ∷ [] } → LinkStands who (asked peer (call_of (waiting.Offer frame))) link'
+frame_added who peer link link' plan new frame stands has end_is waiting_is auto_is new_is =
+    let d : (auto : Auto) × (peer.driver ≡ Chooses auto) × IsPlanOf plan auto = subst (λ (o : Option Plan). DriverIs o peer.driver) has stands.driver in
+    let auto = d.0 in
+    let next : Peer = record peer { driver = Chooses (record auto { frames = auto.frames ++ frame ∷ [] }) } in
+    let plan_is : IsPlanOf new (record auto { frames = auto.frames ++ frame ∷ [] }) =
+    rw new_is (record { frames = ap (λ fs. fs ++ frame ∷ []) d.2.frames; expected = d.2.expected; delivered = d.2.delivered; round = d.2.round }) in
+    let now : LinkStands who next link' = record {
+      place = stands.place;
+      end = rw end_is stands.end;
+      left = stands.left;
+      frames = stands.frames;
+      waiting = ap (λ w. map call_of w.items) waiting_is ∙ stands.waiting;
+      driver = subst (λ (o : Option Plan). DriverIs o (Chooses (record auto { frames = auto.frames ++ frame ∷ [] }))) (sym auto_is) (record auto { frames = auto.frames ++ frame ∷ [] }, refl, plan_is);
+    } in
+    subst (λ (x : Peer). LinkStands who x link') (sym (ap (λ (dr : Driver). asked_by peer dr (calls.Offer frame)) d.1)) now
+
+-- A peer without an end of the link
+
+none_opened : (who : Who) (peer : Peer) (driver : Driver) → peer.left ≡ Ended → peer.waiting ≡ [] → peer.driver ≡ driver → opened who peer ≡ chosen who peer driver
+none_opened who peer driver left waits is =
+    ap (λ (t : CallTree). opened_by who peer t peer.waiting) left ∙ ap (λ (w : List calls.Call). opened_by who peer Ended w) waits ∙ ap (λ (d : Driver). chosen who peer d) is
+
+pub idle_turn : (world : World) (gone past : List Line) (losses : ℕ → ℕ) (me : ℕ) (peer : Peer) (scene : Scene) → SitsBy Waits peer → SceneStands world gone (line.Idle me ∷ past) losses scene →
+    SceneStands world gone (reverse (turn_lines me (turn_step world me peer past) (step_interrupts world past losses me (turn_step world me peer past))) ++ past) losses scene
+    × SitsBy Waits (turned world me peer past)
+idle_turn world gone past losses me peer scene sits scene_stands =
+    let who = who_of world me in
+    let same : opened who peer ≡ peer = none_opened who peer Waits sits.left sits.waiting sits.driver in
+    let step_is : turn_step world me peer past ≡ None =
+    ap (λ (p : Peer). step_by world me p.driver p.left past) same ∙ ap (λ (t : CallTree). step_by world me peer.driver t past) sits.left ∙ ap (λ (d : Driver). driven_step world me d) sits.driver in
+    let turned_is : turned world me peer past ≡ peer =
+    ap (λ (p : Peer). moved p past) same ∙ ap (λ (t : CallTree). moved_by peer t past) sits.left ∙ ap (λ (d : Driver). driven peer d) sits.driver in (
+      subst (λ (w : Option Step). SceneStands world gone (reverse (turn_lines me w (step_interrupts world past losses me w)) ++ past) losses scene) (sym step_is) scene_stands,
+      subst (λ (x : Peer). SitsBy Waits x) (sym turned_is) sits,
+    )
+
+pub storm_turn : (world : World) (gone past : List Line) (losses : ℕ → ℕ) (me x next : ℕ) (peer : Peer) (scene : Scene) → SitsBy (Storms x) peer → next ≡ storm_after x →
+    SceneStands world gone (reverse (turn_lines me (Some (storm_step world me x)) (step_interrupts world past losses me (Some (storm_step world me x)))) ++ past) losses scene →
+    SceneStands world gone (reverse (turn_lines me (turn_step world me peer past) (step_interrupts world past losses me (turn_step world me peer past))) ++ past) losses scene
+    × SitsBy (Storms next) (turned world me peer past)
+storm_turn world gone past losses me x next peer scene sits next_is scene_stands =
+    let who = who_of world me in
+    let same : opened who peer ≡ peer = none_opened who peer (Storms x) sits.left sits.waiting sits.driver in
+    let step_is : turn_step world me peer past ≡ Some (storm_step world me x) =
+    ap (λ (p : Peer). step_by world me p.driver p.left past) same ∙ ap (λ (t : CallTree). step_by world me peer.driver t past) sits.left ∙ ap (λ (d : Driver). driven_step world me d) sits.driver in
+    let turned_is : turned world me peer past ≡ record peer { driver = Storms (storm_after x) } =
+    ap (λ (p : Peer). moved p past) same ∙ ap (λ (t : CallTree). moved_by peer t past) sits.left ∙ ap (λ (d : Driver). driven peer d) sits.driver in (
+      subst (λ (w : Option Step). SceneStands world gone (reverse (turn_lines me w (step_interrupts world past losses me w)) ++ past) losses scene) (sym step_is) scene_stands,
+      subst (λ (p : Peer). SitsBy (Storms next) p) (sym turned_is) (record { left = sits.left; waiting = sits.waiting; driver = ap Storms (sym next_is) }),
+    )
+
+-- what three draws do is no read, and nothing is given by it
+draws_nothing : (world : World) (p kind place value v : ℕ) → IsWorld world → value_given (drawn_access world p kind place value) v ≡ value_given (drawn_access world p kind place value) 0
+draws_nothing world p kind place value v is =
+    let ring = ring_words world.queue is.queue in
+    let least = ring.0 in
+    let most = ring.1 in
+    let out = is.out in
+    let page = is.geometry.out_page in
+    storm_does world p kind place value _ _ _ refl refl refl (omega arith) (omega arith) (omega arith) (λ (a : Access). value_given a v ≡ value_given a 0) (λ word low high. refl) (λ state. refl) (λ target vector. refl)
+
+-- the step of a storm that was performed
+pub storm_performed : (world : World) (gone past : List Line) (losses : ℕ → ℕ) (me x : ℕ) (scene : Scene) (a : Access) (value : ℕ) → IsWorld world →
+    a ≡ drawn_access world me (draw (next_number x)) (draw (next_number (next_number x))) (draw (next_number (next_number (next_number x)))) →
+    SceneStands world gone (reverse (accessed world past losses me a value) ++ past) losses scene →
+    SceneStands world gone (reverse (turn_lines me (Some (storm_step world me x)) (step_interrupts world past losses me (Some (storm_step world me x)))) ++ past) losses scene
+storm_performed world gone past losses me x scene a value is a_is scene_stands =
+    let kind = draw (next_number x) in
+    let place = draw (next_number (next_number x)) in
+    let drawn = draw (next_number (next_number (next_number x))) in
+    let access_is = drawn_access world me kind place drawn in
+    let step_is : step_of a value [] ≡ storm_step world me x =
+    ap (λ (b : Access). step_of b value []) a_is ∙ ap (λ v. record { access = access_is; value = v; marks = [] }) (draws_nothing world me kind place drawn value is) in
+    subst (λ (s : Step). SceneStands world gone (reverse (turn_lines me (Some s) (step_interrupts world past losses me (Some s))) ++ past) losses scene) step_is
+    (subst (λ (ls : List Line). SceneStands world gone ls losses scene) (lines_are world past losses me a value []) scene_stands)

@@ -1,0 +1,62 @@
+use Rattle.std.proofs.Common.{List, refl, sym, ◌∙◌, ap, subst}
+use Rattle.std.specs.Prelude.{Option, Some, map}
+use Rattle.split_ring.specs.declared.steps.Note.{Note}
+use Rattle.link_endpoint.specs.Engine.{offered, delivered}
+use Rattle.link_endpoint.specs.Stands.{Takes, marks_between}
+use Rattle.link_endpoint.specs.Plan.{Plan}
+use Rattle.lawful_history.specs.Sides.{who_of}
+use Rattle.lawful_history.specs.Entries.{mark_line}
+use Rattle.lawful_history.specs.Frames.{HaveFrames}
+use Rattle.stage.specs.Seats.{DriverIs}
+use Rattle.stage.proofs.Turning.{can, rings_of, busy_is, busy_next, frames_now, carried, driver_counts, driver_waits}
+use Rattle.stage.proofs.link.carry_on.Goals as goal
+
+pub perform-requires-clause-can : goal.perform-requires-clause-can
+perform-requires-clause-can c =
+    let stands = c.requires.stands.2 in
+    let who = c.requires.stands.0 in
+    let access_is = c.next-access.ensures.access who c.requires.stands.1.end stands.place stands.end in
+    can c.args.scene.now c.args.me c.args.link.now.end.who c.next-access.result c.requires.placed c.next-access.ensures.reach
+    (λ t v is. let at = rings_of who stands.place c.next-access.result access_is t v is in (at.0 ∙ ap (λ w. w.other) stands.end.made, at.1 ∙ ap (λ w. w.vector) stands.end.made))
+
+pub tell_notes-requires : goal.tell_notes-requires
+tell_notes-requires c =
+    let stands = c.requires.stands.2 in
+    let who = c.requires.stands.0 in
+    let peer = c.requires.stands.1 in
+    subst (λ (ns : List Note). HaveFrames (map (mark_line c.args.me) (marks_between (offered c.took-notes.new.self) (delivered c.took-notes.new.self) ns))) (sym c.as_slice.ensures.value)
+    (frames_now c.args.me c.args.link.now.end c.took-notes.new.self _ c.took-notes.result.items who peer c.args.link.now stands c.took-notes.ensures
+    (busy_next c.args.link.now.end c.took-notes.new.self _ c.took-notes.result.items who peer.end stands.place c.took-notes.ensures stands.end))
+
+pub returns-in_err-tell_notes-clause-seated : goal.returns-in_err-tell_notes-clause-seated
+returns-in_err-tell_notes-clause-seated c = λ q seated. c.tell_notes.ensures.seated q (c.perform.ensures.seated q seated)
+
+pub returns-in-Some-clause-seated : goal.returns-in-Some-clause-seated
+returns-in-Some-clause-seated c = λ q seated. c.tell_notes.ensures.seated q (c.perform.ensures.seated q seated)
+
+pub returns-in_default-clause-seated : goal.returns-in_default-clause-seated
+returns-in_default-clause-seated c = λ q seated. c.tell_notes.ensures.seated q (c.perform.ensures.seated q seated)
+
+pub returns-in-Some-clause-steps : goal.returns-in-Some-clause-steps
+returns-in-Some-clause-steps c = λ world gone past losses peer scene_stands stands.
+    let who = who_of world c.args.me in
+    let took : Takes c.args.link.now.end c.in_ok-value.value c.took-notes.result.items c.took-notes.new.self = c.took-notes.ensures in
+    let driver : DriverIs (Some c.in-Some.auto) peer.driver = subst (λ (o : Option Plan). DriverIs o peer.driver) c.in-Some.is stands.driver in
+    carried c.places_follow_trees.ensures world gone past losses c.args.me peer c.args.link.now _ c.perform.new.self c.tell_notes.new.scene c.next-access.result c.in_ok-value.value c.took-notes.result.items stands
+    (sym (busy_is c.args.link.now.end who peer.end stands.place stands.end) ∙ c.requires.open)
+    (c.next-access.ensures.access who peer.end stands.place stands.end) (c.in_ok-value.ensures.scene_stands world gone past losses scene_stands) took
+    (busy_next c.args.link.now.end c.took-notes.new.self c.in_ok-value.value c.took-notes.result.items who peer.end stands.place took stands.end) refl
+    (driver_counts c.in-Some.auto c.count_notes.new.auto peer.driver _ driver
+    (λ auto is. rw c.as_slice-in-Some.ensures.value at (c.count_notes.ensures auto (offered c.took-notes.new.self) (delivered c.took-notes.new.self) is)))
+    (λ w p l b. rw c.as_slice.ensures.value at (c.in_ok-tell_notes.ensures.scene_stands w p l b))
+
+pub returns-in_default-clause-steps : goal.returns-in_default-clause-steps
+returns-in_default-clause-steps c = λ world gone past losses peer scene_stands stands.
+    let who = who_of world c.args.me in
+    let took : Takes c.args.link.now.end c.in_ok-value.value c.took-notes.result.items c.took-notes.new.self = c.took-notes.ensures in
+    carried c.places_follow_trees.ensures world gone past losses c.args.me peer c.args.link.now _ c.perform.new.self c.tell_notes.new.scene c.next-access.result c.in_ok-value.value c.took-notes.result.items stands
+    (sym (busy_is c.args.link.now.end who peer.end stands.place stands.end) ∙ c.requires.open)
+    (c.next-access.ensures.access who peer.end stands.place stands.end) (c.in_ok-value.ensures.scene_stands world gone past losses scene_stands) took
+    (busy_next c.args.link.now.end c.took-notes.new.self c.in_ok-value.value c.took-notes.result.items who peer.end stands.place took stands.end) refl
+    (driver_waits c.args.link.now.auto peer.driver _ c.in_default.is stands.driver)
+    (λ w p l b. rw c.as_slice.ensures.value at (c.in_ok-tell_notes.ensures.scene_stands w p l b))

@@ -1,0 +1,37 @@
+use Rattle.std.proofs.Common.{refl, sym, ◌∙◌, ap, arith}
+use Rattle.std.specs.Prelude.{Some}
+use Rattle.std.proofs.lemmas.Option.{slice_get-get_or}
+use Rattle.lawful_history.specs.Schedule.{Turned}
+use Rattle.lawful_history.specs.Sides.{who_of}
+use Rattle.lawful_history.specs.History.{peer_at}
+use Rattle.stage.specs.Stage.{moment_of}
+use Rattle.stage.proofs.Runs.{fit_at, seat_goes_on, seat_fits}
+use Rattle.stage.proofs.stage.Stage.turn.Goals as goal
+
+pub turn-requires-clause-ground : goal.turn-requires-clause-ground
+turn-requires-clause-ground c =
+    let world = c.requires.0 in
+    let events = c.requires.2 in
+    let runs = c.requires.3 in
+    let below = c.requires.4 in
+    let count = runs.count in
+    let p = c.args.peer in
+    let here = slice_get-get_or c.args.self.now.seats.items p _ (omega arith) ∙ ap Some (sym c.index_mut-seat.ensures.value) in
+    let stands = runs.stands p _ here in (
+      world,
+      peer_at (moment_of world events) p,
+      record { is_world = runs.scene_stands.is_world; there = below; geometry = runs.geometry; queue = runs.queue },
+      runs.scene_stands.shape,
+      stands,
+      seat_fits (who_of world p) (peer_at (moment_of world events) p) _ stands (fit_at c.calls_stay_in_reach.ensures world events p runs.scene_stands.is_world runs.there),
+    )
+
+pub returns : goal.returns
+returns c = λ world gone events there runs.
+    let m = moment_of world events in
+    let p = c.args.peer in
+    let count = runs.count in
+    let here = slice_get-get_or c.args.self.now.seats.items p _ (omega arith) ∙ ap Some (sym c.index_mut-seat.ensures.value) in
+    let turned = c.in_ok-turn.ensures.turn world gone m.past m.losses (peer_at m p) (record { is_world = runs.scene_stands.is_world; there = there; geometry = runs.geometry; queue = runs.queue }) runs.scene_stands (runs.stands p _ here) in
+    seat_goes_on world gone events (Turned p) c.args.self.now _ _ c.turn.new.seat there c.index_mut-seat.ensures.value refl refl
+    (λ stands. turned.1) (λ kind. c.in_ok-turn.ensures.kind ∙ kind) turned.0 c.in_ok-turn.ensures.seated runs

@@ -1,0 +1,10 @@
+use Rattle.std.proofs.Common.{refl}
+use Rattle.lawful_history.specs.Schedule.{Reached, WritesMsix}
+use Rattle.stage.specs.Stage.{moment_of}
+use Rattle.stage.proofs.Runs.{scene_goes_on}
+use Rattle.stage.proofs.stage.Stage.write_msix.Goals as goal
+
+pub returns : goal.returns
+returns c = λ world gone events there runs.
+    let m = moment_of world events in
+    scene_goes_on world gone events (Reached c.args.peer (WritesMsix c.args.offset c.args.value)) c.args.self.now _ there refl refl refl (c.in_ok-write_msix.ensures.scene_stands world gone m.past m.losses runs.scene_stands) c.in_ok-write_msix.ensures.seated runs

@@ -1,0 +1,79 @@
+-- The scene of a world: its region, its devices and its lines, after the lines so far.
+use Rattle.std.specs.Prelude.{ℕ, ◌≡◌, ◌+◌, ◌<◌, ◌^◌, true, Option, Some, None, List, [], ◌∷◌, ◌++◌, reverse, length, slice_index, slice_index_or}
+use Rattle.section_map.specs.Geometry.{word_count}
+use Rattle.section_map.specs.MayWrite.{MayWrite}
+use Rattle.split_ring.specs.declared.steps.Access.{Access}
+use Rattle.split_ring.specs.declared.steps.Access.TheVariants as access
+use Rattle.doorbell_irq.specs.declared.effect.Delivery.{Delivery}
+use Rattle.doorbell_irq.specs.Events as device
+use Rattle.doorbell_irq.specs.DeviceRules.{effect_of}
+use Rattle.doorbell_irq.specs.Stands.{Stands, peer_count}
+use Rattle.scenario_text.specs.Scenario.{World, IsWorld}
+use Rattle.lawful_history.specs.declared.line.Line.{Line}
+use Rattle.lawful_history.specs.Memory.{Apart, touch_of, last_write}
+use Rattle.lawful_history.specs.Entries.{access_lines}
+use Rattle.lawful_history.specs.Device.{devices_of, told_by, device_events, lost_by, lost_count, arrivals, brought_by}
+use Rattle.lawful_history.specs.Frames.{has_frame, HaveFrames}
+use Rattle.stage.specs.declared.scene.Scene.{Scene}
+
+-- each word is what was written last, of lines with the newest first
+abbrev pub Holds : List ℕ → List Line → Type 0
+Holds words past = (word : ℕ) → word < length words → slice_index words word ≡ last_write past word
+
+-- after these lines, of which the newest is the first and of which the oldest ones, gone, were taken away, and where so many interrupts of each
+-- peer are to be lost: the region has the words that were written last, the devices stand where the lines led them, and it is known
+-- how many losses are still to come
+pub record SceneStands (world : World) (gone past : List Line) (losses : ℕ → ℕ) (scene : Scene) : Type 0 where
+  pub is_world : IsWorld world
+  pub shape : scene.region.shape ≡ world.geometry
+  pub lines : gone ++ scene.lines ≡ reverse past
+  pub frames : HaveFrames scene.lines
+  pub words : Holds scene.region.words past
+  pub devices : Stands (devices_of world) (device_events past) scene.device
+  pub unspent : (p : ℕ) → slice_index_or scene.unspent p 0 + lost_count past p ≡ losses p
+  pub seats : length scene.unspent ≡ 8
+
+-- a peer of the scene, for its region and for its devices
+pub record IsSeated (scene : Scene) (me : ℕ) : Type 0 where
+  pub in_region : me < scene.region.shape.peers
+  pub in_devices : me < peer_count scene.device
+  pub few : me < length scene.unspent
+
+-- a line that changes no word and tells the devices nothing, and whose frame, if it has one, has a byte
+pub record IsRemark (line : Line) : Type 0 where
+  pub touch : touch_of line ≡ Apart
+  pub told : told_by line ≡ None
+  pub lost : (p : ℕ) → lost_by line p ≡ 0
+  pub frame : has_frame line ≡ true
+
+-- the region serves the access, and a doorbell names a target and a vector of 16 bits each
+abbrev pub CanPerform : Scene → ℕ → Access → Type 0
+CanPerform scene me (access.Read word) = word < word_count scene.region.shape
+CanPerform scene me (access.Write word value) = MayWrite scene.region.shape me word
+CanPerform scene me (access.State state) = Unit {0}
+CanPerform scene me (access.Ring target vector) = (target < 2 ^ 16) × (vector < 2 ^ 16)
+CanPerform scene me access.Nothing = Unit {0}
+
+-- a read gave what was written last
+abbrev pub GaveLast : List Line → Access → ℕ → Type 0
+GaveLast past (access.Read word) value = value ≡ last_write past word
+GaveLast past (access.Write word written) value = Unit {0}
+GaveLast past (access.State state) value = Unit {0}
+GaveLast past (access.Ring target vector) value = Unit {0}
+GaveLast past access.Nothing value = Unit {0}
+
+-- the lines after an access of a peer: its line, and the interrupts that it brought
+abbrev pub accessed : World → List Line → (ℕ → ℕ) → ℕ → Access → ℕ → List Line
+accessed world past losses me a value = access_lines me a value ++ brought_by world past losses (access_lines me a value)
+
+-- the line interrupts these, after these older lines
+abbrev pub BringsBy : World → List Line → Option device.Event → List Delivery → Type 0
+BringsBy world past None deliveries = deliveries ≡ []
+BringsBy world past (Some event) deliveries = deliveries ≡ (effect_of (devices_of world) (device_events past) event).deliveries.items
+
+abbrev pub Brings : World → List Line → Line → List Delivery → Type 0
+Brings world past line deliveries = BringsBy world past (told_by line) deliveries
+
+-- a line with the interrupts that it brings
+abbrev pub told : World → List Line → (ℕ → ℕ) → Line → List Line
+told world past losses line = line ∷ arrivals world past losses line

@@ -1,0 +1,123 @@
+-- The seats of the peers: what each holds of its peer in the middle of the schedule.
+use Rattle.std.specs.Prelude.{ℕ, ◌≡◌, ◌+◌, ◌≤◌, ◌<◌, ◌^◌, Bool, true, false, Option, Some, None, List, [], map, length, All}
+use Rattle.section_map.specs.Geometry.{Shape, IsShape, section_start}
+use Rattle.scenario_text.specs.Scenario.{World, IsWorld}
+use Rattle.call_grammar.specs.Trees.{Ended}
+use Rattle.call_grammar.specs.Calls.{Who}
+use Rattle.call_grammar.specs.Calls as calls
+use Rattle.call_grammar.specs.Places as places
+use Rattle.call_grammar.specs.Places.{Place, remaining}
+use Rattle.link_endpoint.specs.Stands.{StandsAt}
+use Rattle.link_endpoint.specs.Plan.{Plan, HasCounted}
+use Rattle.lawful_history.specs.Peers.{Auto, Driver, Waits, Chooses, Storms, Peer}
+use Rattle.stage.specs.declared.link.Waiting.{Waiting}
+use Rattle.stage.specs.declared.link.Waiting.TheVariants.{Tick, Poll, Stop, Offer}
+use Rattle.stage.specs.declared.link.Link.{Link}
+use Rattle.stage.specs.declared.seat.Seat.{Seat}
+use Rattle.stage.specs.declared.seat.Ground.{Ground}
+use Rattle.stage.specs.declared.seat.Seat.TheVariants as seat
+
+-- the call of the grammar that waits
+abbrev pub call_of : Waiting → calls.Call
+call_of Tick = calls.Tick
+call_of Poll = calls.Poll
+call_of Stop = calls.Stop
+call_of (Offer frame) = calls.Offer frame
+
+-- a plan is that of an automatic peer; its deliveries are counted up to the number expected
+pub record IsPlanOf (plan : Plan) (auto : Auto) : Type 0 where
+  pub frames : plan.frames ≡ auto.frames
+  pub expected : plan.expected ≡ auto.expected
+  pub delivered : HasCounted plan auto.delivered
+  pub round : plan.round ≡ auto.round
+
+-- an end with a plan is an automatic peer, and one without waits for its calls
+abbrev pub DriverIs : Option Plan → Driver → Type 0
+DriverIs None driver = driver ≡ Waits
+DriverIs (Some plan) driver = (auto : Auto) × (driver ≡ Chooses auto) × IsPlanOf plan auto
+
+-- the frames that a call has at a place have 14 bytes at least
+abbrev pub HasFrames : Place → Type 0
+HasFrames (places.AtUsedIndex job freed) = 14 ≤ length job.frame
+HasFrames (places.AtUsedId job freed more) = 14 ≤ length job.frame
+HasFrames (places.Filling job at more) = 14 ≤ length job.frame
+HasFrames (places.WritingLow job) = 14 ≤ length job.frame
+HasFrames (places.WritingHigh job) = 14 ≤ length job.frame
+HasFrames (places.WritingLength job) = 14 ≤ length job.frame
+HasFrames (places.WritingFlags job) = 14 ≤ length job.frame
+HasFrames (places.WritingEntry job) = 14 ≤ length job.frame
+HasFrames (places.WritingIndex job) = 14 ≤ length job.frame
+HasFrames (places.AtFlags number more entry address bytes) = 14 ≤ bytes
+HasFrames (places.AtWord number more entry address bytes read words) = 14 ≤ bytes
+HasFrames _ = Unit {0}
+
+-- the link stands where this peer of the history is: its end, what is left of its open call, the calls that wait, and its driver
+pub record LinkStands (who : Who) (peer : Peer) (link : Link) : Type 0 where
+  pub place : Place
+  pub end : StandsAt link.end who peer.end place
+  pub left : remaining who place ≡ peer.left
+  pub frames : HasFrames place
+  pub waiting : map call_of link.waiting.items ≡ peer.waiting
+  pub driver : DriverIs link.auto peer.driver
+
+-- a seat without an end of the link: its peer has no call, open or waiting
+pub record SitsBy (driven : Driver) (peer : Peer) : Type 0 where
+  pub left : peer.left ≡ Ended
+  pub waiting : peer.waiting ≡ []
+  pub driver : peer.driver ≡ driven
+
+abbrev pub SeatStands : Who → Peer → Seat → Type 0
+SeatStands who peer (seat.Honest link) = LinkStands who peer link
+SeatStands who peer (seat.Storm x) = SitsBy (Storms x) peer
+SeatStands who peer seat.Idle = SitsBy Waits peer
+
+-- the frames to come may be offered
+abbrev pub IsOffered : ℕ → List ℕ → Type 0
+IsOffered mtu frame = (14 ≤ length frame) × (length frame ≤ mtu + 18)
+
+abbrev pub MayWait : ℕ → Waiting → Type 0
+MayWait mtu Tick = Unit {0}
+MayWait mtu Poll = Unit {0}
+MayWait mtu Stop = Unit {0}
+MayWait mtu (Offer frame) = IsOffered mtu frame
+
+abbrev pub PlanFits : ℕ → Option Plan → Type 0
+PlanFits mtu None = Unit {0}
+PlanFits mtu (Some plan) = All (IsOffered mtu) plan.frames
+
+pub record LinkFits (link : Link) : Type 0 where
+  pub waiting : All (MayWait link.end.who.sizes.mtu) link.waiting.items
+  pub plan : PlanFits link.end.who.sizes.mtu link.auto
+
+-- the peer has its place in a region of this shape
+pub record IsPlaced (shape : Shape) (peer : ℕ) (who : Who) : Type 0 where
+  pub is_shape : IsShape shape
+  pub me : who.me ≡ peer
+  pub there : peer < shape.peers
+  pub other : who.other < shape.peers
+  pub own : who.own ≡ section_start shape peer
+  pub theirs : who.theirs ≡ section_start shape who.other
+  pub words : who.words ≡ shape.out
+  pub vector : who.vector < 2 ^ 16
+
+-- what a seat holds may be offered, and its peer has its place
+abbrev pub SeatFits : Who → Seat → Type 0
+SeatFits who (seat.Honest link) = LinkFits link
+SeatFits who (seat.Storm x) = Unit {0}
+SeatFits who seat.Idle = Unit {0}
+
+-- the seat is still one of an honest end of the link, or still none
+abbrev pub is_honest : Seat → Bool
+is_honest (seat.Honest link) = true
+is_honest (seat.Storm x) = false
+is_honest seat.Idle = false
+
+abbrev pub SameKind : Seat → Seat → Type 0
+SameKind old new = is_honest new ≡ is_honest old
+
+-- the sizes are those of the world, and the peer is one of it
+pub record IsGround (world : World) (me : ℕ) (ground : Ground) : Type 0 where
+  pub is_world : IsWorld world
+  pub there : me < world.geometry.peers
+  pub geometry : ground.geometry ≡ world.geometry
+  pub queue : ground.queue ≡ world.queue

@@ -1,0 +1,133 @@
+//! The acts that change the scene alone.
+ghost use Rattle.std.specs.Prelude.{◌≡◌, ◌≢◌, ◌<◌, ◌-◌, ◌^◌, ℕ, true, OnOk, slice_index};
+ghost use Rattle.pci_space.specs.Fields.{is_access};
+ghost use Rattle.section_map.specs.Geometry.{word_count};
+ghost use Rattle.split_ring.specs.declared.steps.Access.TheVariants.{Read, Write, State, Ring};
+ghost use Rattle.lawful_history.specs.Schedule.{Acted, Reached, Loses, Repeated, ReadsConfig, WritesConfig, ReadsRegister, WritesRegister, ReadsMsix, WritesMsix, register_event};
+ghost use Rattle.stage.specs.Scene.{IsSeated};
+ghost use Rattle.stage.specs.Stage.{Happens};
+
+use crate::stage::Stage;
+use ivs_base::NoMemory;
+
+impl Stage {
+    pub fn poke(&mut self, peer: u32, word: u32, value: u32) -> Result<(), NoMemory>
+        requires { IsSeated self.old.scene peer }
+        ensures { OnOk result (Happens (Acted peer (Write word value)) self.old self.new) }
+    {
+        self.scene.poke(peer, word, value)?;
+        Ok(())
+    }
+
+    pub fn peek(&mut self, peer: u32, word: u32) -> Result<(), NoMemory>
+        requires seated { IsSeated self.old.scene peer }
+        requires inside { word < word_count self.old.scene.region.shape }
+        ensures { OnOk result (Happens (Acted peer (Read word)) self.old self.new) }
+    {
+        self.scene.read(peer, word)?;
+        Ok(())
+    }
+
+    pub fn set(&mut self, peer: u32, value: u32) -> Result<(), NoMemory>
+        requires { IsSeated self.old.scene peer }
+        ensures { OnOk result (Happens (Acted peer (State value)) self.old self.new) }
+    {
+        self.scene.set_state(peer, value)?;
+        Ok(())
+    }
+
+    pub fn ring(&mut self, peer: u32, target: u32, vector: u32) -> Result<(), NoMemory>
+        requires seated { IsSeated self.old.scene peer }
+        requires target { target < 2 ^ 16 }
+        requires vector { vector < 2 ^ 16 }
+        ensures { OnOk result (Happens (Acted peer (Ring target vector)) self.old self.new) }
+    {
+        self.scene.ring(peer, target, vector)?;
+        Ok(())
+    }
+
+    pub fn read_config(&mut self, peer: u32, offset: u16, width: u16) -> Result<(), NoMemory>
+        requires seated { IsSeated self.old.scene peer }
+        requires access { is_access 256 offset width ≡ true }
+        ensures { OnOk result (Happens (Reached peer (ReadsConfig offset width)) self.old self.new) }
+    {
+        self.scene.read_config(peer, offset, width)?;
+        Ok(())
+    }
+
+    pub fn write_config(
+        &mut self,
+        peer: u32,
+        offset: u16,
+        width: u16,
+        value: u32,
+    ) -> Result<(), NoMemory>
+        requires seated { IsSeated self.old.scene peer }
+        requires access { is_access 256 offset width ≡ true }
+        ensures { OnOk result (Happens (Reached peer (WritesConfig offset width value)) self.old self.new) }
+    {
+        self.scene.write_config(peer, offset, width, value)?;
+        Ok(())
+    }
+
+    pub fn read_register(&mut self, peer: u32, offset: u32) -> Result<(), NoMemory>
+        requires { IsSeated self.old.scene peer }
+        ensures { OnOk result (Happens (Reached peer (ReadsRegister offset)) self.old self.new) }
+    {
+        self.scene.read_register(peer, offset)?;
+        Ok(())
+    }
+
+    fn write_other_register(&mut self, peer: u32, offset: u32, value: u32) -> Result<(), NoMemory>
+        requires { IsSeated self.old.scene peer }
+        ensures { OnOk result (Happens (Reached peer (WritesRegister offset value)) self.old self.new) }
+    {
+        self.scene.write_register(peer, offset, value)?;
+        Ok(())
+    }
+
+    /// A write of a register; one of State, at byte 16, or of the Doorbell, at byte 12, is told as such.
+    pub fn write_register(&mut self, peer: u32, offset: u32, value: u32) -> Result<(), NoMemory>
+        requires { IsSeated self.old.scene peer }
+        ensures { OnOk result (Happens (register_event peer offset value) self.old self.new) }
+    {
+        if offset == 0x10 {
+            self.set(peer, value)
+        } else if offset == 0x0C {
+            self.ring(peer, value / 65536, value % 65536)
+        } else {
+            self.write_other_register(peer, offset, value)
+        }
+    }
+
+    pub fn read_msix(&mut self, peer: u32, offset: u32) -> Result<(), NoMemory>
+        requires { IsSeated self.old.scene peer }
+        ensures { OnOk result (Happens (Reached peer (ReadsMsix offset)) self.old self.new) }
+    {
+        self.scene.read_msix(peer, offset)?;
+        Ok(())
+    }
+
+    pub fn write_msix(&mut self, peer: u32, offset: u32, value: u32) -> Result<(), NoMemory>
+        requires { IsSeated self.old.scene peer }
+        ensures { OnOk result (Happens (Reached peer (WritesMsix offset value)) self.old self.new) }
+    {
+        self.scene.write_msix(peer, offset, value)?;
+        Ok(())
+    }
+
+    pub fn lose(&mut self, peer: u32)
+        requires seated { IsSeated self.old.scene peer }
+        requires room { slice_index self.old.scene.unspent peer < 2 ^ 64 - 1 }
+        ensures { Happens (Loses peer) self.old self.new }
+    {
+        self.scene.lose(peer);
+    }
+
+    pub fn repeat(&mut self, peer: u32, vector: u32) -> Result<(), NoMemory>
+        ensures { OnOk result (Happens (Repeated peer vector) self.old self.new) }
+    {
+        self.scene.repeat(peer, vector)?;
+        Ok(())
+    }
+}

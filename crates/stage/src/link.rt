@@ -1,0 +1,276 @@
+//! An honest end of the link, the calls that wait for it, and its turns.
+ghost use Rattle.std.specs.Prelude.{◌≡◌, ℕ, ◌<◌, List, [], ◌∷◌, ◌++◌, true, false, All, OnOk, IfOk, MatchOption, reverse, map, None};
+ghost use Rattle.scenario_text.specs.Scenario.{World};
+ghost use Rattle.call_grammar.specs.Steps.{step_of};
+ghost use Rattle.call_grammar.specs.Ends.{End};
+ghost use Rattle.call_grammar.specs.Calls.{Who};
+ghost use Rattle.call_grammar.specs.Places as places;
+ghost use Rattle.lawful_history.specs.Sides.{who_of};
+ghost use Rattle.lawful_history.specs.Entries.{mark_line, turn_lines};
+ghost use Rattle.lawful_history.specs.Peers.{Peer, asked, automated, was_reset, chosen, opened, counted, counted_all};
+ghost use Rattle.lawful_history.specs.Peers as peers;
+ghost use Rattle.lawful_history.specs.Device.{step_interrupts};
+ghost use Rattle.lawful_history.specs.History.{turn_step, turned, step_by, moved};
+ghost use Rattle.link_endpoint.specs.Engine.{is_busy, offered, delivered};
+ghost use Rattle.link_endpoint.specs.Stands.{StandsAt, mark_between, marks_between};
+ghost use Rattle.lawful_history.specs.Frames.{has_frame, HaveFrames};
+ghost use Rattle.stage.specs.Scene.{SceneStands, IsSeated};
+ghost use Rattle.stage.specs.Seats.{call_of, IsPlanOf, LinkStands, MayWait, LinkFits, IsPlaced};
+
+use crate::scene::Scene;
+use ivs_base::{Frame, NoMemory};
+use lawful_history::Line;
+use link_endpoint::{Auto, Call, Choice, Endpoint};
+use call_grammar::places_follow_trees;
+use split_ring::steps::Note;
+use std::alloc::Global;
+use std::collections::VecDeque;
+
+/// A call that waits.
+#[derive(Debug, Drop)]
+pub enum Waiting {
+    Tick,
+    Poll,
+    Stop,
+    /// An offer of this frame.
+    Offer(Frame),
+}
+
+/// An honest end of the link; the calls that wait, the oldest first; and what an automatic peer has to do.
+#[derive(Drop)]
+pub struct Link {
+    pub end: Endpoint,
+    pub waiting: VecDeque<Waiting>,
+    pub auto: Option<Auto>,
+}
+
+/// Opens a call.
+fn begin(end: &mut Endpoint, call: Waiting)
+    requires closed { is_busy end.old ≡ false }
+    requires fits { MayWait end.old.who.sizes.mtu call }
+    ensures stands { (who : Who) (at : End) → StandsAt end.old who at places.Closed → StandsAt end.new who at (places.first_place who at (call_of call)) }
+    ensures who { end.new.who ≡ end.old.who }
+    ensures open { is_busy end.new ≡ true }
+{
+    match call {
+        Waiting::Tick => end.begin(Call::Tick),
+        Waiting::Poll => end.begin(Call::Poll),
+        Waiting::Stop => end.begin(Call::Stop),
+        Waiting::Offer(frame) => end.offer(frame.bytes()),
+    }
+}
+
+/// Opens the call that an automatic peer chooses, if it chooses one.
+fn choose_next(link: &mut Link)
+    requires closed { is_busy link.old.end ≡ false }
+    requires shut { (who : Who) (peer : Peer) (stands : LinkStands who peer link.old) → stands.place ≡ places.Closed }
+    requires fits { LinkFits link.old }
+    requires stands { (who : Who) × (peer : Peer) × LinkStands who peer link.old }
+    ensures stands { (who : Who) (peer : Peer) → LinkStands who peer link.old → LinkStands who (chosen who peer peer.driver) link.new }
+    ensures who { link.new.end.who ≡ link.old.end.who }
+{
+    places_follow_trees();
+    let phase = link.end.phase();
+    let Some(auto) = &mut link.auto else {
+        return;
+    };
+    match auto.choose(phase) {
+        Choice::Tick => link.end.begin(Call::Tick),
+        Choice::Poll => link.end.begin(Call::Poll),
+        Choice::Offer => match auto.head() {
+            Some(frame) => link.end.offer(frame),
+            None => unreachable!(),
+        },
+        Choice::Finished => {}
+    }
+}
+
+/// Opens the call that comes next where none is open: the oldest that waits, else the one that an automatic peer chooses.
+fn open_next(link: &mut Link)
+    requires fits { LinkFits link.old }
+    requires stands { (who : Who) × (peer : Peer) × LinkStands who peer link.old }
+    ensures opened { (who : Who) (peer : Peer) → LinkStands who peer link.old → LinkStands who (opened who peer) link.new }
+    ensures who { link.new.end.who ≡ link.old.end.who }
+{
+    places_follow_trees();
+    if link.end.busy() {
+        return;
+    }
+    match link.waiting.pop_front() {
+        Some(call) => begin(&mut link.end, call),
+        None => choose_next(link),
+    }
+}
+
+/// The line of a note.
+fn line_of(alloc: Global, me: u32, end: &Endpoint, note: Note) -> Result<Line, NoMemory>
+    ensures { IfOk result (λ line. line ≡ mark_line me (mark_between (offered end.now) (delivered end.now) note)) }
+{
+    Ok(match note {
+        Note::Saw(value) => Line::Saw { peer: me, value },
+        Note::Reclaim(count) => Line::Reclaim { peer: me, count },
+        Note::Full => Line::Full { peer: me },
+        Note::Accept => Line::Accept {
+            peer: me,
+            frame: Frame::of(alloc, end.offered())?,
+        },
+        Note::Look(count) => Line::Look { peer: me, count },
+        Note::Deliver => Line::Deliver {
+            peer: me,
+            frame: Frame::of(alloc, end.delivered())?,
+        },
+        Note::Return => Line::Return { peer: me },
+        Note::Done => Line::Done { peer: me },
+        Note::Down => Line::Down { peer: me },
+        Note::Refuse(refused) => Line::Refuse { peer: me, refused },
+        Note::Over => Line::Over { peer: me },
+    })
+}
+
+/// Tells a note.
+fn tell_note(
+    alloc: Global,
+    me: u32,
+    end: &Endpoint,
+    note: &Note,
+    scene: &mut Scene,
+) -> Result<(), NoMemory>
+    requires { has_frame (mark_line me (mark_between (offered end.now) (delivered end.now) note.now)) ≡ true }
+    ensures scene_stands { (world : World) (gone past : List Line) (losses : ℕ → ℕ) → SceneStands world gone past losses scene.old →
+        OnOk result (SceneStands world gone (mark_line me (mark_between (offered end.now) (delivered end.now) note.now) ∷ past) losses scene.new) }
+    ensures seated { (q : ℕ) → IsSeated scene.old q → IsSeated scene.new q }
+{
+    let line = line_of(alloc, me, end, *note)?;
+    scene.remark(line)?;
+    Ok(())
+}
+
+/// Tells the notes of a step.
+fn tell_notes(
+    alloc: Global,
+    me: u32,
+    end: &Endpoint,
+    notes: &[Note],
+    scene: &mut Scene,
+) -> Result<(), NoMemory>
+    requires { HaveFrames (map (mark_line me) (marks_between (offered end.now) (delivered end.now) notes.now)) }
+    ensures scene_stands { (world : World) (gone past : List Line) (losses : ℕ → ℕ) → SceneStands world gone past losses scene.old →
+        OnOk result (SceneStands world gone (reverse (map (mark_line me) (marks_between (offered end.now) (delivered end.now) notes.now)) ++ past) losses scene.new) }
+    ensures seated { (q : ℕ) → IsSeated scene.old q → IsSeated scene.new q }
+{
+    for note in notes {
+        tell_note(alloc, me, end, note, scene)?;
+    }
+    Ok(())
+}
+
+/// Tells an automatic peer of one note.
+fn count_note(auto: &mut Auto, note: &Note)
+    ensures { (plan : peers.Auto) (one other : List ℕ) → IsPlanOf auto.old plan → IsPlanOf auto.new (counted plan (mark_between one other note.now)) }
+{
+    match note {
+        Note::Accept => {
+            if auto.head().is_some() {
+                auto.accepted();
+            }
+        }
+        Note::Deliver => auto.delivered(),
+        Note::Saw(_)
+        | Note::Reclaim(_)
+        | Note::Full
+        | Note::Look(_)
+        | Note::Return
+        | Note::Done
+        | Note::Down
+        | Note::Refuse(_)
+        | Note::Over => {}
+    }
+}
+
+/// Tells an automatic peer of the frames that were accepted and delivered.
+fn count_notes(auto: &mut Auto, notes: &[Note])
+    ensures { (plan : peers.Auto) (one other : List ℕ) → IsPlanOf auto.old plan → IsPlanOf auto.new (counted_all plan (marks_between one other notes.now)) }
+{
+    for note in notes {
+        count_note(auto, note);
+    }
+}
+
+/// The next step of the open call.
+fn carry_on(alloc: Global, me: u32, link: &mut Link, scene: &mut Scene) -> Result<(), NoMemory>
+    requires open { is_busy link.old.end ≡ true }
+    requires seated { IsSeated scene.old me }
+    requires placed { IsPlaced scene.old.region.shape me link.old.end.who }
+    requires stands { (who : Who) × (peer : Peer) × LinkStands who peer link.old }
+    ensures steps { (world : World) (gone past : List Line) (losses : ℕ → ℕ) (peer : Peer) → SceneStands world gone past losses scene.old → LinkStands (who_of world me) peer link.old →
+        OnOk result (SceneStands world gone (reverse (turn_lines me (step_by world me peer.driver peer.left past) (step_interrupts world past losses me (step_by world me peer.driver peer.left past))) ++ past) losses scene.new
+        × LinkStands (who_of world me) (moved peer past) link.new) }
+    ensures seated { (q : ℕ) → IsSeated scene.old q → IsSeated scene.new q }
+{
+    places_follow_trees();
+    let access = link.end.next();
+    let value = scene.perform(me, access)?;
+    let notes = link.end.took(value);
+    tell_notes(alloc, me, &link.end, notes.as_slice(), scene)?;
+    if let Some(auto) = &mut link.auto {
+        count_notes(auto, notes.as_slice());
+    }
+    Ok(())
+}
+
+/// A turn of an honest end of the link.
+pub fn take_turn(alloc: Global, me: u32, link: &mut Link, scene: &mut Scene) -> Result<(), NoMemory>
+    requires fits { LinkFits link.old }
+    requires seated { IsSeated scene.old me }
+    requires placed { IsPlaced scene.old.region.shape me link.old.end.who }
+    requires stands { (who : Who) × (peer : Peer) × LinkStands who peer link.old }
+    ensures turn { (world : World) (gone past : List Line) (losses : ℕ → ℕ) (peer : Peer) → SceneStands world gone past losses scene.old → LinkStands (who_of world me) peer link.old →
+        OnOk result (SceneStands world gone (reverse (turn_lines me (turn_step world me peer past) (step_interrupts world past losses me (turn_step world me peer past))) ++ past) losses scene.new
+        × LinkStands (who_of world me) (turned world me peer past) link.new) }
+    ensures seated { (q : ℕ) → IsSeated scene.old q → IsSeated scene.new q }
+{
+    open_next(link);
+    if link.end.busy() {
+        carry_on(alloc, me, link, scene)?;
+        Ok(())
+    } else {
+        scene.remark(Line::Idle { peer: me })?;
+        Ok(())
+    }
+}
+
+impl Link {
+    /// A call waits from now on, after the others; but a frame for an automatic peer is put after its frames.
+    pub fn ask(&mut self, call: Waiting) -> Result<(), NoMemory>
+        ensures { OnOk result ((who : Who) (peer : Peer) → LinkStands who peer self.old → LinkStands who (asked peer (call_of call)) self.new) }
+    {
+        match (&mut self.auto, call) {
+            (Some(auto), Waiting::Offer(frame)) => {
+                auto.add(frame)?;
+                Ok(())
+            }
+            (_, call) => match self.waiting.push_back(call) {
+                Ok(()) => Ok(()),
+                Err(_) => Err(NoMemory),
+            },
+        }
+    }
+
+    /// The peer chooses its calls from now on.
+    pub fn automate(&mut self, alloc: Global, expect: u64)
+        ensures { (who : Who) (peer : Peer) → LinkStands who peer self.old → LinkStands who (automated peer expect) self.new }
+    {
+        self.auto = Some(Auto::new(alloc, expect));
+    }
+
+    /// The device was reset: the open call is cut, and those that wait are dropped. An automatic peer begins its round anew.
+    pub fn reset(&mut self, alloc: Global)
+        ensures { (who : Who) (peer : Peer) → LinkStands who peer self.old → LinkStands who (was_reset peer) self.new }
+    {
+        self.end.reset();
+        self.waiting = VecDeque::new(alloc);
+        if let Some(auto) = &mut self.auto {
+            auto.cut();
+        }
+    }
+}

@@ -1,0 +1,232 @@
+//! The scene of a world: its region, its devices and the lines so far. Whatever a peer does there is told by its line, and by those of the
+//! interrupts that it brings.
+ghost use Rattle.std.specs.Prelude.{◌≡◌, ℕ, ◌+◌, ◌-◌, ◌<◌, ◌^◌, List, [], ◌∷◌, ◌++◌, true, IfOk, OnOk, reverse, map, slice_index};
+ghost use Rattle.pci_space.specs.Fields.{is_access};
+ghost use Rattle.section_map.specs.Geometry.{word_count};
+ghost use Rattle.section_map.specs.MayWrite.{MayWrite};
+ghost use Rattle.scenario_text.specs.Scenario.{World};
+ghost use Rattle.lawful_history.specs.declared.line.Line.TheVariants.{Reset};
+ghost use Rattle.lawful_history.specs.Memory.{last_write};
+ghost use Rattle.lawful_history.specs.Schedule.{Loses, ReadsConfig, WritesConfig, ReadsRegister, WritesRegister, ReadsMsix, WritesMsix};
+ghost use Rattle.lawful_history.specs.Entries.{acted_lines};
+ghost use Rattle.lawful_history.specs.History.{acted_step};
+ghost use Rattle.lawful_history.specs.Device.{arrival, arrived, arrivals, brought_by, step_interrupts, reached_line, losses_with};
+ghost use Rattle.stage.specs.Scene.{SceneStands, IsSeated, IsRemark, Brings, CanPerform, GaveLast, told, accessed};
+
+use arrayvec::ArrayVec;
+use doorbell_irq::{Delivery, Device};
+use ivs_base::NoMemory;
+use lawful_history::{Line, Lines};
+use section_map::Region;
+use split_ring::steps::Access;
+
+/// The region, the devices, how many interrupts are still to be lost at each of 8 peers, and the history so far.
+#[derive(Drop)]
+pub struct Scene {
+    pub region: Region,
+    pub device: Device,
+    pub unspent: [u64; 8],
+    pub lines: Lines,
+}
+
+impl Scene {
+    /// Tells a line that changes no word and no device.
+    pub fn remark(&mut self, line: Line) -> Result<(), NoMemory>
+        requires { IsRemark line }
+        ensures scene_stands { (world : World) (gone past : List Line) (losses : ℕ → ℕ) → SceneStands world gone past losses self.old → OnOk result (SceneStands world gone (line ∷ past) losses self.new) }
+        ensures seated { (me : ℕ) → IsSeated self.old me → IsSeated self.new me }
+    {
+        self.lines.push(line)
+    }
+
+    /// One interrupt comes to its peer, or is lost on its way.
+    fn arrive_at(&mut self, delivery: &Delivery) -> Result<(), NoMemory>
+        ensures scene_stands { (world : World) (gone past : List Line) (losses : ℕ → ℕ) → SceneStands world gone past losses self.old → OnOk result (SceneStands world gone (arrival past losses delivery.now ∷ past) losses self.new) }
+        ensures seated { (me : ℕ) → IsSeated self.old me → IsSeated self.new me }
+    {
+        let Delivery { peer, vector } = *delivery;
+        if peer < 8 && self.unspent[peer as usize] > 0 {
+            self.unspent[peer as usize] -= 1;
+            self.lines.push(Line::Lost { peer, vector })
+        } else {
+            self.lines.push(Line::Interrupt { peer, vector })
+        }
+    }
+
+    /// Interrupts come, one after the other.
+    fn arrive(&mut self, deliveries: &[Delivery]) -> Result<(), NoMemory>
+        ensures scene_stands { (world : World) (gone past : List Line) (losses : ℕ → ℕ) → SceneStands world gone past losses self.old → OnOk result (SceneStands world gone (reverse (arrived past losses deliveries.now) ++ past) losses self.new) }
+        ensures seated { (me : ℕ) → IsSeated self.old me → IsSeated self.new me }
+    {
+        for delivery in deliveries {
+            self.arrive_at(delivery)?;
+        }
+        Ok(())
+    }
+
+    /// A peer reads a word of the region.
+    pub fn read(&mut self, me: u32, word: u32) -> Result<u32, NoMemory>
+        requires seated { IsSeated self.old me }
+        requires inside { word < word_count self.old.region.shape }
+        ensures scene_stands { (world : World) (gone past : List Line) (losses : ℕ → ℕ) → SceneStands world gone past losses self.old →
+            IfOk result (λ value. (value ≡ last_write past word) × SceneStands world gone (Line.Read me word value ∷ past) losses self.new) }
+        ensures seated { (q : ℕ) → IsSeated self.old q → IsSeated self.new q }
+    {
+        let value = match self.region.read(me, word) {
+            Ok(value) => value,
+            Err(_) => unreachable!(),
+        };
+        self.lines.push(Line::Read {
+            peer: me,
+            word,
+            value,
+        })?;
+        Ok(value)
+    }
+
+    /// A peer writes a word that it may write.
+    pub fn write(&mut self, me: u32, word: u32, value: u32) -> Result<(), NoMemory>
+        requires seated { IsSeated self.old me }
+        requires may { MayWrite self.old.region.shape me word }
+        ensures scene_stands { (world : World) (gone past : List Line) (losses : ℕ → ℕ) → SceneStands world gone past losses self.old → OnOk result (SceneStands world gone (Line.Write me word value ∷ past) losses self.new) }
+        ensures seated { (q : ℕ) → IsSeated self.old q → IsSeated self.new q }
+    {
+        match self.region.write(me, word, value) {
+            Ok(()) => self.lines.push(Line::Write {
+                peer: me,
+                word,
+                value,
+            }),
+            Err(_) => unreachable!(),
+        }
+    }
+
+    /// A peer writes a word if it may, and is denied it else.
+    pub fn poke(&mut self, me: u32, word: u32, value: u32) -> Result<(), NoMemory>
+        requires { IsSeated self.old me }
+        ensures scene_stands { (world : World) (gone past : List Line) (losses : ℕ → ℕ) → SceneStands world gone past losses self.old →
+            OnOk result (SceneStands world gone (reverse (acted_lines me (Access.Write word value) (acted_step world me (Access.Write word value) past) []) ++ past) losses self.new) }
+        ensures seated { (q : ℕ) → IsSeated self.old q → IsSeated self.new q }
+    {
+        match self.region.write(me, word, value) {
+            Ok(()) => self.lines.push(Line::Write {
+                peer: me,
+                word,
+                value,
+            }),
+            Err(_) => self.lines.push(Line::Denied { peer: me, word }),
+        }
+    }
+
+    /// Tells a write of State. The answer is whom it interrupts.
+    fn tell_state(&mut self, me: u32, value: u32) -> Result<ArrayVec<Delivery, 8>, NoMemory>
+        requires { IsSeated self.old me }
+        ensures scene_stands { (world : World) (gone past : List Line) (losses : ℕ → ℕ) → SceneStands world gone past losses self.old →
+            IfOk result (λ deliveries. Brings world past (Line.State me value) deliveries.items × SceneStands world gone (Line.State me value ∷ past) losses self.new) }
+        ensures seated { (q : ℕ) → IsSeated self.old q → IsSeated self.new q }
+    {
+        let _ = self.region.set_state(me, value);
+        let effect = self.device.register_write(me, 0x10, value);
+        self.lines.push(Line::State { peer: me, value })?;
+        Ok(effect.deliveries)
+    }
+
+    /// A peer writes its State.
+    pub fn set_state(&mut self, me: u32, value: u32) -> Result<(), NoMemory>
+        requires { IsSeated self.old me }
+        ensures scene_stands { (world : World) (gone past : List Line) (losses : ℕ → ℕ) → SceneStands world gone past losses self.old →
+            OnOk result (SceneStands world gone (reverse (told world past losses (Line.State me value)) ++ past) losses self.new) }
+        ensures seated { (q : ℕ) → IsSeated self.old q → IsSeated self.new q }
+    {
+        let deliveries = self.tell_state(me, value)?;
+        self.arrive(deliveries.as_slice())
+    }
+
+    /// Tells a write of the Doorbell. The answer is whom it interrupts.
+    fn tell_doorbell(
+        &mut self,
+        me: u32,
+        target: u32,
+        vector: u32,
+    ) -> Result<ArrayVec<Delivery, 8>, NoMemory>
+        requires seated { IsSeated self.old me }
+        requires target { target < 2 ^ 16 }
+        requires vector { vector < 2 ^ 16 }
+        ensures scene_stands { (world : World) (gone past : List Line) (losses : ℕ → ℕ) → SceneStands world gone past losses self.old →
+            IfOk result (λ deliveries. Brings world past (Line.Doorbell me target vector) deliveries.items × SceneStands world gone (Line.Doorbell me target vector ∷ past) losses self.new) }
+        ensures seated { (q : ℕ) → IsSeated self.old q → IsSeated self.new q }
+    {
+        let effect = self
+            .device
+            .register_write(me, 0x0C, 65536 * target + vector);
+        self.lines.push(Line::Doorbell {
+            peer: me,
+            target,
+            vector,
+        })?;
+        Ok(effect.deliveries)
+    }
+
+    /// A peer writes its Doorbell.
+    pub fn ring(&mut self, me: u32, target: u32, vector: u32) -> Result<(), NoMemory>
+        requires seated { IsSeated self.old me }
+        requires target { target < 2 ^ 16 }
+        requires vector { vector < 2 ^ 16 }
+        ensures scene_stands { (world : World) (gone past : List Line) (losses : ℕ → ℕ) → SceneStands world gone past losses self.old →
+            OnOk result (SceneStands world gone (reverse (told world past losses (Line.Doorbell me target vector)) ++ past) losses self.new) }
+        ensures seated { (q : ℕ) → IsSeated self.old q → IsSeated self.new q }
+    {
+        let deliveries = self.tell_doorbell(me, target, vector)?;
+        self.arrive(deliveries.as_slice())
+    }
+
+    /// Tells a device reset. The answer is whom it interrupts.
+    fn tell_reset(&mut self, me: u32) -> Result<ArrayVec<Delivery, 8>, NoMemory>
+        requires { IsSeated self.old me }
+        ensures scene_stands { (world : World) (gone past : List Line) (losses : ℕ → ℕ) → SceneStands world gone past losses self.old →
+            IfOk result (λ deliveries. Brings world past (Reset me) deliveries.items × SceneStands world gone (Reset me ∷ past) losses self.new) }
+        ensures seated { (q : ℕ) → IsSeated self.old q → IsSeated self.new q }
+    {
+        let _ = self.region.set_state(me, 0);
+        let effect = self.device.reset(me);
+        self.lines.push(Line::Reset { peer: me })?;
+        Ok(effect.deliveries)
+    }
+
+    /// The device of a peer is reset.
+    pub fn reset(&mut self, me: u32) -> Result<(), NoMemory>
+        requires { IsSeated self.old me }
+        ensures scene_stands { (world : World) (gone past : List Line) (losses : ℕ → ℕ) → SceneStands world gone past losses self.old →
+            OnOk result (SceneStands world gone (reverse (told world past losses (Reset me)) ++ past) losses self.new) }
+        ensures seated { (q : ℕ) → IsSeated self.old q → IsSeated self.new q }
+    {
+        let deliveries = self.tell_reset(me)?;
+        self.arrive(deliveries.as_slice())
+    }
+
+    /// A peer makes an access, which is told with the interrupts that it brings. The answer is what a read gave, else 0.
+    pub fn perform(&mut self, me: u32, access: Access) -> Result<u32, NoMemory>
+        requires seated { IsSeated self.old me }
+        requires can { CanPerform self.old me access }
+        ensures scene_stands { (world : World) (gone past : List Line) (losses : ℕ → ℕ) → SceneStands world gone past losses self.old →
+            IfOk result (λ value. GaveLast past access value × SceneStands world gone (reverse (accessed world past losses me access value) ++ past) losses self.new) }
+        ensures seated { (q : ℕ) → IsSeated self.old q → IsSeated self.new q }
+    {
+        match access {
+            Access::Read(word) => self.read(me, word),
+            Access::Write(word, value) => {
+                self.write(me, word, value)?;
+                Ok(0)
+            }
+            Access::State(state) => {
+                self.set_state(me, state)?;
+                Ok(0)
+            }
+            Access::Ring { target, vector } => {
+                self.ring(me, target, vector)?;
+                Ok(0)
+            }
+            Access::Nothing => Ok(0),
+        }
+    }
+}

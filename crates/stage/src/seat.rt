@@ -1,0 +1,130 @@
+//! The seat of a peer, and its turns.
+ghost use Rattle.std.specs.Prelude.{◌≡◌, ℕ, ◌+◌, ◌*◌, ◌/◌, ◌%◌, ◌<◌, ◌^◌, List, [], ◌∷◌, ◌++◌, true, OnOk, IfOk, Some, reverse};
+ghost use Rattle.scenario_text.specs.Scenario.{World, IsWorld};
+ghost use Rattle.call_grammar.specs.Calls.{Who};
+ghost use Rattle.lawful_history.specs.Sides.{who_of};
+ghost use Rattle.lawful_history.specs.Storm.{next_number, draw, drawn_access, storm_step, storm_after};
+ghost use Rattle.lawful_history.specs.Entries.{turn_lines};
+ghost use Rattle.lawful_history.specs.Peers.{Peer, was_reset};
+ghost use Rattle.lawful_history.specs.Device.{step_interrupts};
+ghost use Rattle.lawful_history.specs.History.{turn_step, turned};
+ghost use Rattle.stage.specs.Scene.{SceneStands, IsSeated};
+ghost use Rattle.stage.specs.Seats.{SeatStands, SeatFits, SameKind, IsGround};
+
+use crate::link::{Link, take_turn};
+use crate::scene::Scene;
+use ivs_base::NoMemory;
+use lawful_history::Line;
+use section_map::Geometry;
+use split_ring::Queue;
+use split_ring::steps::Access;
+use std::alloc::Global;
+
+/// What a peer does when its turn comes.
+#[derive(Drop)]
+pub enum Seat {
+    /// An honest end of the link takes the steps of its calls.
+    Honest(Link),
+    /// A storm writes at random; its generator is here.
+    Storm(u64),
+    /// Nothing.
+    Idle,
+}
+
+/// The sizes of a world that a storm draws from.
+#[derive(Clone, Copy, Debug)]
+pub struct Ground {
+    pub geometry: Geometry,
+    pub queue: Queue,
+}
+
+/// The generator's next number.
+fn next(x: u64) -> u64
+    ensures { result ≡ next_number x }
+{
+    x.wrapping_mul(6364136223846793005)
+        .wrapping_add(1442695040888963407)
+}
+
+/// The 32 bits that are drawn from a number.
+fn drawn(x: u64) -> u32
+    ensures { result ≡ draw x }
+{
+    (x / 0x1_0000_0000) as u32
+}
+
+/// What three draws do.
+fn access_of(ground: &Ground, me: u32, kind: u32, place: u32, value: u32) -> Access
+    requires { (world : World) × IsGround world me ground.now }
+    ensures { (world : World) → IsGround world me ground.now → result ≡ drawn_access world me kind place value }
+{
+    let start = ground.geometry.section_start(me);
+    match kind % 4 {
+        0 => Access::Write(start + place % ground.geometry.out_words(), value),
+        1 => Access::Write(start + place % (ground.queue.payload() / 4), value),
+        2 => Access::State(value % 8),
+        _ => Access::Ring {
+            target: place % ground.geometry.peers(),
+            vector: value % 4,
+        },
+    }
+}
+
+/// A step of a storm. The answer is where its generator is then.
+fn storm(ground: &Ground, me: u32, x: u64, scene: &mut Scene) -> Result<u64, NoMemory>
+    requires ground { (world : World) × IsGround world me ground.now × (scene.old.region.shape ≡ world.geometry) }
+    requires seated { IsSeated scene.old me }
+    ensures turn { (world : World) (gone past : List Line) (losses : ℕ → ℕ) → IsGround world me ground.now → SceneStands world gone past losses scene.old →
+        IfOk result (λ next. (next ≡ storm_after x) × SceneStands world gone (reverse (turn_lines me (Some (storm_step world me x)) (step_interrupts world past losses me (Some (storm_step world me x)))) ++ past) losses scene.new) }
+    ensures seated { (q : ℕ) → IsSeated scene.old q → IsSeated scene.new q }
+{
+    let first = next(x);
+    let second = next(first);
+    let third = next(second);
+    let access = access_of(ground, me, drawn(first), drawn(second), drawn(third));
+    scene.perform(me, access)?;
+    Ok(third)
+}
+
+/// A turn of the peer of a seat.
+pub fn turn(
+    alloc: Global,
+    ground: &Ground,
+    me: u32,
+    seat: &mut Seat,
+    scene: &mut Scene,
+) -> Result<(), NoMemory>
+    requires ground { (world : World) × (peer : Peer) × IsGround world me ground.now × (scene.old.region.shape ≡ world.geometry) × SeatStands (who_of world me) peer seat.old × SeatFits (who_of world me) seat.old }
+    requires seated { IsSeated scene.old me }
+    ensures turn { (world : World) (gone past : List Line) (losses : ℕ → ℕ) (peer : Peer) → IsGround world me ground.now → SceneStands world gone past losses scene.old → SeatStands (who_of world me) peer seat.old →
+        OnOk result (SceneStands world gone (reverse (turn_lines me (turn_step world me peer past) (step_interrupts world past losses me (turn_step world me peer past))) ++ past) losses scene.new
+        × SeatStands (who_of world me) (turned world me peer past) seat.new) }
+    ensures seated { (q : ℕ) → IsSeated scene.old q → IsSeated scene.new q }
+    ensures kind { SameKind seat.old seat.new }
+{
+    match seat {
+        Seat::Honest(link) => {
+            take_turn(alloc, me, link, scene)?;
+            Ok(())
+        }
+        Seat::Storm(x) => {
+            *x = storm(ground, me, *x, scene)?;
+            Ok(())
+        }
+        Seat::Idle => {
+            scene.remark(Line::Idle { peer: me })?;
+            Ok(())
+        }
+    }
+}
+
+/// The device of the peer of a seat is reset.
+pub fn reset(alloc: Global, seat: &mut Seat)
+    ensures reset { (who : Who) (peer : Peer) → SeatStands who peer seat.old → SeatStands who (was_reset peer) seat.new }
+    ensures kind { SameKind seat.old seat.new }
+{
+    match seat {
+        Seat::Honest(link) => link.reset(alloc),
+        Seat::Storm(_) | Seat::Idle => {}
+    }
+}

@@ -1,0 +1,264 @@
+//! The world of a scenario on its way: its scene, and the seats of its peers.
+ghost use Rattle.std.specs.Prelude.{◌≡◌, ℕ, ◌+◌, ◌-◌, ◌<◌, ◌^◌, List, [], ◌∷◌, ◌++◌, true, false, IfOk, OnOk, length, slice_get, replicate};
+ghost use Rattle.split_ring.specs.declared.steps.Access.TheVariants as access;
+ghost use Rattle.scenario_text.specs.Scenario.{World, is_link};
+ghost use Rattle.lawful_history.specs.declared.line.Line.{Line};
+ghost use Rattle.lawful_history.specs.Schedule.{Event, Asked, Automated, Stormed, Turned, Acted, WasReset, Reached, Loses, Repeated, DeviceAccess, register_event, events_of};
+ghost use Rattle.lawful_history.specs.Sides.{world_of, who_of, traffic_vector};
+ghost use Rattle.lawful_history.specs.Peers.{at_start};
+ghost use Rattle.lawful_history.specs.Given.{IsThere};
+ghost use Rattle.stage.specs.Seats.{call_of, SeatStands, is_honest};
+ghost use Rattle.stage.specs.Stage.{AreAtStart, IsLinked, RunsTo, Happens, IsRunning, IsAct, Plays, moment_of};
+
+use crate::link::{Link, Waiting};
+use crate::scene::Scene;
+use crate::seat::{Ground, Seat, reset, turn};
+use doorbell_irq::Device;
+use ivs_base::{Frame, NoMemory};
+use lawful_history::{Line, Lines};
+use link_endpoint::Endpoint;
+use call_grammar::calls_stay_in_reach;
+use pci_space::Wiring;
+use scenario_text::{Act, Scenario};
+use section_map::Region;
+use std::alloc::Global;
+use std::collections::VecDeque;
+
+/// The sizes of the world, its scene, and the seat of each peer.
+#[derive(Drop)]
+pub struct Stage {
+    alloc: Global,
+    pub ground: Ground,
+    pub scene: Scene,
+    pub seats: Vec<Seat>,
+}
+
+/// The vector of the doorbells of offers and polls: 1 where MSI-X has two vectors or more, else 0 (profile).
+fn traffic_of(wiring: Wiring) -> u32
+    ensures { result ≡ traffic_vector wiring }
+{
+    match wiring {
+        Wiring::Msix(vectors) if vectors >= 2 => 1,
+        _ => 0,
+    }
+}
+
+/// The seat of a peer at the start.
+fn seat_of(alloc: Global, scenario: &Scenario, peer: u32) -> Result<Seat, NoMemory>
+    requires { peer < scenario.now.geometry.peers }
+    ensures stands { IfOk result (λ seat. SeatStands (who_of (world_of scenario.now) peer) at_start seat) }
+    ensures linked { IfOk result (λ seat. is_honest seat ≡ is_link (world_of scenario.now) peer) }
+{
+    if peer > 1 || !scenario.honest.items()[peer as usize] {
+        return Ok(Seat::Idle);
+    }
+    let end = Endpoint::new(
+        alloc,
+        peer,
+        &scenario.geometry,
+        &scenario.queue,
+        traffic_of(scenario.wiring),
+    )?;
+    Ok(Seat::Honest(Link {
+        end,
+        waiting: VecDeque::new(alloc),
+        auto: None,
+    }))
+}
+
+/// The seats of all peers at the start.
+fn seats_of(alloc: Global, scenario: &Scenario) -> Result<Vec<Seat>, NoMemory>
+    ensures { IfOk result (λ seats. AreAtStart (world_of scenario.now) scenario.now.geometry.peers seats.items) }
+{
+    let mut seats = Vec::new(alloc);
+    for peer in 0..scenario.geometry.peers() {
+        let seat = seat_of(alloc, scenario, peer)?;
+        match seats.push(seat) {
+            Ok(()) => {}
+            Err(_) => return Err(NoMemory),
+        }
+    }
+    Ok(seats)
+}
+
+impl Stage {
+    /// The world in which nothing has happened.
+    pub fn new(alloc: Global, scenario: &Scenario) -> Result<Stage, NoMemory>
+        ensures { IfOk result (λ stage. RunsTo (world_of scenario.now) [] [] stage) }
+    {
+        let seats = seats_of(alloc, scenario)?;
+        let region = Region::new(alloc, &scenario.geometry)?;
+        Ok(Stage {
+            alloc,
+            ground: Ground {
+                geometry: scenario.geometry,
+                queue: scenario.queue,
+            },
+            scene: Scene {
+                region,
+                device: Device::new(&scenario.geometry, scenario.wiring),
+                unspent: [0; 8],
+                lines: Lines::new(alloc),
+            },
+            seats,
+        })
+    }
+
+    /// Tells a peer to make a call.
+    fn ask(&mut self, peer: u32, call: Waiting) -> Result<(), NoMemory>
+        requires { IsLinked self.old.seats.items peer }
+        ensures { OnOk result (Happens (Asked peer (call_of call)) self.old self.new) }
+    {
+        match &mut self.seats[peer as usize] {
+            Seat::Honest(link) => {
+                link.ask(call)?;
+                Ok(())
+            }
+            _ => unreachable!(),
+        }
+    }
+
+    /// Tells a peer to choose its calls from now on.
+    fn automate(&mut self, peer: u32, expect: u64)
+        requires { IsLinked self.old.seats.items peer }
+        ensures { Happens (Automated peer expect) self.old self.new }
+    {
+        match &mut self.seats[peer as usize] {
+            Seat::Honest(link) => link.automate(self.alloc, expect),
+            _ => unreachable!(),
+        }
+    }
+
+    /// Tells a hostile peer to write at random from now on.
+    fn storm(&mut self, peer: u32, seed: u64)
+        requires { peer < length self.old.seats.items }
+        ensures { (world : World) (gone : List Line) (events : List Event) → IsThere world (Stormed peer seed) → is_link world peer ≡ false → RunsTo world gone events self.old → RunsTo world gone (events ++ Stormed peer seed ∷ []) self.new }
+    {
+        self.seats[peer as usize] = Seat::Storm(seed);
+    }
+
+    /// One turn of a peer.
+    pub fn turn(&mut self, peer: u32) -> Result<(), NoMemory>
+        requires { IsRunning self.old peer }
+        ensures { OnOk result (Happens (Turned peer) self.old self.new) }
+    {
+        calls_stay_in_reach();
+        let seat = &mut self.seats[peer as usize];
+        turn(self.alloc, &self.ground, peer, seat, &mut self.scene)?;
+        Ok(())
+    }
+
+    /// So many turns of a peer.
+    fn turns(&mut self, peer: u32, steps: u32) -> Result<(), NoMemory>
+        requires { IsRunning self.old peer }
+        ensures { OnOk result ((world : World) (gone : List Line) (events : List Event) → IsThere world (Turned peer) → RunsTo world gone events self.old → RunsTo world gone (events ++ replicate steps (Turned peer)) self.new) }
+    {
+        for _k in 0..steps {
+            self.turn(peer)?;
+        }
+        Ok(())
+    }
+
+    /// The device of a peer is reset: its open call is cut, and those that wait are dropped.
+    fn reset(&mut self, peer: u32) -> Result<(), NoMemory>
+        requires { IsRunning self.old peer }
+        ensures { OnOk result (Happens (WasReset peer) self.old self.new) }
+    {
+        reset(self.alloc, &mut self.seats[peer as usize]);
+        self.scene.reset(peer)?;
+        Ok(())
+    }
+
+    /// What one act asks for.
+    pub fn act(&mut self, act: &Act) -> Result<(), NoMemory>
+        requires { (world : World) × (gone : List Line) × (events : List Event) × RunsTo world gone events self.old × IsAct world act.now × ((p : ℕ) → (moment_of world events).losses p < 2 ^ 64 - 1) }
+        ensures { OnOk result (Plays act.now self.old self.new) }
+    {
+        match act {
+            Act::Tick { peer } => self.ask(*peer, Waiting::Tick),
+            Act::Offer { peer, frame } => {
+                let frame = Frame::of(self.alloc, frame.bytes())?;
+                self.ask(*peer, Waiting::Offer(frame))
+            }
+            Act::Poll { peer } => self.ask(*peer, Waiting::Poll),
+            Act::Stop { peer } => self.ask(*peer, Waiting::Stop),
+            Act::Auto { peer, expect } => {
+                self.automate(*peer, *expect);
+                Ok(())
+            }
+            Act::Storm { peer, seed } => {
+                self.storm(*peer, *seed);
+                Ok(())
+            }
+            Act::Turn { peer, steps } => self.turns(*peer, *steps),
+            Act::Reset { peer } => self.reset(*peer),
+            Act::Poke { peer, word, value } => self.poke(*peer, *word, *value),
+            Act::Peek { peer, word } => self.peek(*peer, *word),
+            Act::Set { peer, value } => self.set(*peer, *value),
+            Act::Ring {
+                peer,
+                target,
+                vector,
+            } => self.ring(*peer, *target, *vector),
+            Act::CfgRead {
+                peer,
+                offset,
+                width,
+            } => self.read_config(*peer, *offset, *width),
+            Act::CfgWrite {
+                peer,
+                offset,
+                width,
+                value,
+            } => self.write_config(*peer, *offset, *width, *value),
+            Act::MmioRead { peer, offset } => self.read_register(*peer, *offset),
+            Act::MmioWrite {
+                peer,
+                offset,
+                value,
+            } => self.write_register(*peer, *offset, *value),
+            Act::MsixRead { peer, offset } => self.read_msix(*peer, *offset),
+            Act::MsixWrite {
+                peer,
+                offset,
+                value,
+            } => self.write_msix(*peer, *offset, *value),
+            Act::Lose { peer } => {
+                self.lose(*peer);
+                Ok(())
+            }
+            Act::Again { peer, vector } => self.repeat(*peer, *vector),
+        }
+    }
+
+    /// Makes room for so many lines more. NoMemory comes only where memory ran out.
+    pub fn reserve(&mut self, more: usize) -> Result<(), NoMemory>
+        ensures { self.new ≡ self.old }
+    {
+        self.scene.lines.reserve(more)
+    }
+
+    /// The lines that were told and not taken away, in their order.
+    pub fn lines(&self) -> &[Line]
+        ensures { result.now ≡ self.now.scene.lines }
+    {
+        self.scene.lines.items()
+    }
+
+    /// Takes away the lines that were told.
+    pub fn forget(&mut self)
+        ensures on { (world : World) (gone : List Line) (events : List Event) → RunsTo world gone events self.old → RunsTo world (gone ++ self.old.scene.lines) events self.new }
+        ensures lines { self.new.scene.lines ≡ [] }
+    {
+        self.scene.lines.clear();
+    }
+
+    /// The lines that were told and not taken away.
+    pub fn into_lines(self) -> Lines
+        ensures { result ≡ self.scene.lines }
+    {
+        let Stage { scene, .. } = self;
+        let Scene { lines, .. } = scene;
+        lines
+    }
+}

@@ -10,8 +10,8 @@ use crate::fault::{Law, StepFault, Unlawful};
 use crate::law::broken_law;
 use ivs_base::NoMemory;
 use lawful_history::{Line, history_is_lawful, one_history};
-use stage::Stage;
 use scenario_text::{Act, Scenario};
+use stage::Stage;
 use std::alloc::Global;
 
 /// The stage of a scenario, the number of the act that comes next on it, how many turns of which peer come before that, and how many of

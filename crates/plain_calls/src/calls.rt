@@ -12,9 +12,9 @@ use crate::marks::marks_at;
 use crate::places::{Begun, Place, access_at, begin, first_place, next_place};
 use crate::steps::same_marks;
 use crate::{Access, Call, End, Step, Who};
+use call_grammar::played_are_calls;
 use ivs_base::NoMemory;
 use std::alloc::Global;
-use call_grammar::played_are_calls;
 
 /// Is a call open at the place?
 fn is_open(place: &Place) -> bool

@@ -10,9 +10,9 @@ ghost use Rattle.lawful_history.specs.Peers as history;
 ghost use Rattle.lawful_history.specs.Peers.{asked, automated, stormed, was_reset, at_start, opened, chosen, counted, counted_all, driver_after, stepped};
 ghost use Rattle.plain_history.specs.Peers.{IsPeer, HasFew, round_seen, auto_seen, choice_seen, driver_seen};
 
+use call_grammar::places_follow_trees;
 use ivs_base::{Frame, NoMemory};
 use link_handshake::Phase;
-use call_grammar::places_follow_trees;
 use plain_calls::{Call, End, Mark, OpenCall, Step, Who};
 use std::alloc::Global;
 use std::mem::replace;

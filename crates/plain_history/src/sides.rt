@@ -3,8 +3,8 @@ ghost use Rattle.std.specs.Prelude.{◌≡◌, ◌<◌, ◌^◌};
 ghost use Rattle.plain_calls.specs.Seen.{who_seen};
 ghost use Rattle.lawful_history.specs.Sides.{traffic_vector, world_of, who_of, partner};
 
-use plain_calls::Who;
 use pci_space::Wiring;
+use plain_calls::Who;
 use scenario_text::Scenario;
 
 /// The vector of the doorbells of offers and polls.

@@ -24,7 +24,9 @@ pub use acts::{Act, Acts, Flags};
 pub use drafts::Draft;
 pub use failures::Failure;
 pub use faults::{Cause, ScenarioFault};
-pub use laws::{bytes_after_end_are_bad_line, cut_is_no_end, fault_is_first, printed_is_read_again};
+pub use laws::{
+    bytes_after_end_are_bad_line, cut_is_no_end, fault_is_first, printed_is_read_again,
+};
 pub use loads::load;
 pub use printing::{print, put_scenario};
 pub use reading::parse;

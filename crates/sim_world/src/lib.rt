@@ -13,9 +13,9 @@ mod tests;
 
 use ivs_base::NoMemory;
 use lawful_history::history_is_lawful;
-use stage::Stage;
 use record_text::Trace;
 use scenario_text::{Act, Scenario};
+use stage::Stage;
 use std::alloc::Global;
 
 /// How many turns the acts ask for. Each has a line at least, and most have just one.

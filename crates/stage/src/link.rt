@@ -18,10 +18,10 @@ ghost use Rattle.stage.specs.Scene.{SceneStands, IsSeated};
 ghost use Rattle.stage.specs.Seats.{call_of, IsPlanOf, LinkStands, MayWait, LinkFits, IsPlaced};
 
 use crate::scene::Scene;
+use call_grammar::places_follow_trees;
 use ivs_base::{Frame, NoMemory};
 use lawful_history::Line;
 use link_endpoint::{Auto, Call, Choice, Endpoint};
-use call_grammar::places_follow_trees;
 use split_ring::steps::Note;
 use std::alloc::Global;
 use std::collections::VecDeque;

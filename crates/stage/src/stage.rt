@@ -13,11 +13,11 @@ ghost use Rattle.stage.specs.Stage.{AreAtStart, IsLinked, RunsTo, Happens, IsRun
 use crate::link::{Link, Waiting};
 use crate::scene::Scene;
 use crate::seat::{Ground, Seat, reset, turn};
+use call_grammar::calls_stay_in_reach;
 use doorbell_irq::Device;
 use ivs_base::{Frame, NoMemory};
 use lawful_history::{Line, Lines};
 use link_endpoint::Endpoint;
-use call_grammar::calls_stay_in_reach;
 use pci_space::Wiring;
 use scenario_text::{Act, Scenario};
 use section_map::Region;

@@ -11,7 +11,7 @@ ghost use Rattle.link_handshake.specs.declared.Phase.TheVariants.{Run};
 ghost use Rattle.tx_engine.specs.Sender.{IsSender, fresh_sender, is_open, IsFrame, IsInReach, entry_word_of};
 ghost use Rattle.tx_engine.specs.Stands.{StandsAt, Takes, IsMadeFor, IsFreshSession, ClosedStays};
 
-use crate::place::{Place, offer_after_ids, filling};
+use crate::place::{Place, filling, offer_after_ids};
 use frame_slots::Slots;
 use ivs_base::{NoMemory, plus, word_of};
 use split_ring::steps::{Access, Note, Notes};

@@ -4,7 +4,7 @@ ghost use Rattle.std.specs.Str.{bytes_eq};
 ghost use Rattle.std.specs.Cmp.Rules.{comparing};
 ghost use Rattle.std.proofs.Common.{rules};
 
-use std::alloc::Global;
+use std::alloc::{AllocError, Global};
 use std::marker::Model;
 use thiserror::Error;
 
@@ -12,6 +12,12 @@ use thiserror::Error;
 #[derive(Clone, Copy, Debug, PartialEq, Eq, Error)]
 #[error("out of memory")]
 pub struct NoMemory;
+
+impl From<AllocError> for NoMemory {
+    fn from(_e: AllocError) -> NoMemory {
+        NoMemory
+    }
+}
 
 /// An Ethernet frame without its check sequence: any list of bytes.
 #[derive(Debug, Drop)]
@@ -30,10 +36,8 @@ impl Frame {
     pub fn of(alloc: Global, bytes: &[u8]) -> Result<Frame, NoMemory>
         ensures { IfOk result (λ frame. frame ≡ bytes.now) }
     {
-        match bytes.to_vec(alloc) {
-            Ok(bytes) => Ok(Frame { bytes }),
-            Err(_) => Err(NoMemory),
-        }
+        let bytes = bytes.to_vec(alloc)?;
+        Ok(Frame { bytes })
     }
 
     /// The bytes of the frame, from its first.

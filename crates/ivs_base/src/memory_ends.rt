@@ -44,12 +44,8 @@ impl MemorySource {
         requires { 0 < piece }
         ensures { IfOk result (λ s. s ≡ record { left = bytes.now; piece = piece; fails = fails.now; calls = 0; faults = 0 }) }
     {
-        let Ok(bytes) = bytes.to_vec(alloc) else {
-            return Err(NoMemory);
-        };
-        let Ok(fails) = fails.to_vec(alloc) else {
-            return Err(NoMemory);
-        };
+        let bytes = bytes.to_vec(alloc)?;
+        let fails = fails.to_vec(alloc)?;
         Ok(MemorySource {
             bytes,
             at: 0,
@@ -135,12 +131,8 @@ impl MemorySink {
         requires { 0 < piece }
         ensures { IfOk result (λ s. s ≡ record { written = []; room = room; piece = piece; fails = fails.now; calls = 0; faults = 0 }) }
     {
-        let Ok(bytes) = Vec::with_capacity(alloc, room) else {
-            return Err(NoMemory);
-        };
-        let Ok(fails) = fails.to_vec(alloc) else {
-            return Err(NoMemory);
-        };
+        let bytes = Vec::with_capacity(alloc, room)?;
+        let fails = fails.to_vec(alloc)?;
         Ok(MemorySink {
             bytes,
             room,

@@ -7,6 +7,6 @@ use Rattle.stage.proofs.link.tell_note.Goals as goal
 pub remark-requires : goal.remark-requires
 remark-requires c = rw c.in_ok-line.ensures (mark_remark c.args.me _ c.requires)
 
-pub returns-clause-after : goal.returns-clause-after
-returns-clause-after c = λ world gone past losses scene_stands.
+pub returns-clause-scene_stands : goal.returns-clause-scene_stands
+returns-clause-scene_stands c = λ world gone past losses scene_stands.
     subst (λ (l : Line). SceneStands world gone (l ∷ past) losses c.remark.new.self) c.in_ok-line.ensures (c.in_ok-remark.ensures.scene_stands world gone past losses scene_stands)

@@ -24,7 +24,7 @@ loop-note-preserved c = (
   λ q seated. c.in_ok-tell_note.ensures.seated q (c.loop-note.invariant.1 q seated),
 )
 
-pub returns-clause-after : goal.returns-clause-after
-returns-clause-after c = λ world gone past losses scene_stands.
+pub returns-clause-scene_stands : goal.returns-clause-scene_stands
+returns-clause-scene_stands c = λ world gone past losses scene_stands.
     subst (λ (ns : List Note). SceneStands world gone (reverse (map (mark_line c.args.me) (marks_between (offered c.args.end.now) (delivered c.args.end.now) ns)) ++ past) losses c.loop-note.scene)
     (take_all c.loop-note.note-index c.args.notes.now (omega arith)) (c.loop-note.invariant.0 world gone past losses scene_stands)

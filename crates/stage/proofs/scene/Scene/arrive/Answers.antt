@@ -18,6 +18,6 @@ loop-delivery-preserved c = (
   λ me seated. c.in_ok-arrive_at.ensures.seated me (c.loop-delivery.invariant.1 me seated),
 )
 
-pub returns-clause-after : goal.returns-clause-after
-returns-clause-after c = λ world gone past losses scene_stands.
+pub returns-clause-scene_stands : goal.returns-clause-scene_stands
+returns-clause-scene_stands c = λ world gone past losses scene_stands.
     subst (λ (ds : List Delivery). SceneStands world gone (reverse (arrived past losses ds) ++ past) losses c.loop-delivery.self) (take_all c.loop-delivery.delivery-index c.args.deliveries.now (omega arith)) (c.loop-delivery.invariant.0 world gone past losses scene_stands)

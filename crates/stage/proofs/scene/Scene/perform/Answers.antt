@@ -15,18 +15,18 @@ Left world gone past losses me scene a value = GaveLast past a value × SceneSta
 to : (world : World) (gone past : List Line) (losses : ℕ → ℕ) (me : ℕ) (scene : Scene) (a b : Access) (value : ℕ) → a ≡ b → Left world gone past losses me scene b value → Left world gone past losses me scene a value
 to world gone past losses me scene a b value is left = subst (λ (x : Access). Left world gone past losses me scene x value) (sym is) left
 
-pub returns-in-Read-clause-after : goal.returns-in-Read-clause-after
-returns-in-Read-clause-after c = λ world gone past losses scene_stands.
+pub returns-in-Read-clause-scene_stands : goal.returns-in-Read-clause-scene_stands
+returns-in-Read-clause-scene_stands c = λ world gone past losses scene_stands.
     subst (λ (x : Access). IfOk c.read.result (Left world gone past losses c.args.me c.read.new.self x)) (sym c.in-Read.is) (c.read.ensures.scene_stands world gone past losses scene_stands)
 
-pub returns-in_ok-write-in-Write-clause-after : goal.returns-in_ok-write-in-Write-clause-after
-returns-in_ok-write-in-Write-clause-after c = λ world gone past losses scene_stands.
+pub returns-in_ok-write-in-Write-clause-scene_stands : goal.returns-in_ok-write-in-Write-clause-scene_stands
+returns-in_ok-write-in-Write-clause-scene_stands c = λ world gone past losses scene_stands.
     to world gone past losses c.args.me c.write.new.self c.args.access (access.Write c.in-Write.word c.in-Write.value) 0 c.in-Write.is (tt, c.in_ok-write-in-Write.ensures.scene_stands world gone past losses scene_stands)
 
-pub returns-in_ok-set_state-in-State-clause-after : goal.returns-in_ok-set_state-in-State-clause-after
-returns-in_ok-set_state-in-State-clause-after c = λ world gone past losses scene_stands.
+pub returns-in_ok-set_state-in-State-clause-scene_stands : goal.returns-in_ok-set_state-in-State-clause-scene_stands
+returns-in_ok-set_state-in-State-clause-scene_stands c = λ world gone past losses scene_stands.
     to world gone past losses c.args.me c.set_state.new.self c.args.access (access.State c.in-State.state) 0 c.in-State.is (tt, c.in_ok-set_state-in-State.ensures.scene_stands world gone past losses scene_stands)
 
-pub returns-in_ok-ring-in-Ring-clause-after : goal.returns-in_ok-ring-in-Ring-clause-after
-returns-in_ok-ring-in-Ring-clause-after c = λ world gone past losses scene_stands.
+pub returns-in_ok-ring-in-Ring-clause-scene_stands : goal.returns-in_ok-ring-in-Ring-clause-scene_stands
+returns-in_ok-ring-in-Ring-clause-scene_stands c = λ world gone past losses scene_stands.
     to world gone past losses c.args.me c.ring.new.self c.args.access (access.Ring c.in-Ring.target c.in-Ring.vector) 0 c.in-Ring.is (tt, c.in_ok-ring-in-Ring.ensures.scene_stands world gone past losses scene_stands)

@@ -7,8 +7,8 @@ use Rattle.stage.specs.Scene.{SceneStands, BringsBy}
 use Rattle.stage.proofs.Arriving.{come_after}
 use Rattle.stage.proofs.scene.Scene.reset.Goals as goal
 
-pub returns-clause-after : goal.returns-clause-after
-returns-clause-after c = λ world gone past losses scene_stands.
+pub returns-clause-scene_stands : goal.returns-clause-scene_stands
+returns-clause-scene_stands c = λ world gone past losses scene_stands.
     let line = Reset c.args.me in
     let told = c.in_ok-deliveries.ensures.scene_stands world gone past losses scene_stands in
     let brings : BringsBy world past (told_by line) c.as_slice.result.now = rw c.as_slice.ensures.value told.0 in

@@ -4,8 +4,8 @@ use Rattle.lawful_history.specs.declared.line.Line.TheVariants.{Reset}
 use Rattle.stage.proofs.Arriving.{told_after, reset_words}
 use Rattle.stage.proofs.scene.Scene.tell_reset.Goals as goal
 
-pub returns-clause-after : goal.returns-clause-after
-returns-clause-after c = λ world gone past losses scene_stands. (
+pub returns-clause-scene_stands : goal.returns-clause-scene_stands
+returns-clause-scene_stands c = λ world gone past losses scene_stands. (
   ap (λ e. e.deliveries.items) (c.reset-effect.ensures.effect (devices_of world) (device_events past) scene_stands.devices),
   told_after world gone past losses c.args.self.now _ (Reset c.args.me) _ scene_stands refl (λ p. refl) refl
       (rw c.set_state.ensures.written (reset_words c.args.self.now.region.words past c.args.me scene_stands.words))

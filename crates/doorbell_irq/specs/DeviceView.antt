@@ -5,12 +5,12 @@ use Rattle.doorbell_irq.specs.declared.registers.Registers.{Registers}
 use Rattle.doorbell_irq.specs.Events.{vector_count}
 
 -- How many peers there are, how interrupts are raised, and each peer's registers.
-pub record Devices : Type 0 where
+pub record DeviceView : Type 0 where
   pub peers : ℕ
   pub wiring : Wiring
   pub registers : List Registers
 
 -- There are at most 8 peers and at most 64 vectors (profile).
-pub record IsDevices (d : Devices) : Type 0 where
+pub record IsDeviceView (d : DeviceView) : Type 0 where
   pub few : d.peers ≤ 8
   pub entries : vector_count d.wiring ≤ 64

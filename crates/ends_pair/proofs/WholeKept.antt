@@ -1,5 +1,5 @@
 -- Two ends, each honest or not.
-use Rattle.std.proofs.Common.{◌≡◌, ℕ, ◌+◌, ◌-◌, ◌%◌, ◌<◌, Bool, true, length, refl, sym, ap, ◌∙◌, subst, arith, List}
+use Rattle.std.proofs.Common.{◌≡◌, ℕ, ◌+◌, ◌-◌, ◌%◌, ◌<◌, ◌≢◌, ◌⊎◌, Bool, true, false, length, refl, sym, ap, ◌∙◌, subst, arith, List}
 use mathlib.Core.Logic.{dite}
 use native.Mathlib.Decide.{ℕ_discrete}
 use Rattle.std.proofs.lemmas.Nat.{mod_below}
@@ -7,12 +7,13 @@ use Rattle.split_ring.specs.Layout.{size_of, limit_of, place_of, word_place, Add
 use Rattle.split_ring.specs.Spelling.{address_at, bytes_from}
 use Rattle.call_grammar.specs.Ends.{End}
 use Rattle.call_grammar.specs.Calls.{Call}
-use Rattle.call_grammar.specs.Places.{Place, WritingIndex}
+use Rattle.call_grammar.specs.Places.{Refusing, Place, WritingIndex}
 use Rattle.ends_pair.specs.Fields.{Field, is_field, field_word, part_of}
 use Rattle.ends_pair.specs.Fields as field
 use Rattle.ends_pair.specs.Ground.{Ground, IsGround, section_of, fields}
 use Rattle.ends_pair.specs.Steps.{IsUntouched, OnlyComes, BeginsCall, TakesStep, IsReset}
-use Rattle.ends_pair.specs.Alone.{frame_at, Spelled, Alone}
+use Rattle.ends_pair.specs.Alone.{frame_at, Spelled, Sent, Alone}
+use Rattle.ends_pair.specs.Pair.{Linked, Attends, OpensNone}
 use Rattle.ends_pair.specs.Whole.{Whole, WholeIsKept, HonestEndsAgree, SectionSpells, FramesAreSpelled}
 use Rattle.ends_pair.proofs.Fields.{numbers, one_test, both_tests, slot_start, slot_good, field_read}
 use Rattle.ends_pair.proofs.FrameBytes.{bytes_lem}
@@ -61,6 +62,25 @@ whole_kept = record {
     pair = λ h0 h1. pair_kept.others ground memory after ends places is (λ q q2. keep q q2 (dite (ℕ_discrete q 0) (λ e. ap honest e ∙ h0) (λ ne. let e : q ≡ 1 = omega arith in ap honest e ∙ h1))) (m.pair h0 h1);
   };
 }
+
+-- the same honest ends
+pub whole_like : (ground : Ground) (honest : ℕ → Bool) (memory : ℕ → ℕ) (ends next : ℕ → End) (places : ℕ → Place) → ((p : ℕ) → p < 2 → honest p ≡ true → next p ≡ ends p) → Whole ground honest memory ends places → Whole ground honest memory next places
+whole_like ground honest memory ends next places same m = record {
+  alone = λ p p2 hp. subst (λ x. Alone ground memory p x (places p)) (sym (same p p2 hp)) (m.alone p p2 hp);
+  pair = λ h0 h1. let b = m.pair h0 h1 in record {
+    alone = λ p p2. subst (λ x. Alone ground memory p x (places p)) (sym (mine h0 h1 p p2)) (b.alone p p2);
+    sound = λ p p2. subst (λ (x : End). (x.handshake.mark ≡ false) × (places p ≢ Refusing)) (sym (mine h0 h1 p p2)) (b.sound p p2);
+    cross = λ p p2. both h0 h1 p p2 (λ x y. Attends x (places p) → OpensNone y (places (1 - p))) (b.cross p p2);
+    sent = λ p p2. both h0 h1 p p2 (λ x y. Attends x (places p) ⊎ Attends y (places (1 - p)) → Sent ground (fields ground memory p) x.accepted x.freed x.returned) (b.sent p p2);
+    link = λ p p2. both h0 h1 p p2 (λ x y. Attends x (places p) ⊎ Attends y (places (1 - p)) → Linked ground (fields ground memory (1 - p)) x (places p) y (places (1 - p))) (b.link p p2);
+  };
+}
+  where
+    mine : honest 0 ≡ true → honest 1 ≡ true → (p : ℕ) → p < 2 → next p ≡ ends p
+    mine h0 h1 p p2 = same p p2 (dite (ℕ_discrete p 0) (λ e. ap honest e ∙ h0) (λ ne. let e : p ≡ 1 = omega arith in ap honest e ∙ h1))
+
+    both : honest 0 ≡ true → honest 1 ≡ true → (p : ℕ) → p < 2 → (P : End → End → Type 0) → P (ends p) (ends (1 - p)) → P (next p) (next (1 - p))
+    both h0 h1 p p2 P h = subst (λ x. P x (next (1 - p))) (sym (mine h0 h1 p p2)) (subst (P (ends p)) (sym (mine h0 h1 (1 - p) (omega arith))) h)
 
 pub agree : HonestEndsAgree
 agree = record { never_refuse = λ ground memory ends places p p2 m. ((m.sound p p2).1, (m.sound p p2).0); deliver = λ ground memory ends places p p2 m a. (m.link p p2 a).prefix }

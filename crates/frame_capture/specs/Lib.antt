@@ -1,0 +1,3 @@
+pub mod CaptureFile
+pub mod Faults
+pub mod Reading

@@ -1,0 +1,16 @@
+//! Capture files: the classic format that tcpdump writes, of Ethernet frames with their times. It stands on `ivs_base`
+//! for frames and on `byteorder` for numbers in either byte order. Its contracts promise that what `print` writes is a file
+//! of the capture, that `parse` answers a capture exactly where the bytes are a file of it, and that each fault is the
+//! first one in reading order.
+#![tactic(auto)]
+
+mod faults;
+mod order;
+mod packets;
+mod printing;
+mod reading;
+
+pub use faults::CaptureFault;
+pub use packets::{Capture, Packet, Packets};
+pub use printing::print;
+pub use reading::parse;

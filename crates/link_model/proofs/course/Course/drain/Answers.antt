@@ -1,7 +1,7 @@
 use Rattle.std.proofs.Common.{◌++◌, ap, sym, ◌∙◌, arith}
 use Rattle.std.proofs.lemmas.List.{append-nil, take_all}
 use Rattle.link_model.specs.Course.{world_in}
-use Rattle.link_model.proofs.course.Course.forget.Goals as goal
+use Rattle.link_model.proofs.course.Course.drain.Goals as goal
 
 pub returns-clause-along : goal.returns-clause-along
 returns-clause-along c = λ lines along.
@@ -10,14 +10,14 @@ returns-clause-along c = λ lines along.
     let played = along.played in
     let all = c.requires in
     record {
-      gone = along.gone ++ kept;
+      drained = along.drained ++ kept;
       played = record {
         events = played.events;
-        runs = c.forget.ensures.on (world_in course) along.gone played.events played.runs;
+        runs = c.drain.ensures.on (world_in course) along.drained played.events played.runs;
         at = played.at;
         scheduled = played.scheduled;
         peer = played.peer;
       };
       passed = omega arith;
-      taken = append-nil (along.gone ++ kept) ∙ ap (λ ls. along.gone ++ ls) (sym (take_all course.passed kept (omega arith))) ∙ along.taken;
+      taken = append-nil (along.drained ++ kept) ∙ ap (λ ls. along.drained ++ ls) (sym (take_all course.passed kept (omega arith))) ∙ along.taken;
     }

@@ -39,9 +39,9 @@ ids_holds ground memory p end job freed zero run next all room = dite (ℕ_discr
     (fill_holds ground memory p end job 0 (words_for (length job.frame)) run (omega arith) record { next = next; room = let number = next.number in omega arith; words = λ j lt. absurd (omega arith) }))
 ids_holds ground memory p end job freed (suc more) run next all room = ((run, next, all, room), refl)
 
-pub items_holds : (ground : Ground) (memory : ℕ → ℕ) (p : ℕ) (end : End) (number count : ℕ) → end.handshake.phase ≡ Run → number ≡ length end.delivered → Holds ground memory p end (items_place number count) × (counts (items_place number count) ≡ (0, 0))
-items_holds ground memory p end number zero run is = (run, refl)
-items_holds ground memory p end number (suc more) run is = ((run, is), refl)
+pub items_holds : (ground : Ground) (memory : ℕ → ℕ) (p : ℕ) (end : End) (number count : ℕ) → end.handshake.phase ≡ Run → number ≡ length end.delivered → count ≤ size_of ground.sizes → Holds ground memory p end (items_place number count) × (counts (items_place number count) ≡ (0, 0))
+items_holds ground memory p end number zero run is few = (run, refl)
+items_holds ground memory p end number (suc more) run is few = ((run, is, omega arith), refl)
 
 -- Marks that count frames freed
 pub full_quiet : (end : End) (b : Bool) → noted_all end (if b then Full ∷ [] else []) ≡ end
@@ -91,13 +91,13 @@ module _ (ground : Ground) (p : ℕ) (memory : ℕ → ℕ) (end : End) where
   reads_avail_index taken value a = let h = a.holds in let d = published_by taken value in
       by_test (λ m x. Alone ground memory p (noted_all end m) x) (nat_le d (size_of ground.sizes)) (look_marks d) (refusal field_name.AvailIndex (high_half value)) (if d == 0 then Closed else items_place taken d) Refusing
       (λ test. subst (λ (e : End). Alone ground memory p e (if d == 0 then Closed else items_place taken d)) (sym (look_quiet end (d == 0) d))
-      (by_test (λ m x. Alone ground memory p end x) (d == 0) [] [] Closed (items_place taken d) (λ t. moves Closed tt refl a.rests a) (λ t. let x = items_holds ground memory p end taken d h.0 h.1 in moves _ x.0 x.1 a.rests a)))
+      (by_test (λ m x. Alone ground memory p end x) (d == 0) [] [] Closed (items_place taken d) (λ t. moves Closed tt refl a.rests a) (λ t. let few : d ≤ size_of ground.sizes = grind (arith, nat_tests) in let x = items_holds ground memory p end taken d h.0 h.1 few in moves _ x.0 x.1 a.rests a)))
       (λ test. refuses h.0 refl a)
 
   pub reads_entry : (number more value : ℕ) → Alone ground memory p end (AtEntry number more) → StepsTo ground p memory end (AtEntry number more) value
   reads_entry number more value a = let h = a.holds in let e = entry_half (number % size_of ground.sizes) value in
       by_test (λ m x. Alone ground memory p (noted_all end m) x) (is_entry ground.sizes e) [] (refusal field_name.AvailEntry e) (AtLow number more e) Refusing
-      (λ test. moves (AtLow number more e) (h.0, h.1, entry_tells ground.sizes e test) refl a.rests a)
+      (λ test. moves (AtLow number more e) (h.0, h.1, entry_tells ground.sizes e test, h.2) refl a.rests a)
       (λ test. refuses h.0 refl a)
     where
       entry_tells : (q : Sizes) (e : ℕ) → is_entry q e ≡ true → e < size_of q
@@ -109,7 +109,7 @@ module _ (ground : Ground) (p : ℕ) (memory : ℕ → ℕ) (end : End) where
   pub reads_high : (number more entry low value : ℕ) → Alone ground memory p end (AtHigh number more entry low) → StepsTo ground p memory end (AtHigh number more entry low) value
   reads_high number more entry low value a = let h = a.holds in let address = address_of low value in
       by_test (λ m x. Alone ground memory p (noted_all end m) x) (is_address ground.sizes address) [] (refusal field_name.DescAddress address) (AtLength number more entry address) Refusing
-      (λ test. moves (AtLength number more entry address) (h.0, h.1, h.2, address_tells ground.sizes address test) refl a.rests a)
+      (λ test. moves (AtLength number more entry address) (h.0, h.1, h.2, address_tells ground.sizes address test, h.3) refl a.rests a)
       (λ test. refuses h.0 refl a)
     where
       address_tells : (q : Sizes) (address : ℕ) → is_address q address ≡ true → IsDescAddress q address
@@ -118,20 +118,16 @@ module _ (ground : Ground) (p : ℕ) (memory : ℕ → ℕ) (end : End) where
   pub reads_length : (number more entry address value : ℕ) → Alone ground memory p end (AtLength number more entry address) → StepsTo ground p memory end (AtLength number more entry address) value
   reads_length number more entry address value a = let h = a.holds in
       by_test (λ m x. Alone ground memory p (noted_all end m) x) (is_length ground.sizes address value) [] (refusal field_name.DescLength value) (AtFlags number more entry address value) Refusing
-      (λ test. moves (AtFlags number more entry address value) (h.0, h.1, h.2, h.3, length_tells ground.sizes address value test) refl a.rests a)
+      (λ test. moves (AtFlags number more entry address value) (h.0, h.1, h.2, h.3, length_tells ground.sizes address value test, h.4) refl a.rests a)
       (λ test. refuses h.0 refl a)
     where
       length_tells : (q : Sizes) (address bytes : ℕ) → is_length q address bytes ≡ true → IsDescLength q address bytes
       length_tells q address bytes test = (grind (arith, nat_tests), grind (arith, nat_tests), grind (arith, nat_tests))
 
-  words_holds : (number more entry address bytes : ℕ) (read : List ℕ) (words : ℕ) → end.handshake.phase ≡ Run → number ≡ length end.delivered → entry < size_of ground.sizes → IsDescAddress ground.sizes address → IsDescLength ground.sizes address bytes → length read + suc words ≡ words_for bytes →
-      Holds ground memory p end (AtWord number more entry address bytes read words)
-  words_holds number more entry address bytes read words run is low good long all = (run, is, low, good, long, all)
-
   first_word : (number more entry address bytes count : ℕ) → 14 ≤ bytes → count ≡ words_for bytes → Holds ground memory p end (AtFlags number more entry address bytes) → Alone ground memory p end (AtFlags number more entry address bytes) →
       Alone ground memory p end (words_place number more entry address bytes [] count)
   first_word number more entry address bytes zero some is h a = absurd (omega arith)
-  first_word number more entry address bytes (suc words) some is h a = moves (AtWord number more entry address bytes [] words) (h.0, h.1, h.2, h.3, h.4, omega arith) refl a.rests a
+  first_word number more entry address bytes (suc words) some is h a = moves (AtWord number more entry address bytes [] words) (h.0, h.1, h.2, h.3, h.4, omega arith, h.5) refl a.rests a
 
   pub reads_flags : (number more entry address bytes value : ℕ) → Alone ground memory p end (AtFlags number more entry address bytes) → StepsTo ground p memory end (AtFlags number more entry address bytes) value
   reads_flags number more entry address bytes value a = let h = a.holds in
@@ -143,7 +139,7 @@ module _ (ground : Ground) (p : ℕ) (memory : ℕ → ℕ) (end : End) where
   reads_word number more entry address bytes read zero value a = let h = a.holds in let run = h.0 in let frame = frame_in bytes (read ++ value ∷ []) in let more_than = length-append end.delivered (frame ∷ []) in let flat : length end.delivered ≡ end.returned + 0 = a.level (opened run) in let number_is = h.1 in record {
     state = a.state;
     written = a.written;
-    holds = (run, omega arith, h.2);
+    holds = (run, omega arith, h.2, h.6);
     rests = a.rests;
     ready = λ two. absurd (run_ready run two);
     level = λ o. omega arith;
@@ -153,4 +149,4 @@ module _ (ground : Ground) (p : ℕ) (memory : ℕ → ℕ) (end : End) where
   }
   reads_word number more entry address bytes read (suc words) value a = let h = a.holds in let longer = length-append read (value ∷ []) in let all = h.5 in let next = AtWord number more entry address bytes (read ++ value ∷ []) words in
       subst (λ (m : List Mark). Alone ground memory p (noted_all end m) next) (sym (no (suc words == 0) (Deliver (frame_in bytes (read ++ value ∷ [])) ∷ []) [] (ne_eqb (suc words) 0 (λ e. omega arith))))
-      (moves next (h.0, h.1, h.2, h.3, h.4, omega arith) refl a.rests a)
+      (moves next (h.0, h.1, h.2, h.3, h.4, omega arith, h.6) refl a.rests a)

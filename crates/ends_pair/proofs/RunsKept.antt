@@ -33,19 +33,19 @@ record AreSides (ground : Ground) (ends : ℕ → End) (places : ℕ → Place) 
   are : (p : ℕ) → p < 2 → SideIs (ends p) (places p) (sides p)
 
 -- one side and its log changed
-changed : {A : Type 0} → (ℕ → A) → ℕ → A → ℕ → A
+pub changed : {A : Type 0} → (ℕ → A) → ℕ → A → ℕ → A
 changed f p x q = if q == p then x else f q
 
-changed_here : {A : Type 0} → (f : ℕ → A) (p : ℕ) (x : A) → changed f p x p ≡ x
+pub changed_here : {A : Type 0} → (f : ℕ → A) (p : ℕ) (x : A) → changed f p x p ≡ x
 unfolding changed
 changed_here f p x = yes (p == p) x (f p) (eq-eqb p p refl)
 
-changed_beside : {A : Type 0} → (f : ℕ → A) (p q : ℕ) (x : A) → q ≢ p → changed f p x q ≡ f q
+pub changed_beside : {A : Type 0} → (f : ℕ → A) (p q : ℕ) (x : A) → q ≢ p → changed f p x q ≡ f q
 unfolding changed
 changed_beside f p q x ne = no (q == p) x (f q) (ne_eqb q p ne)
 
 -- a row of p goes on with the run
-row_runs : (sizes : Sizes) (sides : ℕ → Side) (logs : ℕ → Log) (p : ℕ) (told : Told) (new : Side) → p < 2 → MachineRuns sizes (λ p. true) sides logs → Row sizes true true (sides p) (sides (1 - p)) told new →
+pub row_runs : (sizes : Sizes) (sides : ℕ → Side) (logs : ℕ → Log) (p : ℕ) (told : Told) (new : Side) → p < 2 → MachineRuns sizes (λ p. true) sides logs → Row sizes true true (sides p) (sides (1 - p)) told new →
     (sides' : ℕ → Side) × (logs' : ℕ → Log) × MachineRuns sizes (λ p. true) sides' logs' × (sides' p ≡ new) × ((q : ℕ) → q ≢ p → sides' q ≡ sides q)
 row_runs sizes sides logs p told new p2 runs row = let l = log_after (logs p) (logs (1 - p)) (sides p) told in let ne : 1 - p ≢ p = λ e. omega arith in (
   changed sides p new,
@@ -56,14 +56,14 @@ row_runs sizes sides logs p told new p2 runs row = let l = log_after (logs p) (l
   λ q ne. changed_beside sides p q new ne,
 )
 
-along_runs : (sizes : Sizes) (tolds : List Told) (sides : ℕ → Side) (logs : ℕ → Log) (p : ℕ) (new : Side) → p < 2 → MachineRuns sizes (λ p. true) sides logs → RowsAlong sizes true (sides (1 - p)) (sides p) tolds new →
+pub along_runs : (sizes : Sizes) (tolds : List Told) (sides : ℕ → Side) (logs : ℕ → Log) (p : ℕ) (new : Side) → p < 2 → MachineRuns sizes (λ p. true) sides logs → RowsAlong sizes true (sides (1 - p)) (sides p) tolds new →
     (sides' : ℕ → Side) × (logs' : ℕ → Log) × MachineRuns sizes (λ p. true) sides' logs' × (sides' p ≡ new) × ((q : ℕ) → q ≢ p → sides' q ≡ sides q)
 along_runs sizes [] sides logs p new p2 runs along = (sides, logs, runs, sym along, λ q ne. refl)
 along_runs sizes (told ∷ tolds) sides logs p new p2 runs along = let r = row_runs sizes sides logs p told along.0 p2 runs along.1 in let ne : 1 - p ≢ p = λ e. omega arith in
     let rest = along_runs sizes tolds r.0 r.1 p new p2 r.2 (subst (λ (x : Side). RowsAlong sizes true x (r.0 p) tolds new) (sym (r.4 (1 - p) ne)) (subst (λ (x : Side). RowsAlong sizes true (sides (1 - p)) x tolds new) (sym r.3) along.2)) in
     (rest.0, rest.1, rest.2, rest.3, λ q ne. rest.4 q ne ∙ r.4 q ne)
 
-side_like : (end end' : End) (place place' : Place) (side side' : Side) → end' ≡ end → place' ≡ place → side' ≡ side → SideIs end place side → SideIs end' place' side'
+pub side_like : (end end' : End) (place place' : Place) (side side' : Side) → end' ≡ end → place' ≡ place → side' ≡ side → SideIs end place side → SideIs end' place' side'
 side_like end end' place place' side side' e f g h = subst (λ (x : End). SideIs x place' side') (sym e) (subst (λ (x : Place). SideIs end x side') (sym f) (subst (λ (x : Side). SideIs end place x) (sym g) h))
 
 -- the sides after a step of p

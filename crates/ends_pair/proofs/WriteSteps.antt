@@ -154,7 +154,7 @@ module _ (ground : Ground) (is : IsGround ground) (p : ℕ) (p2 : p < 2) (memory
   pub gives_id : (number more entry value : ℕ) → Leaves p memory (access_at (who_of ground p) (GivingId number more entry)) after → Alone ground memory p end (GivingId number more entry) → StepsTo ground p after end (GivingId number more entry) value
   gives_id number more entry value stored a = let h = a.holds in let k = number % size_of ground.sizes in
       let put = puts_lem (GivingId number more entry) stored h in
-      writes ground memory after p end (GivingId number more entry) (GivingLength number more) (field.UsedId k) _ _ _ h.0 a.rests stored put (λ live. live) (h.0, h.1) refl a
+      writes ground memory after p end (GivingId number more entry) (GivingLength number more) (field.UsedId k) _ _ _ h.0 a.rests stored put (λ live. live) (h.0, h.1, h.3) refl a
 
   pub gives_length : (number more value : ℕ) → Leaves p memory (access_at (who_of ground p) (GivingLength number more)) after → Alone ground memory p end (GivingLength number more) → StepsTo ground p after end (GivingLength number more) value
   gives_length number more value stored a = let h = a.holds in let k = number % size_of ground.sizes in
@@ -165,7 +165,7 @@ module _ (ground : Ground) (is : IsGround ground) (p : ℕ) (p2 : p < 2) (memory
   gives_index number more value stored a = let h = a.holds in let run = h.0 in let number_is = h.1 in let s = a.sent (opened run) in let level = a.level (opened run) in
       let put = puts_lem (GivingIndex number more) stored h in
       let now : End = record end { written = λ w. if w == section_of ground p + word_place ground.sizes ring.UsedIndex then index_word (number + 1) else end.written w; returned = end.returned + 1 } in
-      let x = items_holds ground after p now (number + 1) more run (omega arith) in record {
+      let x = items_holds ground after p now (number + 1) more run (omega arith) (let few = h.2 in omega arith) in record {
         state = put.state ∙ a.state;
         written = written_kept memory after (section_of ground p) _ _ ground.words end.written stored a.written;
         holds = x.0;

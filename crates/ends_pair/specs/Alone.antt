@@ -92,6 +92,10 @@ IsTaken end number = number ≡ length end.delivered
 abbrev pub IsGivenBack : End → ℕ → Type 0
 IsGivenBack end number = number ≡ end.returned
 
+-- with the one in hand no more items are left than the queue has
+abbrev pub AreFew : Ground → ℕ → Type 0
+AreFew ground more = more < size_of ground.sizes
+
 -- a tick holds what it may set, an offer what it has written, a poll what passed its tests
 abbrev pub Holds : Ground → (ℕ → ℕ) → ℕ → End → Place → Type 0
 Holds ground memory p end Closed = Unit {0}
@@ -117,18 +121,20 @@ Holds ground memory p end (WritingEntry job) =
 Holds ground memory p end (WritingIndex job) =
     InRun end × (job.number ≡ length end.accepted) × (job.number < end.freed + limit_of ground.sizes) × Spelled ground (fields ground memory p) job.number job.frame
 Holds ground memory p end (AtAvailIndex taken) = InRun end × IsTaken end taken
-Holds ground memory p end (AtEntry number more) = InRun end × IsTaken end number
-Holds ground memory p end (AtLow number more entry) = InRun end × IsTaken end number × (entry < size_of ground.sizes)
-Holds ground memory p end (AtHigh number more entry low) = InRun end × IsTaken end number × (entry < size_of ground.sizes)
-Holds ground memory p end (AtLength number more entry address) = InRun end × IsTaken end number × (entry < size_of ground.sizes) × IsDescAddress ground.sizes address
+Holds ground memory p end (AtEntry number more) = InRun end × IsTaken end number × AreFew ground more
+Holds ground memory p end (AtLow number more entry) = InRun end × IsTaken end number × (entry < size_of ground.sizes) × AreFew ground more
+Holds ground memory p end (AtHigh number more entry low) = InRun end × IsTaken end number × (entry < size_of ground.sizes) × AreFew ground more
+Holds ground memory p end (AtLength number more entry address) =
+    InRun end × IsTaken end number × (entry < size_of ground.sizes) × IsDescAddress ground.sizes address × AreFew ground more
 Holds ground memory p end (AtFlags number more entry address bytes) =
-    InRun end × IsTaken end number × (entry < size_of ground.sizes) × IsDescAddress ground.sizes address × IsDescLength ground.sizes address bytes
+    InRun end × IsTaken end number × (entry < size_of ground.sizes) × IsDescAddress ground.sizes address ×
+    IsDescLength ground.sizes address bytes × AreFew ground more
 Holds ground memory p end (AtWord number more entry address bytes read words) =
-    InRun end × IsTaken end number × (entry < size_of ground.sizes) × IsDescAddress ground.sizes address × IsDescLength ground.sizes address bytes ×
-    (length read + suc words ≡ words_for bytes)
-Holds ground memory p end (GivingId number more entry) = InRun end × IsGivenBack end number × (entry < size_of ground.sizes)
-Holds ground memory p end (GivingLength number more) = InRun end × IsGivenBack end number
-Holds ground memory p end (GivingIndex number more) = InRun end × IsGivenBack end number
+    InRun end × IsTaken end number × (entry < size_of ground.sizes) × IsDescAddress ground.sizes address ×
+    IsDescLength ground.sizes address bytes × (length read + suc words ≡ words_for bytes) × AreFew ground more
+Holds ground memory p end (GivingId number more entry) = InRun end × IsGivenBack end number × (entry < size_of ground.sizes) × AreFew ground more
+Holds ground memory p end (GivingLength number more) = InRun end × IsGivenBack end number × AreFew ground more
+Holds ground memory p end (GivingIndex number more) = InRun end × IsGivenBack end number × AreFew ground more
 Holds ground memory p end place = InRun end
 
 -- how many frames are delivered and not yet returned; and how many are accepted whose event the end hasn't heard, of which this version has none

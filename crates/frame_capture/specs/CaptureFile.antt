@@ -54,6 +54,10 @@ pub record IsPacket (p : Packet) : Type 0 where
   pub original : p.original < 2 ^ 32
   pub short : length p.frame ≤ 262144
 
+-- each frame fits into a packet
+abbrev pub AreShort : List Packet → Type 0
+AreShort ps = All (λ p. length p.frame ≤ 262144) ps
+
 -- the bytes are a file of the capture, in one of the orders; zone and figures may be any
 pub record IsCaptureFile (capture : Capture) (bytes : List ℕ) : Type 0 where
   pub order : Order

@@ -4,13 +4,17 @@
 //! first one in reading order.
 #![tactic(auto)]
 
+mod deliveries;
 mod faults;
+mod feeding;
 mod order;
 mod packets;
 mod printing;
 mod reading;
 
+pub use deliveries::captured;
 pub use faults::CaptureFault;
+pub use feeding::{FeedFault, scenario_of};
 pub use packets::{Capture, Packet, Packets};
 pub use printing::print;
 pub use reading::parse;

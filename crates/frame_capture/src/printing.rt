@@ -1,7 +1,7 @@
 //! Writing a capture file.
 ghost use Rattle.std.specs.Prelude.{◌≡◌, ◌≤◌, ◌++◌, ◌^◌, ◌<◌, All, length, IfOk, OnOk};
 ghost use Rattle.byteorder.specs.Endian.{little_bytes};
-ghost use Rattle.frame_capture.specs.CaptureFile.{header_bytes, packet_bytes, packets_bytes, IsPacket, IsCaptureFile};
+ghost use Rattle.frame_capture.specs.CaptureFile.{header_bytes, packet_bytes, packets_bytes, IsPacket, AreShort, IsCaptureFile};
 
 use crate::order::Order;
 use crate::packets::{Capture, Packet};
@@ -57,7 +57,7 @@ fn put_packet(out: &mut Vec<u8>, packet: &Packet) -> Result<(), AllocError>
 
 /// Puts the packets last.
 fn put_packets(out: &mut Vec<u8>, all: &[Packet]) -> Result<(), AllocError>
-    requires { All (λ p. length p.frame ≤ 262144) all.now }
+    requires { AreShort all.now }
     ensures put { OnOk result (out.new.items ≡ out.old.items ++ packets_bytes Order.Little all.now) }
     ensures fits { OnOk result (All IsPacket all.now) }
 {
@@ -69,7 +69,7 @@ fn put_packets(out: &mut Vec<u8>, all: &[Packet]) -> Result<(), AllocError>
 
 /// The file of the capture in little-endian order, with zone and figures 0. NoMemory comes only where memory ran out.
 pub fn print(alloc: Global, capture: &Capture) -> Result<Vec<u8>, NoMemory>
-    requires { All (λ p. length p.frame ≤ 262144) capture.now.packets }
+    requires { AreShort capture.now.packets }
     ensures printed { IfOk result (λ bytes. bytes.items
         ≡ header_bytes Order.Little 0 0 capture.now.snaplen ++ packets_bytes Order.Little capture.now.packets) }
     ensures file { IfOk result (λ bytes. IsCaptureFile capture.now bytes.items) }

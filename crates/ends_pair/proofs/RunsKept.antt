@@ -33,35 +33,51 @@ record AreSides (ground : Ground) (ends : ℕ → End) (places : ℕ → Place) 
   are : (p : ℕ) → p < 2 → SideIs (ends p) (places p) (sides p)
 
 -- one side and its log changed
-pub changed : {A : Type 0} → (ℕ → A) → ℕ → A → ℕ → A
+changed : {A : Type 0} → (ℕ → A) → ℕ → A → ℕ → A
 changed f p x q = if q == p then x else f q
 
-pub changed_here : {A : Type 0} → (f : ℕ → A) (p : ℕ) (x : A) → changed f p x p ≡ x
+changed_here : {A : Type 0} → (f : ℕ → A) (p : ℕ) (x : A) → changed f p x p ≡ x
 unfolding changed
 changed_here f p x = yes (p == p) x (f p) (eq-eqb p p refl)
 
-pub changed_beside : {A : Type 0} → (f : ℕ → A) (p q : ℕ) (x : A) → q ≢ p → changed f p x q ≡ f q
+changed_beside : {A : Type 0} → (f : ℕ → A) (p q : ℕ) (x : A) → q ≢ p → changed f p x q ≡ f q
 unfolding changed
 changed_beside f p q x ne = no (q == p) x (f q) (ne_eqb q p ne)
 
--- a row of p goes on with the run
-pub row_runs : (sizes : Sizes) (sides : ℕ → Side) (logs : ℕ → Log) (p : ℕ) (told : Told) (new : Side) → p < 2 → MachineRuns sizes (λ p. true) sides logs → Row sizes true true (sides p) (sides (1 - p)) told new →
-    (sides' : ℕ → Side) × (logs' : ℕ → Log) × MachineRuns sizes (λ p. true) sides' logs' × (sides' p ≡ new) × ((q : ℕ) → q ≢ p → sides' q ≡ sides q)
-row_runs sizes sides logs p told new p2 runs row = let l = log_after (logs p) (logs (1 - p)) (sides p) told in let ne : 1 - p ≢ p = λ e. omega arith in (
-  changed sides p new,
-  changed logs p l,
-  machine.goes sides (changed sides p new) logs (changed logs p l) p told runs p2 (subst (λ (x : Side). Row sizes true true (sides p) (sides (1 - p)) told x) (sym (changed_here sides p new)) row)
-      (changed_beside sides p (1 - p) new ne) (changed_here logs p l) (changed_beside logs p (1 - p) l ne),
-  changed_here sides p new,
-  λ q ne. changed_beside sides p q new ne,
-)
+-- p comes to a new side and log in the run, and the other stays
+pub record Stepped (sizes : Sizes) (sides : ℕ → Side) (logs : ℕ → Log) (p : ℕ) (new : Side) (log : Log) : Type 0 where
+  pub sides' : ℕ → Side
+  pub logs' : ℕ → Log
+  pub run : MachineRuns sizes (λ p. true) sides' logs'
+  pub side_is : sides' p ≡ new
+  pub log_is : logs' p ≡ log
+  pub sides_stay : (q : ℕ) → q ≢ p → sides' q ≡ sides q
+  pub logs_stay : (q : ℕ) → q ≢ p → logs' q ≡ logs q
 
-pub along_runs : (sizes : Sizes) (tolds : List Told) (sides : ℕ → Side) (logs : ℕ → Log) (p : ℕ) (new : Side) → p < 2 → MachineRuns sizes (λ p. true) sides logs → RowsAlong sizes true (sides (1 - p)) (sides p) tolds new →
-    (sides' : ℕ → Side) × (logs' : ℕ → Log) × MachineRuns sizes (λ p. true) sides' logs' × (sides' p ≡ new) × ((q : ℕ) → q ≢ p → sides' q ≡ sides q)
-along_runs sizes [] sides logs p new p2 runs along = (sides, logs, runs, sym along, λ q ne. refl)
-along_runs sizes (told ∷ tolds) sides logs p new p2 runs along = let r = row_runs sizes sides logs p told along.0 p2 runs along.1 in let ne : 1 - p ≢ p = λ e. omega arith in
-    let rest = along_runs sizes tolds r.0 r.1 p new p2 r.2 (subst (λ (x : Side). RowsAlong sizes true x (r.0 p) tolds new) (sym (r.4 (1 - p) ne)) (subst (λ (x : Side). RowsAlong sizes true (sides (1 - p)) x tolds new) (sym r.3) along.2)) in
-    (rest.0, rest.1, rest.2, rest.3, λ q ne. rest.4 q ne ∙ r.4 q ne)
+-- a row of p goes on with the run
+pub row_step : (sizes : Sizes) (p : ℕ) (p2 : p < 2) (sides : ℕ → Side) (logs : ℕ → Log) (told : Told) (new : Side) → MachineRuns sizes (λ p. true) sides logs → Row sizes true true (sides p) (sides (1 - p)) told new →
+    Stepped sizes sides logs p new (log_after (logs p) (logs (1 - p)) (sides p) told)
+row_step sizes p p2 sides logs told new r row = let l = log_after (logs p) (logs (1 - p)) (sides p) told in let ne : 1 - p ≢ p = λ e. omega arith in record {
+  sides' = changed sides p new;
+  logs' = changed logs p l;
+  run = machine.goes sides (changed sides p new) logs (changed logs p l) p told r p2 (subst (λ (x : Side). Row sizes true true (sides p) (sides (1 - p)) told x) (sym (changed_here sides p new)) row)
+      (changed_beside sides p (1 - p) new ne) (changed_here logs p l) (changed_beside logs p (1 - p) l ne);
+  side_is = changed_here sides p new;
+  log_is = changed_here logs p l;
+  sides_stay = λ q ne. changed_beside sides p q new ne;
+  logs_stay = λ q ne. changed_beside logs p q l ne;
+}
+
+-- the rows of what is left, after one of them
+pub rows_on : (sizes : Sizes) (p : ℕ) (p2 : p < 2) (tolds : List Told) (sides : ℕ → Side) (logs : ℕ → Log) (mid new : Side) (log : Log) → (a : Stepped sizes sides logs p mid log) → RowsAlong sizes true (sides (1 - p)) mid tolds new → RowsAlong sizes true (a.sides' (1 - p)) (a.sides' p) tolds new
+rows_on sizes p p2 tolds sides logs mid new log a rows = let ne : 1 - p ≢ p = λ e. omega arith in
+    subst (λ (x : Side). RowsAlong sizes true x (a.sides' p) tolds new) (sym (a.sides_stay (1 - p) ne)) (subst (λ (x : Side). RowsAlong sizes true (sides (1 - p)) x tolds new) (sym a.side_is) rows)
+
+along_runs : (sizes : Sizes) (tolds : List Told) (sides : ℕ → Side) (logs : ℕ → Log) (p : ℕ) (new : Side) → p < 2 → MachineRuns sizes (λ p. true) sides logs → RowsAlong sizes true (sides (1 - p)) (sides p) tolds new →
+    (log : Log) × Stepped sizes sides logs p new log
+along_runs sizes [] sides logs p new p2 runs along = (logs p, record { sides' = sides; logs' = logs; run = runs; side_is = sym along; log_is = refl; sides_stay = λ q ne. refl; logs_stay = λ q ne. refl })
+along_runs sizes (told ∷ tolds) sides logs p new p2 runs along = let a = row_step sizes p p2 sides logs told along.0 runs along.1 in let b = along_runs sizes tolds a.sides' a.logs' p new p2 a.run (rows_on sizes p p2 tolds sides logs along.0 new _ a along.2) in
+    (b.0, record { sides' = b.1.sides'; logs' = b.1.logs'; run = b.1.run; side_is = b.1.side_is; log_is = b.1.log_is; sides_stay = λ q ne. b.1.sides_stay q ne ∙ a.sides_stay q ne; logs_stay = λ q ne. b.1.logs_stay q ne ∙ a.logs_stay q ne })
 
 pub side_like : (end end' : End) (place place' : Place) (side side' : Side) → end' ≡ end → place' ≡ place → side' ≡ side → SideIs end place side → SideIs end' place' side'
 side_like end end' place place' side side' e f g h = subst (λ (x : End). SideIs x place' side') (sym e) (subst (λ (x : Place). SideIs end x side') (sym f) (subst (λ (x : Side). SideIs end place x) (sym g) h))
@@ -69,13 +85,13 @@ side_like end end' place place' side side' e f g h = subst (λ (x : End). SideIs
 -- the sides after a step of p
 moved : (ground : Ground) (ends after_ends : ℕ → End) (places after_places : ℕ → Place) (p : ℕ) (end : End) (place : Place) (tolds : List Told) (new : Side) → p < 2 → (r : AreSides ground ends places) → RowsAlong ground.sizes true (r.sides (1 - p)) (r.sides p) tolds new → SideIs end place new →
     OnlyComes ends after_ends places after_places p end place → AreSides ground after_ends after_places
-moved ground ends after_ends places after_places p end place tolds new p2 r along is only = let x = along_runs ground.sizes tolds r.sides r.logs p new p2 r.runs along in record {
-  sides = x.0;
-  logs = x.1;
-  runs = x.2;
+moved ground ends after_ends places after_places p end place tolds new p2 r along is only = let x = (along_runs ground.sizes tolds r.sides r.logs p new p2 r.runs along).1 in record {
+  sides = x.sides';
+  logs = x.logs';
+  runs = x.run;
   are = λ q q2. dite (ℕ_discrete q p)
-      (λ e. side_like end (after_ends q) place (after_places q) new (x.0 q) (ap after_ends e ∙ only.end_is) (ap after_places e ∙ only.place_is) (ap x.0 e ∙ x.3) is)
-      (λ ne. side_like (ends q) (after_ends q) (places q) (after_places q) (r.sides q) (x.0 q) (only.ends_stay q ne) (only.places_stay q ne) (x.4 q ne) (r.are q q2));
+      (λ e. side_like end (after_ends q) place (after_places q) new (x.sides' q) (ap after_ends e ∙ only.end_is) (ap after_places e ∙ only.place_is) (ap x.sides' e ∙ x.side_is) is)
+      (λ ne. side_like (ends q) (after_ends q) (places q) (after_places q) (r.sides q) (x.sides' q) (only.ends_stay q ne) (only.places_stay q ne) (x.sides_stay q ne) (r.are q q2));
 }
 
 -- two honest ends are the sides of such a run

@@ -22,6 +22,7 @@ use Rattle.ends_pair.proofs.AloneKept.{alone_kept}
 use Rattle.ends_pair.specs.Sides.{SideIs}
 use Rattle.ends_pair.proofs.WholeKept.{whole_kept}
 use Rattle.ends_pair.proofs.RowsKept.{follow_lem}
+use Rattle.ends_pair.proofs.RunsKept.{side_like}
 use Rattle.lawful_history.specs.declared.line.Line.{Line}
 use Rattle.lawful_history.specs.declared.line.Line.TheVariants as line
 use Rattle.lawful_history.specs.Memory.{last_write}
@@ -48,9 +49,6 @@ one_or_other p q below below' = dite (ℕ_discrete q p) (λ e. inl e) (λ ne. in
 
 other_is : (p : ℕ) → p < 2 → 1 - p ≢ p
 other_is p below e = absurd (omega arith)
-
-side_like : (end end' : End) (place place' : Place) (side side' : Side) → end' ≡ end → place' ≡ place → side' ≡ side → SideIs end place side → SideIs end' place' side'
-side_like end end' place place' side side' e f g h = subst (λ (x : End). SideIs x place' side') (sym e) (subst (λ (x : Place). SideIs end x side') (sym f) (subst (λ (x : Side). SideIs end place x) (sym g) h))
 
 -- what lines of p keep: its side has become new, and the words, the side and the reads of the other stay
 pub record Keeps (world : World) (past after : List Line) (p : ℕ) (new : Side) : Type 0 where

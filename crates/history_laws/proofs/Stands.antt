@@ -7,7 +7,7 @@ use Rattle.doorbell_irq.specs.declared.effect.Delivery.{Delivery}
 use Rattle.doorbell_irq.specs.Events as device
 use Rattle.doorbell_irq.specs.DeviceRules.{effect_of}
 use Rattle.scenario_text.specs.Scenario.{World, is_link}
-use Rattle.call_grammar.specs.Steps.{Mark, Saw, Reclaim, Full, Accept, Look, Deliver, Return, Done, Down, Refuse, Over, Step}
+use Rattle.call_grammar.specs.Steps.{Mark, Accept, Deliver, Refuse, Step}
 use Rattle.call_grammar.specs.Ends.{End}
 use Rattle.call_grammar.specs.Places.{Place}
 use Rattle.link_machine.specs.LinkMachine.{Side, Wrote, Marked, WasReset}
@@ -36,17 +36,10 @@ use Rattle.split_ring.specs.declared.steps.Access.TheVariants as access
 
 -- what stands where a mark does: an accepted frame is spelled, a delivered one was read, and a refused value too
 abbrev pub MarkRests : World → List Line → ℕ → Mark → Type 0
-MarkRests world older p (Saw value) = Unit {0}
-MarkRests world older p (Reclaim count) = Unit {0}
-MarkRests world older p Full = Unit {0}
 MarkRests world older p (Accept frame) = SpellsNext world older p frame
-MarkRests world older p (Look count) = Unit {0}
 MarkRests world older p (Deliver frame) = IsReadFrame (who_of world p) (length (side_of older p).delivered) (reads_of older p) frame
-MarkRests world older p Return = Unit {0}
-MarkRests world older p Done = Unit {0}
-MarkRests world older p Down = Unit {0}
 MarkRests world older p (Refuse refused) = IsReadBeyond (who_of world p) (side_of older p) (reads_of older p) refused.field refused.value
-MarkRests world older p Over = Unit {0}
+MarkRests world older p mark = Unit {0}
 
 -- and an honest side that refused writes 0 alone
 abbrev pub Rests : World → List Line → Telling → Type 0

@@ -43,18 +43,19 @@ row_new sizes mine theirs side other (Wrote state) new row = row.1
 row_new sizes mine theirs side other (Marked mark) new row = mark_new sizes theirs side other mark new row.1
 row_new sizes mine theirs side other WasReset new row = row
 
-mark_tells : (p : ℕ) (mark : Mark) → telling_of (mark_line p mark) ≡ Tells p (Marked mark)
-mark_tells p (Saw value) = refl
-mark_tells p (Reclaim count) = refl
-mark_tells p Full = refl
-mark_tells p (Accept frame) = refl
-mark_tells p (Look count) = refl
-mark_tells p (Deliver frame) = refl
-mark_tells p Return = refl
-mark_tells p Done = refl
-mark_tells p Down = refl
-mark_tells p (Refuse refused) = refl
-mark_tells p Over = refl
+-- the line of a mark tells the mark, and breaks the reads
+mark_is : (p : ℕ) (mark : Mark) → (telling_of (mark_line p mark) ≡ Tells p (Marked mark)) × (reading_of (mark_line p mark) ≡ Breaks p)
+mark_is p (Saw value) = (refl, refl)
+mark_is p (Reclaim count) = (refl, refl)
+mark_is p Full = (refl, refl)
+mark_is p (Accept frame) = (refl, refl)
+mark_is p (Look count) = (refl, refl)
+mark_is p (Deliver frame) = (refl, refl)
+mark_is p Return = (refl, refl)
+mark_is p Done = (refl, refl)
+mark_is p Down = (refl, refl)
+mark_is p (Refuse refused) = (refl, refl)
+mark_is p Over = (refl, refl)
 
 -- A line that tells something of an honest link peer, and its row
 
@@ -89,19 +90,6 @@ one_told world past line p told new below honest tells row rests answered =
       beside = ap (λ (t : Telling). side_told t (1 - p) (side_of past (1 - p))) tells ∙ there_is p (1 - p) (side_after told (side_of past (1 - p))) (side_of past (1 - p)) (other_of p below);
     }
 
-mark_breaks : (p : ℕ) (mark : Mark) → reading_of (mark_line p mark) ≡ Breaks p
-mark_breaks p (Saw value) = refl
-mark_breaks p (Reclaim count) = refl
-mark_breaks p Full = refl
-mark_breaks p (Accept frame) = refl
-mark_breaks p (Look count) = refl
-mark_breaks p (Deliver frame) = refl
-mark_breaks p Return = refl
-mark_breaks p Done = refl
-mark_breaks p Down = refl
-mark_breaks p (Refuse refused) = refl
-mark_breaks p Over = refl
-
 pub broken_here : (line : Line) (past : List Line) (p : ℕ) → reading_of line ≡ Breaks p → reads_of (line ∷ past) p ≡ []
 broken_here line past p breaks = ap (λ (r : Reading). reads_with r p (reads_of past p)) breaks ∙ here_is p [] (reads_of past p)
 
@@ -127,7 +115,7 @@ settled_marks world past p [] settled = settled
 settled_marks world past p (mark ∷ marks) settled = answers world past (mark_line p mark) settled
 
 mark_settled : (world : World) (past : List Line) (p : ℕ) (mark : Mark) → Settled world (mark_line p mark ∷ past)
-mark_settled world past p mark = subst (λ (r : Reading). SettledBy world r past) (sym (mark_breaks p mark)) tt
+mark_settled world past p mark = subst (λ (r : Reading). SettledBy world r past) (sym (mark_is p mark).1) tt
 
 -- After some lines with these marks: memory is as before, the side of p has become new and that of its partner stays
 
@@ -147,15 +135,15 @@ marks_went world p (mark ∷ marks) past side new below honest is rests answered
     let first = mark_line p mark in
     let row : Row world.queue true (is_link world (1 - p)) (side_of past p) (side_of past (1 - p)) (Marked mark) along.0 =
     subst (λ (x : Side). Row world.queue true (is_link world (1 - p)) x (side_of past (1 - p)) (Marked mark) along.0) (sym is) along.1 in
-    let one = one_told world past first p (Marked mark) along.0 below honest (mark_tells p mark) row rests.0 answered in
+    let one = one_told world past first p (Marked mark) along.0 below honest (mark_is p mark).0 row rests.0 answered in
     let rest = marks_went world p marks (first ∷ past) along.0 new below honest one.here rests.1 (settled_marks world (first ∷ past) p marks (mark_settled world past p mark))
     (subst (λ (x : Side). RowsAlong world.queue (is_link world (1 - p)) x along.0 (map Marked marks) new) (sym one.beside) along.2) (one.fine, fine) in
     subst (λ (new_lines : List Line). Went world p past new_lines (mark ∷ marks) new) (sym (first_after first (map (mark_line p) marks) past)) record {
       memory = rest.memory ∙ memory_after first past (mark_apart p mark);
       here = rest.here;
       beside = rest.beside ∙ one.beside;
-      reads_here = rest.reads_here ∙ (ap (reads_marked marks) (broken_here first past p (mark_breaks p mark)) ∙ marked_none marks);
-      reads_beside = rest.reads_beside ∙ broken_beside first past p below (mark_breaks p mark);
+      reads_here = rest.reads_here ∙ (ap (reads_marked marks) (broken_here first past p (mark_is p mark).1) ∙ marked_none marks);
+      reads_beside = rest.reads_beside ∙ broken_beside first past p below (mark_is p mark).1;
       settled = rest.settled;
       fine = rest.fine;
     }

@@ -32,7 +32,7 @@ use Rattle.ends_pair.specs.Sides.{told_of, told_by, RowsAlong, SawFor, SeenIs, S
 use Rattle.ends_pair.specs.Runs.{HonestRuns}
 use Rattle.ends_pair.specs.Runs as honest
 use Rattle.ends_pair.proofs.RowsKept.{follow_lem}
-use Rattle.ends_pair.proofs.RunsKept.{whole_lem, changed, changed_here, changed_beside, side_like}
+use Rattle.ends_pair.proofs.RunsKept.{whole_lem, Stepped, row_step, rows_on, side_like}
 use Rattle.pair_sessions.specs.Once.{CalmRuns, starts, begins, steps, others, IsStill, IsOnce, CalmRunsDeliver}
 use Rattle.pair_sessions.proofs.Numbering.{state_at}
 
@@ -156,26 +156,20 @@ calm_like : (p p' q q' : Side) (l l' : Log) → p' ≡ p → q' ≡ q → l' ≡
 calm_like p p' q q' l l' e f g c = subst (λ x. Calm x q' l') (sym e) (subst (λ x. Calm p x l') (sym f) (subst (Calm p q) (sym g) c))
 
 module _ (sizes : Sizes) (p : ℕ) (p2 : p < 2) where
-  row_step : (sides : ℕ → Side) (logs : ℕ → Log) (told : Told) (new : Side) → MachineRuns sizes (λ p. true) sides logs → ((q : ℕ) → q < 2 → Calm (sides q) (sides (1 - q)) (logs q)) → IsUp told → Row sizes true true (sides p) (sides (1 - p)) told new → Along sizes sides p new
-  row_step sides logs told new r calm up row = let l = log_after (logs p) (logs (1 - p)) (sides p) told in let ne : 1 - p ≢ p = λ e. omega arith in let o2 : 1 - p < 2 = omega arith in let back : 1 - (1 - p) ≡ p = omega arith in
+  calm_step : (sides : ℕ → Side) (logs : ℕ → Log) (told : Told) (new : Side) → MachineRuns sizes (λ p. true) sides logs → ((q : ℕ) → q < 2 → Calm (sides q) (sides (1 - q)) (logs q)) → IsUp told → Row sizes true true (sides p) (sides (1 - p)) told new →
+      (a : Stepped sizes sides logs p new (log_after (logs p) (logs (1 - p)) (sides p) told)) → (q : ℕ) → q < 2 → Calm (a.sides' q) (a.sides' (1 - q)) (a.logs' q)
+  calm_step sides logs told new r calm up row a q q2 = let l = log_after (logs p) (logs (1 - p)) (sides p) told in let ne : 1 - p ≢ p = λ e. omega arith in let o2 : 1 - p < 2 = omega arith in let back : 1 - (1 - p) ≡ p = omega arith in
       let kind = kind_of sizes (sides p) (sides (1 - p)) (logs p) (logs (1 - p)) told new row in
       let mine = mine_lem (sides p) (sides (1 - p)) new (logs p) (logs (1 - p)) l kind (stays_up sizes (sides p) (sides (1 - p)) told new row up) (half_of sizes (λ p. true) sides logs refl refl r p p2) (calm p p2) in
-      let theirs = theirs_lem (sides p) (sides (1 - p)) new (logs p) (logs (1 - p)) l kind (subst (λ k. Calm (sides (1 - p)) (sides k) (logs (1 - p))) back (calm (1 - p) o2)) in record {
-        sides' = changed sides p new;
-        logs' = changed logs p l;
-        run = machine.goes sides (changed sides p new) logs (changed logs p l) p told r p2 (subst (λ (x : Side). Row sizes true true (sides p) (sides (1 - p)) told x) (sym (changed_here sides p new)) row)
-            (changed_beside sides p (1 - p) new ne) (changed_here logs p l) (changed_beside logs p (1 - p) l ne);
-        calm = λ q q2. dite (ℕ_discrete q p)
-            (λ e. let f : 1 - q ≡ 1 - p = omega arith in calm_like new (changed sides p new q) (sides (1 - p)) (changed sides p new (1 - q)) l (changed logs p l q) (ap (changed sides p new) e ∙ changed_here sides p new) (ap (changed sides p new) f ∙ changed_beside sides p (1 - p) new ne) (ap (changed logs p l) e ∙ changed_here logs p l) mine)
-            (λ other. let e : q ≡ 1 - p = omega arith in let f : 1 - q ≡ p = omega arith in calm_like (sides (1 - p)) (changed sides p new q) new (changed sides p new (1 - q)) (logs (1 - p)) (changed logs p l q) (ap (changed sides p new) e ∙ changed_beside sides p (1 - p) new ne) (ap (changed sides p new) f ∙ changed_here sides p new) (ap (changed logs p l) e ∙ changed_beside logs p (1 - p) l ne) theirs);
-        side_is = changed_here sides p new;
-        sides_stay = λ q ne. changed_beside sides p q new ne;
-      }
+      let theirs = theirs_lem (sides p) (sides (1 - p)) new (logs p) (logs (1 - p)) l kind (subst (λ k. Calm (sides (1 - p)) (sides k) (logs (1 - p))) back (calm (1 - p) o2)) in
+      dite (ℕ_discrete q p)
+      (λ e. let f : 1 - q ≡ 1 - p = omega arith in calm_like new (a.sides' q) (sides (1 - p)) (a.sides' (1 - q)) l (a.logs' q) (ap a.sides' e ∙ a.side_is) (ap a.sides' f ∙ a.sides_stay (1 - p) ne) (ap a.logs' e ∙ a.log_is) mine)
+      (λ other. let e : q ≡ 1 - p = omega arith in let f : 1 - q ≡ p = omega arith in calm_like (sides (1 - p)) (a.sides' q) new (a.sides' (1 - q)) (logs (1 - p)) (a.logs' q) (ap a.sides' e ∙ a.sides_stay (1 - p) ne) (ap a.sides' f ∙ a.side_is) (ap a.logs' e ∙ a.logs_stay (1 - p) ne) theirs)
 
   along : (tolds : List Told) (sides : ℕ → Side) (logs : ℕ → Log) (new : Side) → MachineRuns sizes (λ p. true) sides logs → ((q : ℕ) → q < 2 → Calm (sides q) (sides (1 - q)) (logs q)) → AllByRecursion IsUp tolds → RowsAlong sizes true (sides (1 - p)) (sides p) tolds new → Along sizes sides p new
   along [] sides logs new r calm up rows = record { sides' = sides; logs' = logs; run = r; calm = calm; side_is = sym rows; sides_stay = λ q ne. refl }
-  along (told ∷ tolds) sides logs new r calm up rows = let a = row_step sides logs told rows.0 r calm up.0 rows.1 in let ne : 1 - p ≢ p = λ e. omega arith in
-      let b = along tolds a.sides' a.logs' new a.run a.calm up.1 (subst (λ (x : Side). RowsAlong sizes true x (a.sides' p) tolds new) (sym (a.sides_stay (1 - p) ne)) (subst (λ (x : Side). RowsAlong sizes true (sides (1 - p)) x tolds new) (sym a.side_is) rows.2)) in record {
+  along (told ∷ tolds) sides logs new r calm up rows = let a = row_step sizes p p2 sides logs told rows.0 r rows.1 in
+      let b = along tolds a.sides' a.logs' new a.run (calm_step sides logs told rows.0 r calm up.0 rows.1 a) up.1 (rows_on sizes p p2 tolds sides logs rows.0 new _ a rows.2) in record {
         sides' = b.sides';
         logs' = b.logs';
         run = b.run;

@@ -23,47 +23,23 @@ use Rattle.ends_pair.specs.Sides.{told_of, told_by, RowsAlong, SeenIs, SideIs}
 use Rattle.ends_pair.specs.Runs.{HonestRuns}
 use Rattle.ends_pair.specs.Runs as honest
 use Rattle.ends_pair.proofs.RowsKept.{follow_lem}
-use Rattle.ends_pair.proofs.RunsKept.{whole_lem, changed, changed_here, changed_beside, side_like}
+use Rattle.ends_pair.proofs.RunsKept.{whole_lem, Stepped, row_step, rows_on, side_like}
 use Rattle.pair_sessions.specs.Numbers.{Numbers, no_numbers, number_of, own_side, numbers_after, numbers_reset, with_stored, with_loaded, IsNumbered, WordIs, OnlyNumbers, NumberedRuns, starts, begins, steps, resets, others, stores, loads, IsPaired, SessionsArePaired}
 use Rattle.pair_sessions.proofs.Numbering.{state_in, state_at, clash, low_writes, word_step, word_reset, word_stored, word_like}
 
--- Sides and logs that change at one place
+-- Marks leave the log, and a State step is told
 
--- p comes to a new side and log in the run, and the other stays
-record Stepped (sizes : Sizes) (sides : ℕ → Side) (logs : ℕ → Log) (p : ℕ) (new : Side) (log : Log) : Type 0 where
-  sides' : ℕ → Side
-  logs' : ℕ → Log
-  run : MachineRuns sizes (λ p. true) sides' logs'
-  side_is : sides' p ≡ new
-  log_is : logs' p ≡ log
-  sides_stay : (q : ℕ) → q ≢ p → sides' q ≡ sides q
-  logs_stay : (q : ℕ) → q ≢ p → logs' q ≡ logs q
-
-module _ (sizes : Sizes) (p : ℕ) (p2 : p < 2) where
-  row_step : (sides : ℕ → Side) (logs : ℕ → Log) (told : Told) (new : Side) → MachineRuns sizes (λ p. true) sides logs → Row sizes true true (sides p) (sides (1 - p)) told new → Stepped sizes sides logs p new (log_after (logs p) (logs (1 - p)) (sides p) told)
-  row_step sides logs told new r row = let l = log_after (logs p) (logs (1 - p)) (sides p) told in let ne : 1 - p ≢ p = λ e. omega arith in record {
-    sides' = changed sides p new;
-    logs' = changed logs p l;
-    run = machine.goes sides (changed sides p new) logs (changed logs p l) p told r p2 (subst (λ (x : Side). Row sizes true true (sides p) (sides (1 - p)) told x) (sym (changed_here sides p new)) row)
-        (changed_beside sides p (1 - p) new ne) (changed_here logs p l) (changed_beside logs p (1 - p) l ne);
-    side_is = changed_here sides p new;
-    log_is = changed_here logs p l;
-    sides_stay = λ q ne. changed_beside sides p q new ne;
-    logs_stay = λ q ne. changed_beside logs p q l ne;
-  }
-
-  marks_step : (marks : List Mark) (sides : ℕ → Side) (logs : ℕ → Log) (new : Side) → MachineRuns sizes (λ p. true) sides logs → RowsAlong sizes true (sides (1 - p)) (sides p) (map Marked marks) new → Stepped sizes sides logs p new (logs p)
-  marks_step [] sides logs new r along = record { sides' = sides; logs' = logs; run = r; side_is = sym along; log_is = refl; sides_stay = λ q ne. refl; logs_stay = λ q ne. refl }
-  marks_step (mark ∷ marks) sides logs new r along = let a = row_step sides logs (Marked mark) along.0 r along.1 in let ne : 1 - p ≢ p = λ e. omega arith in
-      let b = marks_step marks a.sides' a.logs' new a.run (subst (λ (x : Side). RowsAlong sizes true x (a.sides' p) (map Marked marks) new) (sym (a.sides_stay (1 - p) ne)) (subst (λ (x : Side). RowsAlong sizes true (sides (1 - p)) x (map Marked marks) new) (sym a.side_is) along.2)) in record {
-        sides' = b.sides';
-        logs' = b.logs';
-        run = b.run;
-        side_is = b.side_is;
-        log_is = b.log_is ∙ a.log_is;
-        sides_stay = λ q ne. b.sides_stay q ne ∙ a.sides_stay q ne;
-        logs_stay = λ q ne. b.logs_stay q ne ∙ a.logs_stay q ne;
-      }
+marks_step : (sizes : Sizes) (p : ℕ) (p2 : p < 2) (marks : List Mark) (sides : ℕ → Side) (logs : ℕ → Log) (new : Side) → MachineRuns sizes (λ p. true) sides logs → RowsAlong sizes true (sides (1 - p)) (sides p) (map Marked marks) new → Stepped sizes sides logs p new (logs p)
+marks_step sizes p p2 [] sides logs new r along = record { sides' = sides; logs' = logs; run = r; side_is = sym along; log_is = refl; sides_stay = λ q ne. refl; logs_stay = λ q ne. refl }
+marks_step sizes p p2 (mark ∷ marks) sides logs new r along = let a = row_step sizes p p2 sides logs (Marked mark) along.0 r along.1 in let b = marks_step sizes p p2 marks a.sides' a.logs' new a.run (rows_on sizes p p2 (map Marked marks) sides logs along.0 new _ a along.2) in record {
+  sides' = b.sides';
+  logs' = b.logs';
+  run = b.run;
+  side_is = b.side_is;
+  log_is = b.log_is ∙ a.log_is;
+  sides_stay = λ q ne. b.sides_stay q ne ∙ a.sides_stay q ne;
+  logs_stay = λ q ne. b.logs_stay q ne ∙ a.logs_stay q ne;
+}
 
 -- the log after an access
 abbrev log_by : Log → Log → Side → Access → Log
@@ -79,16 +55,15 @@ told_step sizes p p2 (access.Read word) marks sides logs new r along = marks_ste
 told_step sizes p p2 (access.Write word value) marks sides logs new r along = marks_step sizes p p2 marks sides logs new r along
 told_step sizes p p2 (access.Ring target vector) marks sides logs new r along = marks_step sizes p p2 marks sides logs new r along
 told_step sizes p p2 access.Nothing marks sides logs new r along = marks_step sizes p p2 marks sides logs new r along
-told_step sizes p p2 (access.State state) marks sides logs new r along = let a = row_step sizes p p2 sides logs (Wrote state) along.0 r along.1 in let ne : 1 - p ≢ p = λ e. omega arith in
-    let b = marks_step sizes p p2 marks a.sides' a.logs' new a.run (subst (λ (x : Side). RowsAlong sizes true x (a.sides' p) (map Marked marks) new) (sym (a.sides_stay (1 - p) ne)) (subst (λ (x : Side). RowsAlong sizes true (sides (1 - p)) x (map Marked marks) new) (sym a.side_is) along.2)) in record {
-      sides' = b.sides';
-      logs' = b.logs';
-      run = b.run;
-      side_is = b.side_is;
-      log_is = b.log_is ∙ a.log_is;
-      sides_stay = λ q ne. b.sides_stay q ne ∙ a.sides_stay q ne;
-      logs_stay = λ q ne. b.logs_stay q ne ∙ a.logs_stay q ne;
-    }
+told_step sizes p p2 (access.State state) marks sides logs new r along = let a = row_step sizes p p2 sides logs (Wrote state) along.0 r along.1 in let b = marks_step sizes p p2 marks a.sides' a.logs' new a.run (rows_on sizes p p2 (map Marked marks) sides logs along.0 new _ a along.2) in record {
+  sides' = b.sides';
+  logs' = b.logs';
+  run = b.run;
+  side_is = b.side_is;
+  log_is = b.log_is ∙ a.log_is;
+  sides_stay = λ q ne. b.sides_stay q ne ∙ a.sides_stay q ne;
+  logs_stay = λ q ne. b.logs_stay q ne ∙ a.logs_stay q ne;
+}
 
 -- against an other in RESET or INIT no side comes to attend
 stays_away : (p q new : Side) (l m l' : Log) → Kind p q l m new l' → q.state ≤ 1 → ¬ Attends p → ¬ Attends new

@@ -4,6 +4,7 @@ pub mod OfferLists
 pub mod PollLists
 pub mod Lists
 pub mod Phases
+pub mod AutomaticRounds
 pub mod Reaching
 pub mod Rowing
 pub mod Following

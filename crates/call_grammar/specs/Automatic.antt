@@ -1,7 +1,8 @@
 -- The automatic peer: which call comes next (profile).
-use Rattle.std.specs.Prelude.{ℕ, nat_le, if◌then◌else◌, List, [], ◌∷◌}
+use Rattle.std.specs.Prelude.{ℕ, ◌≡◌, Bool, true, false, ◌&&◌, ◌||◌, not, nat_le, if◌then◌else◌, Option, Some, None, List, [], ◌∷◌}
 use Rattle.link_handshake.specs.declared.Phase.{Phase}
 use Rattle.link_handshake.specs.declared.Phase.TheVariants.{Reset, Init, Ready, Run}
+use Rattle.call_grammar.specs.Calls.{Call, Tick, Offer, in_run}
 
 -- what is chosen: a call, of which an Offer is of the first frame that was not accepted yet; or that the peer is finished
 pub data Choice : Type 0 where
@@ -10,7 +11,55 @@ pub data Choice : Type 0 where
   ChoosesPoll : Choice
   IsFinished : Choice
 
--- what the call before tells of the round: it begins anew after a Tick, and after a call that began outside RUN or was cut; an Offer or a Poll in RUN goes on with it
+-- The rule
+
+-- a call that a peer chose: which it was, the phase in which it began, and whether its device was reset since then
+pub record Chosen : Type 0 where
+  pub call : Call
+  pub phase : Phase
+  pub was_reset : Bool
+
+abbrev pub is_tick : Call → Bool
+is_tick Tick = true
+is_tick _ = false
+
+abbrev pub is_offer : Call → Bool
+is_offer (Offer frame) = true
+is_offer _ = false
+
+-- the call before was cut by a reset, or it was a Tick, or it began outside RUN; or there was none
+abbrev pub is_anew : Option Chosen → Bool
+is_anew None = true
+is_anew (Some before) = before.was_reset || (is_tick before.call || not (in_run before.phase))
+
+-- the call before was an Offer
+abbrev pub was_offer : Option Chosen → Bool
+was_offer None = false
+was_offer (Some before) = is_offer before.call
+
+abbrev pub is_empty : List (List ℕ) → Bool
+is_empty [] = true
+is_empty (frame ∷ frames) = false
+
+abbrev pub first_or_poll : List (List ℕ) → Choice
+first_or_poll [] = ChoosesPoll
+first_or_poll (frame ∷ frames) = ChoosesOffer frame
+
+-- the choice of a peer in this phase, by the call that it chose before, the frames that were not accepted yet, and the numbers of frames that it
+-- delivered in the whole run and that it expects. Of five rules the first that applies decides:
+-- no frame is left, and as many were delivered as it expects: it is finished; it isn't in RUN: a Tick; the call before was a Tick, or began outside
+-- RUN, or was cut: an Offer where a frame is left, else a Poll; the call before was an Offer: a Poll; it was a Poll: a Tick
+abbrev pub choice_by_rule : Phase → Option Chosen → List (List ℕ) → (delivered expected : ℕ) → Choice
+choice_by_rule phase before frames delivered expected =
+    if is_empty frames && nat_le expected delivered then IsFinished
+    else if not (in_run phase) then ChoosesTick
+    else if is_anew before then first_or_poll frames
+    else if was_offer before then ChoosesPoll
+    else ChoosesTick
+
+-- The same in rounds, as it is computed
+
+-- where a round is: it begins anew after a Tick, and after a call that began outside RUN or was cut; an Offer or a Poll in RUN goes on with it
 pub data Round : Type 0 where
   Anew : Round
   AfterOffer : Round
@@ -35,3 +84,12 @@ in_phase Run round frames = in_round round frames
 abbrev pub choice_of : Phase → Round → List (List ℕ) → (delivered expected : ℕ) → Choice
 choice_of phase round [] delivered expected = if nat_le expected delivered then IsFinished else in_phase phase round []
 choice_of phase round (frame ∷ frames) delivered expected = in_phase phase round (frame ∷ frames)
+
+-- the round that the call before leads to
+abbrev pub round_since : Option Chosen → Round
+round_since before = if is_anew before then Anew else if was_offer before then AfterOffer else AfterPoll
+
+-- the rounds keep the rule
+abbrev pub RoundsKeepTheRule : Type 0
+RoundsKeepTheRule = (phase : Phase) (before : Option Chosen) (frames : List (List ℕ)) (delivered expected : ℕ) →
+    choice_of phase (round_since before) frames delivered expected ≡ choice_by_rule phase before frames delivered expected

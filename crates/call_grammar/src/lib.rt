@@ -7,6 +7,7 @@
 ghost use Rattle.call_grammar.specs.Trees.{CutsBegin};
 ghost use Rattle.call_grammar.specs.Ends.{PhaseFollowsState};
 ghost use Rattle.call_grammar.specs.Calls.{CallsAreLists, CallsTakeAStep};
+ghost use Rattle.call_grammar.specs.Automatic.{RoundsKeepTheRule};
 ghost use Rattle.call_grammar.specs.Reach.{CallsStayInReach};
 ghost use Rattle.call_grammar.specs.Rows.{CallsKeepRows};
 ghost use Rattle.call_grammar.specs.Places.{PlacesFollowTrees};
@@ -33,6 +34,11 @@ pub fn calls_take_a_step()
 /// The phase of an end changes at a State step alone.
 pub fn phase_follows_state()
     ensures { PhaseFollowsState }
+{}
+
+/// The rounds in which an automatic peer chooses its calls keep its rule, which speaks of the call before.
+pub fn rounds_keep_the_rule()
+    ensures { RoundsKeepTheRule }
 {}
 
 /// A call writes its own section and its own state word alone, and reads the other's words alone, whatever it reads.

@@ -30,9 +30,11 @@ use Rattle.lawful_history.specs.Schedule.{Event, Asked, Automated, Stormed, Turn
 use Rattle.lawful_history.specs.Sides.{who_of}
 use Rattle.lawful_history.specs.Storm.{next_number, draw, drawn_access, storm_step}
 use Rattle.lawful_history.specs.Entries.{Entry, event_of, owner, mark_line, access_lines, step_lines, turn_lines, acted_lines, lines_by, lines_of, own}
-use Rattle.lawful_history.specs.Peers.{Auto, Driver, Waits, Chooses, Storms, Peer, at_start, asked_by, cut, with_choice, chosen, opened_by, opened, counted, counted_all, driver_after, Drives, Moves, IsMade, Acts, Serves}
+use Rattle.lawful_history.specs.Peers.{Auto, Driver, Waits, Chooses, Storms, Peer, at_start, asked_by, cut, with_choice, chosen, opened_by, opened, counted, counted_all, driver_after}
+use Rattle.lawful_history.specs.Order.{Progress, outset, Acts, noted, Serves}
 use Rattle.lawful_history.specs.Device.{devices_of, device_events, arrival, arrived, arrivals_by, lost_count, told_by, brought_by, step_interrupts, reached_line, device_lines, DeviceRules}
-use Rattle.lawful_history.specs.History.{Moment, driven_step, driven, step_by, moved_by, may_write, acted_step, step_in, peer_in, peer_at, step_of_event, entry_of, peer_after, happens, run, beginning, HistoryIsLawful}
+use Rattle.lawful_history.specs.History.{Moment, driven_step, driven, step_by, moved_by, may_write, acted_step, step_in, peer_in, peer_at, step_of_event, entry_of, peer_after, kept_of, IsWithin, happens, run, beginning, HistoryIsLawful}
+use Rattle.lawful_history.proofs.InOrder.{keeps_order}
 use Rattle.lawful_history.proofs.Owners.{is_same, is_other, not_below}
 use Rattle.lawful_history.proofs.Apart.{Harmless, harmless_law, marks_harmless}
 use Rattle.lawful_history.specs.Given.{IsThere}
@@ -310,40 +312,6 @@ cut_given who Waits given = tt
 cut_given who (Chooses auto) given = given
 cut_given who (Storms x) given = tt
 
--- The computed step and peer of an event are those of the relation
-
-drives : (world : World) (p : ℕ) (peer : Peer) (driver : Driver) → Drives world p peer driver (driven_step world p driver) (driven peer driver)
-drives world p peer Waits = (refl, refl)
-drives world p peer (Chooses auto) = (refl, refl)
-drives world p peer (Storms x) = (refl, refl)
-
-moves : (world : World) (p : ℕ) (peer : Peer) (tree : CallTree) (past : List Line) → Moves world p peer tree (step_by world p peer.driver tree past) (moved_by peer tree past)
-moves world p peer Ended past = drives world p peer peer.driver
-moves world p peer (Does a marks rest) past = (_, _, refl, (refl, refl), refl)
-moves world p peer (Reads word marks rest) past = (_, _, refl, (_, refl, refl), refl)
-
-write_made : (word value : ℕ) (b : Bool) → IsMade (access.Write word value) (if b then Some (step_of (access.Write word value) 0 []) else None)
-write_made word value true = inl refl
-write_made word value false = inr refl
-
-acted_made : (world : World) (p : ℕ) (a : Access) (past : List Line) → IsMade a (acted_step world p a past)
-acted_made world p (access.Read word) past = (_, refl)
-acted_made world p (access.Write word value) past = write_made word value (may_write world.geometry p word)
-acted_made world p (access.State state) past = refl
-acted_made world p (access.Ring target vector) past = refl
-acted_made world p access.Nothing past = refl
-
-event_acts : (world : World) (peer : Peer) (past : List Line) (event : Event) → Acts world (event_peer event) peer event (step_in world peer past event) (peer_in world peer past event)
-event_acts world peer past (Asked q call) = (refl, refl)
-event_acts world peer past (Automated q expected) = (refl, refl)
-event_acts world peer past (Stormed q seed) = (refl, refl)
-event_acts world peer past (Turned q) = moves world q (opened (who_of world q) peer) (opened (who_of world q) peer).left past
-event_acts world peer past (Acted q a) = (acted_made world q a past, refl)
-event_acts world peer past (WasReset q) = (refl, refl)
-event_acts world peer past (Reached q a) = (refl, refl)
-event_acts world peer past (Loses q) = (refl, refl)
-event_acts world peer past (Repeated q vector) = (refl, refl)
-
 -- what is known of a moment
 pub record Good (world : World) (moment : Moment) : Type 0 where
   pub law : MemoryLaw world.geometry moment.past
@@ -418,28 +386,51 @@ record Found (world : World) (events : List Event) (moment : Moment) : Type 0 wh
   lines : reverse (flat_map lines_of (entries_of world events moment)) ++ moment.past ≡ (run world events moment).past
   law : MemoryLaw world.geometry (run world events moment).past
   device : DeviceRules world moment.past moment.losses (entries_of world events moment)
-  calls : (p : ℕ) → p < world.geometry.peers → (end : Peer) × Serves world p (peer_at moment p) (own p (entries_of world events moment)) end
 
 lines_go : (s new : List Line) (past all : List Line) → reverse new ++ (reverse s ++ past) ≡ all → reverse (s ++ new) ++ past ≡ all
 lines_go s new past all is = ap (λ r. r ++ past) (reverse-append s new) ∙ append_assoc (reverse new) (reverse s) past ∙ is
 
+-- the peer of a moment, and what is kept of it
+record Keeps (moment : Moment) (q : ℕ) (peer : Progress) : Type 0 where
+  is : peer_at moment q ≡ kept_of peer
+  within : IsWithin peer
+
+-- the entry of an event of the peer itself
+own_event : (world : World) (moment : Moment) (event : Event) (peer : Progress) → event_peer event < length moment.peers → Keeps moment (event_peer event) peer →
+    (mid : Progress) × Acts world (event_peer event) peer event (step_of_event world moment event) mid
+    × Keeps (happens world moment event) (event_peer event) (noted mid (entry_of world moment event))
+own_event world moment event peer below keeps =
+    let p = event_peer event in
+    let on = keeps_order world peer moment.past event (device_lines world moment.past moment.losses event (step_in world (kept_of peer) moment.past event)) keeps.within in
+    let here = subst (λ (x : Peer).
+    (mid : Progress) × Acts world p peer event (step_in world x moment.past event) mid
+    × (peer_in world x moment.past event ≡ kept_of (noted mid (record { event = event; went = step_in world x moment.past event; device = device_lines world moment.past moment.losses event (step_in world x moment.past event) })))
+    × IsWithin (noted mid (record { event = event; went = step_in world x moment.past event; device = device_lines world moment.past moment.losses event (step_in world x moment.past event) }))) (sym keeps.is) on in
+    (here.0, here.1, record { is = peer_same world moment event below ∙ here.2; within = here.3 })
+
 -- the entry of an event and those after it, for a peer
-serves_from : (world : World) (moment : Moment) (event : Event) (others : List Entry) (q : ℕ) (b : Bool) → (event_peer event == q) ≡ b → event_peer event < length moment.peers →
-    ((end : Peer) × Serves world q (peer_at (happens world moment event) q) (own q others) end) →
-    (end : Peer) × Serves world q (peer_at moment q) (if b then entry_of world moment event ∷ own q others else own q others) end
-serves_from world moment event others q true is below rest =
+serves_from : (world : World) (moment : Moment) (event : Event) (others : List Entry) (q : ℕ) (peer : Progress) → event_peer event < length moment.peers → Keeps moment q peer →
+    ((next : Progress) → Keeps (happens world moment event) q next → (end : Progress) × Serves world q next (own q others) end) → (b : Bool) → (event_peer event == q) ≡ b →
+    (end : Progress) × Serves world q peer (if b then entry_of world moment event ∷ own q others else own q others) end
+serves_from world moment event others q peer below keeps rest true is =
     let same : event_peer event ≡ q = is_same (event_peer event) q is in
-    let acts = event_acts world (peer_at moment (event_peer event)) moment.past event in
-    let first : Acts world q (peer_at moment q) event (step_of_event world moment event) (peer_after world moment event) =
-    subst (λ (k : ℕ). Acts world k (peer_at moment k) event (step_of_event world moment event) (peer_after world moment event)) same acts in
-    let here : peer_at (happens world moment event) q ≡ peer_after world moment event =
-    ap (λ (k : ℕ). peer_at (happens world moment event) k) (sym same) ∙ peer_same world moment event below in
-    (rest.0, (peer_after world moment event, first, subst (λ (x : Peer). Serves world q x (own q others) rest.0) here rest.1))
-serves_from world moment event others q false is below rest =
-    (rest.0, subst (λ (x : Peer). Serves world q x (own q others) rest.0) (peer_other world moment event q (is_other (event_peer event) q is)) rest.1)
+    let on = subst (λ (k : ℕ). (mid : Progress) × Acts world k peer event (step_of_event world moment event) mid × Keeps (happens world moment event) k (noted mid (entry_of world moment event))) same
+    (own_event world moment event peer below (subst (λ (k : ℕ). Keeps moment k peer) (sym same) keeps)) in
+    let others_served = rest (noted on.0 (entry_of world moment event)) on.2 in
+    (others_served.0, (on.0, on.1, others_served.1))
+serves_from world moment event others q peer below keeps rest false is =
+    rest peer (record { is = peer_other world moment event q (is_other (event_peer event) q is) ∙ keeps.is; within = keeps.within })
+
+-- the entries of events from a moment on are a peer's calls in their order
+served : (world : World) (events : List Event) (moment : Moment) (q : ℕ) (peer : Progress) → AllByRecursion (IsThere world) events → length moment.peers ≡ world.geometry.peers → Keeps moment q peer →
+    (end : Progress) × Serves world q peer (own q (entries_of world events moment)) end
+served world [] moment q peer there count keeps = (peer, refl)
+served world (event ∷ events) moment q peer there count keeps =
+    serves_from world moment event (entries_of world events (happens world moment event)) q peer (omega (arith, count, there_below world event there.0)) keeps
+    (λ next kept. served world events (happens world moment event) q next there.1 (length-set moment.peers (event_peer event) (peer_after world moment event) ∙ count) kept) (event_peer event == q) refl
 
 found : CallsStayInReach → (world : World) (events : List Event) (moment : Moment) → IsWorld world → AllByRecursion (IsThere world) events → Good world moment → Found world events moment
-found reach world [] moment is there good = record { scheduled = refl; owners = tt; lines = refl; law = good.law; device = tt; calls = λ p below. (peer_at moment p, refl) }
+found reach world [] moment is there good = record { scheduled = refl; owners = tt; lines = refl; law = good.law; device = tt }
 found reach world (event ∷ events) moment is there good =
     let rest = found reach world events (happens world moment event) is there.1 (good_on reach world moment event is there.0 good) in
     let here : event_peer event < world.geometry.peers = there_below world event there.0 in
@@ -449,7 +440,6 @@ found reach world (event ∷ events) moment is there good =
       lines = lines_go (lines_of (entry_of world moment event)) (flat_map lines_of (entries_of world events (happens world moment event))) moment.past _ rest.lines;
       law = rest.law;
       device = (refl, rest.device);
-      calls = λ q below. serves_from world moment event (entries_of world events (happens world moment event)) q (event_peer event == q) refl (omega (arith, good.count)) (rest.calls q below);
     }
 
 pub at_beginning : (world : World) (p : ℕ) (b : Bool) → nat_lt p world.geometry.peers ≡ b → peer_at (beginning world) p ≡ at_start
@@ -475,7 +465,7 @@ history_lem reach world is =
         told = sym (reverse-reverse (flat_map lines_of entries)) ∙ ap reverse (sym (append-nil (reverse (flat_map lines_of entries))) ∙ f.lines);
         memory = rw reverse-reverse f.law;
         device = f.device;
-        calls = λ p below.
-            let served = f.calls p below in (served.0, subst (λ (x : Peer). Serves world p x (own p entries) served.0) (at_beginning world p (nat_lt p world.geometry.peers) refl) served.1);
+        calls = λ p below. served world events (beginning world) p outset (all_there world is) (good_at_first world).count
+            (record { is = at_beginning world p (nat_lt p world.geometry.peers) refl; within = omega arith });
       },
     )

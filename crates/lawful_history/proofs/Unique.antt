@@ -16,7 +16,7 @@ use Rattle.lawful_history.specs.Memory.{touch_of, Remembers, MemoryLaw, last_wri
 use Rattle.lawful_history.specs.Sides.{who_of}
 use Rattle.lawful_history.specs.Schedule.{Event, Asked, Automated, Stormed, Turned, Acted, WasReset, Reached, Loses, Repeated, event_peer}
 use Rattle.lawful_history.specs.Entries.{Entry, event_of, owner, mark_line, step_lines, turn_lines, acted_lines, lines_by, lines_of, own}
-use Rattle.lawful_history.specs.Peers.{Peer, Driver, Waits, Chooses, Storms, at_start, opened, stepped, Drives, GoesOn, Moves, IsMade, Acts, Serves}
+use Rattle.lawful_history.specs.Order.{Chooser, Nobody, TheRule, TheStorm, chooser, Progress, outset, begins, goes_to, Idles, GoesOn, Moves, IsMade, Acts, noted, Serves}
 use Rattle.lawful_history.specs.Device.{device_lines, losses_with, DeviceRules}
 use Rattle.lawful_history.specs.Lawful.{IsLawfulBy, HasOneHistory}
 use Rattle.lawful_history.proofs.Owners.{is_same, own_first}
@@ -56,7 +56,7 @@ same_goes g past peer dev dev' (Reads word marks rest) step step' new new' goes 
     let same : goes.0 ≡ goes'.0 = value_is ∙ sym value_is' in
     (goes.1 ∙ ap (λ v. step_of (access.Read word) v (marks v)) same ∙ sym goes'.1, goes.2 ∙ ap rest same ∙ sym goes'.2)
 
-same_goes_on : (g : Shape) (past : List Line) (p : ℕ) (dev dev' : List Line) (peer : Peer) (tree : CallTree) (went went' : Option Step) (new new' : Peer) →
+same_goes_on : (g : Shape) (past : List Line) (p : ℕ) (dev dev' : List Line) (peer : Progress) (tree : CallTree) (went went' : Option Step) (new new' : Progress) →
     GoesOn peer tree went new → GoesOn peer tree went' new' →
     MemoryLaw g (reverse (turn_lines p went dev) ++ past) → MemoryLaw g (reverse (turn_lines p went' dev') ++ past) → (went ≡ went') × (new ≡ new')
 same_goes_on g past p dev dev' peer tree went went' new new' goes goes' law law' =
@@ -67,18 +67,18 @@ same_goes_on g past p dev dev' peer tree went went' new new' goes goes' law law'
     let left_is : goes.1 ≡ goes'.1 = same.1 in
     let went_is = goes.2 in
     let went_is' = goes'.2 in
-    (went_is ∙ ap Some step_is ∙ sym went_is', goes.4 ∙ ap (λ s. stepped peer s goes.1) step_is ∙ ap (λ l. stepped peer goes'.0 l) left_is ∙ sym goes'.4)
+    (went_is ∙ ap Some step_is ∙ sym went_is', goes.4 ∙ ap (λ s. goes_to peer s goes.1) step_is ∙ ap (λ l. goes_to peer goes'.0 l) left_is ∙ sym goes'.4)
 
-same_drives : (world : World) (p : ℕ) (peer : Peer) (driver : Driver) (went went' : Option Step) (new new' : Peer) → Drives world p peer driver went new → Drives world p peer driver went' new' →
+same_idles : (world : World) (p : ℕ) (peer : Progress) (chooser : Chooser) (went went' : Option Step) (new new' : Progress) → Idles world p peer chooser went new → Idles world p peer chooser went' new' →
     (went ≡ went') × (new ≡ new')
-same_drives world p peer Waits went went' new new' d d' = (d.0 ∙ sym d'.0, d.1 ∙ sym d'.1)
-same_drives world p peer (Chooses auto) went went' new new' d d' = (d.0 ∙ sym d'.0, d.1 ∙ sym d'.1)
-same_drives world p peer (Storms x) went went' new new' d d' = (d.0 ∙ sym d'.0, d.1 ∙ sym d'.1)
+same_idles world p peer Nobody went went' new new' d d' = (d.0 ∙ sym d'.0, d.1 ∙ sym d'.1)
+same_idles world p peer (TheRule expected) went went' new new' d d' = (d.0 ∙ sym d'.0, d.1 ∙ sym d'.1)
+same_idles world p peer TheStorm went went' new new' d d' = (d.0 ∙ sym d'.0, d.1 ∙ sym d'.1)
 
-same_moves : (world : World) (past : List Line) (q p : ℕ) (dev dev' : List Line) (peer : Peer) (tree : CallTree) (went went' : Option Step) (new new' : Peer) →
+same_moves : (world : World) (past : List Line) (q p : ℕ) (dev dev' : List Line) (peer : Progress) (tree : CallTree) (went went' : Option Step) (new new' : Progress) →
     Moves world q peer tree went new → Moves world q peer tree went' new' →
     MemoryLaw world.geometry (reverse (turn_lines p went dev) ++ past) → MemoryLaw world.geometry (reverse (turn_lines p went' dev') ++ past) → (went ≡ went') × (new ≡ new')
-same_moves world past q p dev dev' peer Ended went went' new new' m m' law law' = same_drives world q peer peer.driver went went' new new' m m'
+same_moves world past q p dev dev' peer Ended went went' new new' m m' law law' = same_idles world q peer (chooser peer.past) went went' new new' m m'
 same_moves world past q p dev dev' peer (Does access marks rest) went went' new new' m m' law law' = same_goes_on world.geometry past p dev dev' peer (Does access marks rest) went went' new new' m m' law law'
 same_moves world past q p dev dev' peer (Reads word marks rest) went went' new new' m m' law law' = same_goes_on world.geometry past p dev dev' peer (Reads word marks rest) went went' new new' m m' law law'
 
@@ -117,14 +117,14 @@ same_made g past p (access.Ring target vector) dev dev' went went' made made' la
 same_made g past p access.Nothing dev dev' went went' made made' law law' = made ∙ sym made'
 
 -- what comes of an event after the same lines
-same_acts : (world : World) (past : List Line) (q : ℕ) (peer : Peer) (event : Event) (dev dev' : List Line) (went went' : Option Step) (new new' : Peer) →
+same_acts : (world : World) (past : List Line) (q : ℕ) (peer : Progress) (event : Event) (dev dev' : List Line) (went went' : Option Step) (new new' : Progress) →
     Acts world q peer event went new → Acts world q peer event went' new' →
     MemoryLaw world.geometry (reverse (lines_by event went dev) ++ past) → MemoryLaw world.geometry (reverse (lines_by event went' dev') ++ past) → (went ≡ went') × (new ≡ new')
 same_acts world past q peer (Asked p call) dev dev' went went' new new' a a' law law' = (a.0 ∙ sym a'.0, a.1 ∙ sym a'.1)
 same_acts world past q peer (Automated p expected) dev dev' went went' new new' a a' law law' = (a.0 ∙ sym a'.0, a.1 ∙ sym a'.1)
 same_acts world past q peer (Stormed p seed) dev dev' went went' new new' a a' law law' = (a.0 ∙ sym a'.0, a.1 ∙ sym a'.1)
 same_acts world past q peer (Turned p) dev dev' went went' new new' a a' law law' =
-    same_moves world past q p dev dev' (opened (who_of world q) peer) (opened (who_of world q) peer).left went went' new new' a a' law law'
+    same_moves world past q p dev dev' (begins (who_of world q) peer) (begins (who_of world q) peer).left went went' new new' a a' law law'
 same_acts world past q peer (Acted p a0) dev dev' went went' new new' a a' law law' = (same_made world.geometry past p a0 dev dev' went went' a.0 a'.0 law law', a.1 ∙ sym a'.1)
 same_acts world past q peer (WasReset p) dev dev' went went' new new' a a' law law' = (a.0 ∙ sym a'.0, a.1 ∙ sym a'.1)
 same_acts world past q peer (Reached p a0) dev dev' went went' new new' a a' law law' = (a.0 ∙ sym a'.0, a.1 ∙ sym a'.1)
@@ -132,22 +132,22 @@ same_acts world past q peer (Loses p) dev dev' went went' new new' a a' law law'
 same_acts world past q peer (Repeated p vector) dev dev' went went' new new' a a' law law' = (a.0 ∙ sym a'.0, a.1 ∙ sym a'.1)
 
 -- the peers, where one of them is at another place
-abbrev with_peer : (ℕ → Peer) → ℕ → Peer → ℕ → Peer
+abbrev with_peer : (ℕ → Progress) → ℕ → Progress → ℕ → Progress
 with_peer peers p next q = if p == q then next else peers q
 
 -- what is known of the entries to come
-record Follows (world : World) (past : List Line) (losses : ℕ → ℕ) (peers : ℕ → Peer) (entries : List Entry) : Type 0 where
+record Follows (world : World) (past : List Line) (losses : ℕ → ℕ) (peers : ℕ → Progress) (entries : List Entry) : Type 0 where
   law : MemoryLaw world.geometry (reverse (flat_map lines_of entries) ++ past)
   device : DeviceRules world past losses entries
   owners : AllByRecursion (λ entry. owner entry < world.geometry.peers) entries
-  calls : (p : ℕ) → p < world.geometry.peers → (end : Peer) × Serves world p (peers p) (own p entries) end
+  calls : (p : ℕ) → p < world.geometry.peers → (end : Progress) × Serves world p (peers p) (own p entries) end
 
 -- the first of them
-record First (world : World) (past : List Line) (losses : ℕ → ℕ) (peers : ℕ → Peer) (entry : Entry) (entries : List Entry) : Type 0 where
-  next : Peer
+record First (world : World) (past : List Line) (losses : ℕ → ℕ) (peers : ℕ → Progress) (entry : Entry) (entries : List Entry) : Type 0 where
+  next : Progress
   acts : Acts world (owner entry) (peers (owner entry)) entry.event entry.went next
   law : MemoryLaw world.geometry (reverse (lines_of entry) ++ past)
-  rest : Follows world (reverse (lines_of entry) ++ past) (losses_with entry.event losses) (with_peer peers (owner entry) next) entries
+  rest : Follows world (reverse (lines_of entry) ++ past) (losses_with entry.event losses) (with_peer peers (owner entry) (noted next entry)) entries
 
 law_splits : (g : Shape) (past : List Line) (entry : Entry) (entries : List Entry) → MemoryLaw g (reverse (flat_map lines_of (entry ∷ entries)) ++ past) →
     MemoryLaw g (reverse (flat_map lines_of entries) ++ (reverse (lines_of entry) ++ past))
@@ -157,14 +157,14 @@ law_splits g past entry entries law =
     rw e at law
 
 -- the other peers, and the peer of the first entry after it, serve the others
-serves_on : (world : World) (peers : ℕ → Peer) (p q : ℕ) (next : Peer) (entry : Entry) (entries : List Entry) (b : Bool) → (p == q) ≡ b →
-    ((end : Peer) × Serves world p next (own p entries) end) →
-    ((end : Peer) × Serves world q (peers q) (if b then entry ∷ own q entries else own q entries) end) →
-    (end : Peer) × Serves world q (if b then next else peers q) (own q entries) end
-serves_on world peers p q next entry entries true is mine theirs = subst (λ (k : ℕ). (end : Peer) × Serves world k next (own k entries) end) (is_same p q is) mine
+serves_on : (world : World) (peers : ℕ → Progress) (p q : ℕ) (next : Progress) (entry : Entry) (entries : List Entry) (b : Bool) → (p == q) ≡ b →
+    ((end : Progress) × Serves world p next (own p entries) end) →
+    ((end : Progress) × Serves world q (peers q) (if b then entry ∷ own q entries else own q entries) end) →
+    (end : Progress) × Serves world q (if b then next else peers q) (own q entries) end
+serves_on world peers p q next entry entries true is mine theirs = subst (λ (k : ℕ). (end : Progress) × Serves world k next (own k entries) end) (is_same p q is) mine
 serves_on world peers p q next entry entries false is mine theirs = theirs
 
-first_of_all : (world : World) (past : List Line) (losses : ℕ → ℕ) (peers : ℕ → Peer) (entry : Entry) (entries : List Entry) → Follows world past losses peers (entry ∷ entries) → First world past losses peers entry entries
+first_of_all : (world : World) (past : List Line) (losses : ℕ → ℕ) (peers : ℕ → Progress) (entry : Entry) (entries : List Entry) → Follows world past losses peers (entry ∷ entries) → First world past losses peers entry entries
 first_of_all world past losses peers entry entries f =
     let p = owner entry in
     let mine = f.calls p f.owners.0 in
@@ -178,12 +178,12 @@ first_of_all world past losses peers entry entries f =
         law = law;
         device = f.device.1;
         owners = f.owners.1;
-        calls = λ q below. serves_on world peers p q serves.0 entry entries (p == q) refl (mine.0, serves.2) (f.calls q below);
+        calls = λ q below. serves_on world peers p q (noted serves.0 entry) entry entries (p == q) refl (mine.0, serves.2) (f.calls q below);
       };
     }
 
 -- the entries of one event after the same lines
-same_entry : (world : World) (past : List Line) (losses : ℕ → ℕ) (peer : Peer) (d d' : Entry) (new new' : Peer) → d.event ≡ d'.event →
+same_entry : (world : World) (past : List Line) (losses : ℕ → ℕ) (peer : Progress) (d d' : Entry) (new new' : Progress) → d.event ≡ d'.event →
     Acts world (owner d) peer d.event d.went new → Acts world (owner d) peer d'.event d'.went new' →
     d.device ≡ device_lines world past losses d.event d.went → d'.device ≡ device_lines world past losses d'.event d'.went →
     MemoryLaw world.geometry (reverse (lines_of d) ++ past) → MemoryLaw world.geometry (reverse (lines_of d') ++ past) → (d ≡ d') × (new ≡ new')
@@ -198,7 +198,7 @@ same_entry world past losses peer d d' new new' same a a' rules rules' law law' 
 heads : (d d' : Entry) (ds ds' : List Entry) → map event_of (d ∷ ds) ≡ map event_of (d' ∷ ds') → (event_of d ≡ event_of d') × (map event_of ds ≡ map event_of ds')
 heads d d' ds ds' same = (cc, cc)
 
-same_entries : (world : World) (past : List Line) (losses : ℕ → ℕ) (peers : ℕ → Peer) (ds ds' : List Entry) → map event_of ds ≡ map event_of ds' →
+same_entries : (world : World) (past : List Line) (losses : ℕ → ℕ) (peers : ℕ → Progress) (ds ds' : List Entry) → map event_of ds ≡ map event_of ds' →
     Follows world past losses peers ds → Follows world past losses peers ds' → ds ≡ ds'
 same_entries world past losses peers [] [] same f f' = refl
 same_entries world past losses peers [] (d' ∷ ds') same f f' = absurd (cc)
@@ -210,13 +210,13 @@ same_entries world past losses peers (d ∷ ds) (d' ∷ ds') same f f' =
     let a' = first_of_all world past losses peers d' ds' f' in
     let acts' : Acts world (owner d) (peers (owner d)) d'.event d'.went a'.next = subst (λ (p : ℕ). Acts world p (peers p) d'.event d'.went a'.next) owners_same a'.acts in
     let now = same_entry world past losses (peers (owner d)) d d' a.next a'.next parts.0 a.acts acts' f.device.0 f'.device.0 a.law a'.law in
-    let rest' : Follows world (reverse (lines_of d) ++ past) (losses_with d.event losses) (with_peer peers (owner d) a.next) ds' =
-    subst (λ (n : Peer). Follows world (reverse (lines_of d) ++ past) (losses_with d.event losses) (with_peer peers (owner d) n) ds') (sym now.1)
-    (subst (λ (x : Entry). Follows world (reverse (lines_of x) ++ past) (losses_with x.event losses) (with_peer peers (owner x) a'.next) ds') (sym now.0) a'.rest) in
-    let tails = same_entries world (reverse (lines_of d) ++ past) (losses_with d.event losses) (with_peer peers (owner d) a.next) ds ds' parts.1 a.rest rest' in
+    let rest' : Follows world (reverse (lines_of d) ++ past) (losses_with d.event losses) (with_peer peers (owner d) (noted a.next d)) ds' =
+    subst (λ (n : Progress). Follows world (reverse (lines_of d) ++ past) (losses_with d.event losses) (with_peer peers (owner d) (noted n d)) ds') (sym now.1)
+    (subst (λ (x : Entry). Follows world (reverse (lines_of x) ++ past) (losses_with x.event losses) (with_peer peers (owner x) (noted a'.next x)) ds') (sym now.0) a'.rest) in
+    let tails = same_entries world (reverse (lines_of d) ++ past) (losses_with d.event losses) (with_peer peers (owner d) (noted a.next d)) ds ds' parts.1 a.rest rest' in
     ap (λ x. x ∷ ds) now.0 ∙ ap (λ xs. d' ∷ xs) tails
 
-follows : (world : World) (lines : List Line) (entries : List Entry) → IsLawfulBy world lines entries → Follows world [] (λ p. 0) (λ p. at_start) entries
+follows : (world : World) (lines : List Line) (entries : List Entry) → IsLawfulBy world lines entries → Follows world [] (λ p. 0) (λ p. outset) entries
 follows world lines entries by = record {
   law = rw append-nil (rw (← by.told) at by.memory);
   device = by.device;
@@ -226,5 +226,5 @@ follows world lines entries by = record {
 
 pub one_history_lem : HasOneHistory
 one_history_lem world lines others lawful lawful' =
-    let same = same_entries world [] (λ p. 0) (λ p. at_start) lawful.0 lawful'.0 (lawful.1.events ∙ sym lawful'.1.events) (follows world lines lawful.0 lawful.1) (follows world others lawful'.0 lawful'.1) in
+    let same = same_entries world [] (λ p. 0) (λ p. outset) lawful.0 lawful'.0 (lawful.1.events ∙ sym lawful'.1.events) (follows world lines lawful.0 lawful.1) (follows world others lawful'.0 lawful'.1) in
     sym lawful.1.told ∙ ap (λ (entries : List Entry). flat_map lines_of entries) same ∙ lawful'.1.told

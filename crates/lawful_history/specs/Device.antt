@@ -1,6 +1,6 @@
 -- The device's rules over a history: which interrupts come and where they stand, and what a device answers. The rules themselves are
 -- those of `doorbell_irq` (the device's specification, PCI 3.0): what a device is, is a function of the lines that came before.
-use Rattle.std.specs.Prelude.{ℕ, ◌≡◌, ◌+◌, ◌*◌, ◌==◌, nat_lt, if◌then◌else◌, Option, Some, None, List, [], ◌∷◌, ◌++◌, reverse}
+use Rattle.std.specs.Prelude.{ℕ, ◌≡◌, ◌+◌, ◌==◌, nat_lt, if◌then◌else◌, Option, Some, None, List, [], ◌∷◌, ◌++◌, reverse}
 use Rattle.pci_space.specs.Numbers.{number_from}
 use Rattle.doorbell_irq.specs.declared.effect.Delivery.{Delivery}
 use Rattle.doorbell_irq.specs.Events as device

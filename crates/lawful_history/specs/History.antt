@@ -1,5 +1,5 @@
 -- The lawful history of a scenario, computed: the plain program beside the relation of `Lawful`.
-use Rattle.std.specs.Prelude.{ℕ, ◌≡◌, ◌&&◌, ◌||◌, nat_le, nat_lt, if◌then◌else◌, ◌+◌, Bool, Option, Some, None, List, [], ◌∷◌, ◌++◌, reverse, replicate, slice_index_or, slice_set}
+use Rattle.std.specs.Prelude.{ℕ, ◌≡◌, ◌≤◌, ◌&&◌, ◌||◌, nat_le, nat_lt, if◌then◌else◌, ◌+◌, Bool, Option, Some, None, List, [], ◌∷◌, ◌++◌, drop, length, reverse, replicate, slice_index_or, slice_set}
 use Rattle.section_map.specs.Geometry.{Shape, section_start}
 use Rattle.split_ring.specs.declared.steps.Access.{Access}
 use Rattle.split_ring.specs.declared.steps.Access.TheVariants as access
@@ -7,6 +7,7 @@ use Rattle.scenario_text.specs.declared.acts.Act.{Act}
 use Rattle.scenario_text.specs.Scenario.{World, IsWorld}
 use Rattle.call_grammar.specs.Steps.{Step, step_of}
 use Rattle.call_grammar.specs.Trees.{CallTree, Ended, Does, Reads}
+use Rattle.call_grammar.specs.Automatic.{Chosen, round_since}
 use Rattle.lawful_history.specs.declared.line.Line.{Line}
 use Rattle.lawful_history.specs.Memory.{last_write}
 use Rattle.lawful_history.specs.Schedule.{Event, Asked, Automated, Stormed, Turned, Acted, WasReset, Reached, Loses, Repeated, event_peer, schedule}
@@ -14,6 +15,7 @@ use Rattle.lawful_history.specs.Sides.{who_of}
 use Rattle.lawful_history.specs.Entries.{Entry, lines_of}
 use Rattle.lawful_history.specs.Storm.{storm_step, storm_after}
 use Rattle.lawful_history.specs.Peers.{Peer, Driver, Waits, Chooses, Storms, at_start, asked, automated, stormed, was_reset, opened, stepped}
+use Rattle.lawful_history.specs.Order.{Chooser, Nobody, TheRule, TheStorm, chooser, asked_since, frames_left, delivered_in, Progress, Acts, noted}
 use Rattle.lawful_history.specs.Device.{device_lines, losses_with}
 use Rattle.lawful_history.specs.Lawful.{IsLawful}
 
@@ -126,6 +128,39 @@ beginning world = record { past = []; losses = λ peer. 0; peers = replicate wor
 -- the history of the scenario
 abbrev pub history : World → List Line
 history world = reverse (run world (schedule world.acts) (beginning world)).past
+
+-- What is kept of a peer, and the order of its calls
+
+-- the driver of a peer: an automatic one keeps its frames, its counts and the round that its call before led to
+abbrev pub driver_of : (frames : List (List ℕ)) → (delivered : ℕ) → (before : Option Chosen) → (generator : ℕ) → Chooser → Driver
+driver_of frames delivered before generator Nobody = Waits
+driver_of frames delivered before generator (TheRule expected) =
+    Chooses (record { frames = frames; expected = expected; delivered = delivered; round = round_since before })
+driver_of frames delivered before generator TheStorm = Storms generator
+
+-- what is kept of a peer that has made its calls so far: of the calls that were asked for since the last reset those wait that it didn't begin
+abbrev pub kept_of : Progress → Peer
+kept_of peer = record {
+  end = peer.end;
+  left = peer.left;
+  waiting = drop peer.begun (asked_since peer.past);
+  driver = driver_of (frames_left peer.past) (delivered_in peer.past) peer.before peer.generator (chooser peer.past);
+}
+
+-- no more calls were begun than asked for
+abbrev pub IsWithin : Progress → Type 0
+IsWithin peer = peer.begun ≤ length (asked_since peer.past)
+
+-- the step of an event, computed from what is kept of its peer, is in order, and what is kept of it then is that of the peer after the event
+abbrev pub GoesOnInOrder : World → Progress → List Line → Event → List Line → Type 0
+GoesOnInOrder world peer past event device =
+    (mid : Progress) × Acts world (event_peer event) peer event (step_in world (kept_of peer) past event) mid
+    × (peer_in world (kept_of peer) past event ≡ kept_of (noted mid (record { event = event; went = step_in world (kept_of peer) past event; device = device })))
+    × IsWithin (noted mid (record { event = event; went = step_in world (kept_of peer) past event; device = device }))
+
+-- what the computed history keeps of its peers goes on, by each event, as the order of their calls does
+abbrev pub PeersKeepOrder : Type 0
+PeersKeepOrder = (world : World) (peer : Progress) (past : List Line) (event : Event) (device : List Line) → IsWithin peer → GoesOnInOrder world peer past event device
 
 -- a scenario has a lawful history, and this is it
 abbrev pub HistoryIsLawful : Type 0

@@ -8,7 +8,7 @@ use Rattle.lawful_history.specs.declared.line.Line.TheVariants.{Read, Write}
 use Rattle.lawful_history.specs.Memory.{MemoryLaw, WasWrittenLast}
 use Rattle.lawful_history.specs.Schedule.{schedule}
 use Rattle.lawful_history.specs.Entries.{Entry, event_of, owner, lines_of, own}
-use Rattle.lawful_history.specs.Peers.{Peer, at_start, Serves}
+use Rattle.lawful_history.specs.Order.{Progress, outset, Serves}
 use Rattle.lawful_history.specs.Device.{DeviceRules}
 
 -- These entries make up a lawful history of the scenario: their events are the schedule, each is one of the world's peers, the
@@ -19,7 +19,7 @@ pub record IsLawfulBy (world : World) (lines : List Line) (entries : List Entry)
   pub told : flat_map lines_of entries ≡ lines
   pub memory : MemoryLaw world.geometry (reverse lines)
   pub device : DeviceRules world [] (λ peer. 0) entries
-  pub calls : (peer : ℕ) → peer < world.geometry.peers → (end : Peer) × Serves world peer at_start (own peer entries) end
+  pub calls : (peer : ℕ) → peer < world.geometry.peers → (end : Progress) × Serves world peer outset (own peer entries) end
 
 -- the lines are a lawful history of the scenario: some entries make them up
 abbrev pub IsLawful : World → List Line → Type 0

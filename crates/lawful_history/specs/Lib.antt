@@ -5,6 +5,7 @@ pub mod Schedule
 pub mod Given
 pub mod Entries
 pub mod Storm
+pub mod Order
 pub mod Peers
 pub mod Device
 pub mod Lawful

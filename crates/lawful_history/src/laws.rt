@@ -1,6 +1,6 @@
 //! What holds of every lawful history. The functions do nothing: their contracts are the laws.
 ghost use Rattle.lawful_history.specs.Lawful.{HasOneHistory, ReadsWhatWasWritten, WritesWhereItMay};
-ghost use Rattle.lawful_history.specs.History.{CutHistoriesBegin, HistoryIsLawful};
+ghost use Rattle.lawful_history.specs.History.{CutHistoriesBegin, HistoryIsLawful, PeersKeepOrder};
 
 use call_grammar::calls_stay_in_reach;
 
@@ -15,6 +15,12 @@ pub fn history_is_lawful()
 {
     calls_stay_in_reach();
 }
+
+/// What the computed history keeps of its peers goes on as the order of their calls does: the calls asked for since the last reset, in their
+/// order, and those that the rule of an automatic peer chooses by the call before.
+pub fn peers_keep_order()
+    ensures { PeersKeepOrder }
+{}
 
 /// Of two lawful histories one begins the other, where the schedule of one begins that of the other.
 pub fn cut_histories_begin()

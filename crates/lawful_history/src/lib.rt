@@ -7,5 +7,7 @@ mod laws;
 mod line;
 mod same;
 
-pub use laws::{cut_histories_begin, history_is_lawful, memory_is_kept, one_history};
+pub use laws::{
+    cut_histories_begin, history_is_lawful, memory_is_kept, one_history, peers_keep_order,
+};
 pub use line::{Line, Lines};

@@ -188,6 +188,16 @@ scene_goes_on world drained events event s s' there seats sizes same after seate
       linked = runs.linked p seat here;
     }) runs
 
+-- an event that changes the scene alone happens, where its call succeeds
+pub scene_happens : {T E : Type 0} (r : Result T E) (event : Event) (s s' : Stage) → s'.seats ≡ s.seats → s'.sizes ≡ s.sizes →
+    ((world : World) (moment : Moment) → peer_after world moment event ≡ peer_at moment (event_peer event)) →
+    ((world : World) (drained : List Line) (moment : Moment) → SceneAfter world drained moment.past moment.losses s.scene →
+    OnOk r (SceneAfter world drained (past_after world moment event) (losses_with event moment.losses) s'.scene)) →
+    ((p : ℕ) → IsSeated s.scene p → IsSeated s'.scene p) → OnOk r (Happens event s s')
+scene_happens (Ok v) event s s' seats sizes same on seated = λ world drained events there runs.
+    scene_goes_on world drained events event s s' there seats sizes (same world (moment_of world events)) (on world drained (moment_of world events) runs.after) seated runs
+scene_happens (Err e) event s s' seats sizes same on seated = tt
+
 -- an event of a seat alone, or of a seat and the scene
 pub seat_goes_on : (world : World) (drained : List Line) (events : List Event) (event : Event) (s s' : Stage) (old seat : Seat) → IsThere world event → old ≡ get_or s.seats.items (event_peer event) old →
     s'.seats.items ≡ slice_set s.seats.items (event_peer event) seat → s'.sizes ≡ s.sizes →

@@ -17,8 +17,7 @@ impl Stage {
         requires { IsSeated self.old.scene peer }
         ensures { OnOk result (Happens (Acted peer (Write word value)) self.old self.new) }
     {
-        self.scene.poke(peer, word, value)?;
-        Ok(())
+        self.scene.poke(peer, word, value)
     }
 
     /// A read of the peer's own accord.
@@ -36,8 +35,7 @@ impl Stage {
         requires { IsSeated self.old.scene peer }
         ensures { OnOk result (Happens (Acted peer (State value)) self.old self.new) }
     {
-        self.scene.set_state(peer, value)?;
-        Ok(())
+        self.scene.set_state(peer, value)
     }
 
     /// A write of the Doorbell.
@@ -47,8 +45,7 @@ impl Stage {
         requires vector { vector < 2 ^ 16 }
         ensures { OnOk result (Happens (Acted peer (Ring target vector)) self.old self.new) }
     {
-        self.scene.ring(peer, target, vector)?;
-        Ok(())
+        self.scene.ring(peer, target, vector)
     }
 
     /// A read of the peer's configuration space.
@@ -57,8 +54,7 @@ impl Stage {
         requires access { is_access 256 offset width ≡ true }
         ensures { OnOk result (Happens (Reached peer (ReadsConfig offset width)) self.old self.new) }
     {
-        self.scene.read_config(peer, offset, width)?;
-        Ok(())
+        self.scene.read_config(peer, offset, width)
     }
 
     /// A write of the peer's configuration space.
@@ -73,8 +69,7 @@ impl Stage {
         requires access { is_access 256 offset width ≡ true }
         ensures { OnOk result (Happens (Reached peer (WritesConfig offset width value)) self.old self.new) }
     {
-        self.scene.write_config(peer, offset, width, value)?;
-        Ok(())
+        self.scene.write_config(peer, offset, width, value)
     }
 
     /// A read of a register.
@@ -82,8 +77,7 @@ impl Stage {
         requires { IsSeated self.old.scene peer }
         ensures { OnOk result (Happens (Reached peer (ReadsRegister offset)) self.old self.new) }
     {
-        self.scene.read_register(peer, offset)?;
-        Ok(())
+        self.scene.read_register(peer, offset)
     }
 
     /// A write of a register that is neither State nor the Doorbell.
@@ -91,8 +85,7 @@ impl Stage {
         requires { IsSeated self.old.scene peer }
         ensures { OnOk result (Happens (Reached peer (WritesRegister offset value)) self.old self.new) }
     {
-        self.scene.write_register(peer, offset, value)?;
-        Ok(())
+        self.scene.write_register(peer, offset, value)
     }
 
     /// A write of a register; one of State or of the Doorbell is told as such.
@@ -114,8 +107,7 @@ impl Stage {
         requires { IsSeated self.old.scene peer }
         ensures { OnOk result (Happens (Reached peer (ReadsMsix offset)) self.old self.new) }
     {
-        self.scene.read_msix(peer, offset)?;
-        Ok(())
+        self.scene.read_msix(peer, offset)
     }
 
     /// A write of the MSI-X region.
@@ -123,8 +115,7 @@ impl Stage {
         requires { IsSeated self.old.scene peer }
         ensures { OnOk result (Happens (Reached peer (WritesMsix offset value)) self.old self.new) }
     {
-        self.scene.write_msix(peer, offset, value)?;
-        Ok(())
+        self.scene.write_msix(peer, offset, value)
     }
 
     /// The peer's next interrupt is to be lost.
@@ -140,7 +131,6 @@ impl Stage {
     pub fn repeat(&mut self, peer: u32, vector: u32) -> Result<(), NoMemory>
         ensures { OnOk result (Happens (Repeated peer vector) self.old self.new) }
     {
-        self.scene.repeat(peer, vector)?;
-        Ok(())
+        self.scene.repeat(peer, vector)
     }
 }

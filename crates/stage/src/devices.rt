@@ -28,8 +28,7 @@ impl Scene {
                     offset: offset as u32,
                     width: width as u32,
                     value,
-                })?;
-                Ok(())
+                })
             }
             Err(_) => unreachable!(),
         }
@@ -56,8 +55,7 @@ impl Scene {
                     offset: offset as u32,
                     width: width as u32,
                     value,
-                })?;
-                Ok(())
+                })
             }
             Err(_) => unreachable!(),
         }
@@ -90,8 +88,7 @@ impl Scene {
             peer: me,
             offset,
             value,
-        })?;
-        Ok(())
+        })
     }
 
     /// A peer reads its MSI-X region.
@@ -121,8 +118,7 @@ impl Scene {
             peer: me,
             offset,
             value,
-        })?;
-        Ok(())
+        })
     }
 
     /// An interrupt is repeated at a peer, whatever its registers say.

@@ -147,8 +147,7 @@ fn tell_note(
     ensures seated { (q : ℕ) → IsSeated scene.old q → IsSeated scene.new q }
 {
     let line = line_of(alloc, me, end, *note)?;
-    scene.remark(line)?;
-    Ok(())
+    scene.remark(line)
 }
 
 /// Tells the notes of a step.
@@ -237,11 +236,9 @@ pub fn take_turn(alloc: Global, me: u32, link: &mut Link, scene: &mut Scene) -> 
 {
     open_next(link);
     if link.end.busy() {
-        carry_on(alloc, me, link, scene)?;
-        Ok(())
+        carry_on(alloc, me, link, scene)
     } else {
-        scene.remark(Line::Idle { peer: me })?;
-        Ok(())
+        scene.remark(Line::Idle { peer: me })
     }
 }
 

@@ -105,18 +105,12 @@ pub fn turn(
     ensures kind { SameKind seat.old seat.new }
 {
     match seat {
-        Seat::Honest(link) => {
-            take_turn(alloc, me, link, scene)?;
-            Ok(())
-        }
+        Seat::Honest(link) => take_turn(alloc, me, link, scene),
         Seat::Storm(x) => {
             *x = storm(sizes, me, *x, scene)?;
             Ok(())
         }
-        Seat::Idle => {
-            scene.remark(Line::Idle { peer: me })?;
-            Ok(())
-        }
+        Seat::Idle => scene.remark(Line::Idle { peer: me }),
     }
 }
 

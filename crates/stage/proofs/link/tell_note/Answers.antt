@@ -1,4 +1,5 @@
 use Rattle.std.proofs.Common.{◌∷◌, subst}
+use Rattle.std.specs.Prelude.{OnOk}
 use Rattle.lawful_history.specs.declared.line.Line.{Line}
 use Rattle.stage.specs.Scene.{SceneAfter}
 use Rattle.stage.proofs.Turning.{mark_remark}
@@ -9,4 +10,4 @@ remark-requires c = rw c.in_ok-line.ensures (mark_remark c.args.me _ c.requires)
 
 pub returns-clause-after : goal.returns-clause-after
 returns-clause-after c = λ world drained past losses after.
-    subst (λ (l : Line). SceneAfter world drained (l ∷ past) losses c.remark.new.self) c.in_ok-line.ensures (c.in_ok-remark.ensures.after world drained past losses after)
+    subst (λ (l : Line). OnOk c.remark.result (SceneAfter world drained (l ∷ past) losses c.remark.new.self)) c.in_ok-line.ensures (c.remark.ensures.after world drained past losses after)

@@ -2,8 +2,10 @@ use Rattle.std.proofs.Common.{refl}
 use Rattle.lawful_history.specs.Device.{devices_of, device_events}
 use Rattle.lawful_history.specs.declared.line.Line.TheVariants.{RegisterWrite}
 use Rattle.stage.proofs.Arriving.{told_after}
+use Rattle.std.proofs.lemmas.Result.{on_ok_weaker}
 use Rattle.stage.proofs.scene.Scene.write_register.Goals as goal
 
 pub returns-clause-after : goal.returns-clause-after
 returns-clause-after c = λ world drained past losses after.
-    told_after world drained past losses c.args.self.now _ (RegisterWrite c.args.me c.args.offset c.args.value) _ after refl (λ p. refl) refl after.words refl (c.register_write.ensures.stands (devices_of world) (device_events past) after.devices) refl c.in_ok-push.ensures.put
+    on_ok_weaker c.push.result (λ put. told_after world drained past losses c.args.self.now _ (RegisterWrite c.args.me c.args.offset c.args.value) _ after refl (λ p. refl) refl after.words refl (c.register_write.ensures.stands (devices_of world) (device_events past) after.devices) refl put)
+    c.push.ensures.put

@@ -1,12 +1,12 @@
 use Rattle.std.proofs.Common.{refl}
+use Rattle.std.specs.Prelude.{OnOk}
 use Rattle.split_ring.specs.declared.steps.Access.TheVariants as access
 use Rattle.lawful_history.specs.Schedule.{Acted}
 use Rattle.stage.specs.Scene.{SceneAfter}
-use Rattle.stage.specs.Stage.{moment_of}
-use Rattle.stage.proofs.Runs.{scene_goes_on, poked}
+use Rattle.stage.proofs.Runs.{scene_happens, poked}
 use Rattle.stage.proofs.stage.Stage.poke.Goals as goal
 
 pub returns : goal.returns
-returns c = λ world drained events there runs.
-    let m = moment_of world events in
-    scene_goes_on world drained events (Acted c.args.peer (access.Write c.args.word c.args.value)) c.args.self.now _ there refl refl refl (poked world m.past m.losses c.args.peer c.args.word c.args.value (λ ls. SceneAfter world drained ls m.losses c.poke.new.self) (c.in_ok-poke.ensures.after world drained m.past m.losses runs.after)) c.in_ok-poke.ensures.seated runs
+returns c =
+    scene_happens c.poke.result (Acted c.args.peer (access.Write c.args.word c.args.value)) c.args.self.now _ refl refl (λ world m. refl)
+    (λ world drained m after. poked world m.past m.losses c.args.peer c.args.word c.args.value (λ ls. OnOk c.poke.result (SceneAfter world drained ls m.losses c.poke.new.self)) (c.poke.ensures.after world drained m.past m.losses after)) c.poke.ensures.seated

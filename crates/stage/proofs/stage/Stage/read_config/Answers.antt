@@ -1,10 +1,9 @@
 use Rattle.std.proofs.Common.{refl}
 use Rattle.lawful_history.specs.Schedule.{Reached, ReadsConfig}
-use Rattle.stage.specs.Stage.{moment_of}
-use Rattle.stage.proofs.Runs.{scene_goes_on}
+use Rattle.stage.proofs.Runs.{scene_happens}
 use Rattle.stage.proofs.stage.Stage.read_config.Goals as goal
 
 pub returns : goal.returns
-returns c = λ world drained events there runs.
-    let m = moment_of world events in
-    scene_goes_on world drained events (Reached c.args.peer (ReadsConfig c.args.offset c.args.width)) c.args.self.now _ there refl refl refl (c.in_ok-read_config.ensures.after world drained m.past m.losses runs.after) c.in_ok-read_config.ensures.seated runs
+returns c =
+    scene_happens c.read_config.result (Reached c.args.peer (ReadsConfig c.args.offset c.args.width)) c.args.self.now _ refl refl (λ world m. refl)
+    (λ world drained m after. c.read_config.ensures.after world drained m.past m.losses after) c.read_config.ensures.seated

@@ -1,13 +1,13 @@
 use Rattle.std.proofs.Common.{refl}
+use Rattle.std.specs.Prelude.{OnOk}
 use Rattle.split_ring.specs.declared.steps.Access.TheVariants as access
 use Rattle.lawful_history.specs.declared.line.Line.TheVariants as line
 use Rattle.lawful_history.specs.Schedule.{Acted}
 use Rattle.stage.specs.Scene.{SceneAfter}
-use Rattle.stage.specs.Stage.{moment_of}
-use Rattle.stage.proofs.Runs.{scene_goes_on, told_alone}
+use Rattle.stage.proofs.Runs.{scene_happens, told_alone}
 use Rattle.stage.proofs.stage.Stage.ring.Goals as goal
 
 pub returns : goal.returns
-returns c = λ world drained events there runs.
-    let m = moment_of world events in
-    scene_goes_on world drained events (Acted c.args.peer (access.Ring c.args.target c.args.vector)) c.args.self.now _ there refl refl refl (told_alone world m.past m.losses (line.Doorbell c.args.peer c.args.target c.args.vector) (λ ls. SceneAfter world drained ls m.losses c.ring.new.self) (c.in_ok-ring.ensures.after world drained m.past m.losses runs.after)) c.in_ok-ring.ensures.seated runs
+returns c =
+    scene_happens c.ring.result (Acted c.args.peer (access.Ring c.args.target c.args.vector)) c.args.self.now _ refl refl (λ world m. refl)
+    (λ world drained m after. told_alone world m.past m.losses (line.Doorbell c.args.peer c.args.target c.args.vector) (λ ls. OnOk c.ring.result (SceneAfter world drained ls m.losses c.ring.new.self)) (c.ring.ensures.after world drained m.past m.losses after)) c.ring.ensures.seated

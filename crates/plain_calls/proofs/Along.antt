@@ -14,7 +14,7 @@ use Rattle.plain_calls.specs.declared.places.Begun.{Begun}
 use Rattle.plain_calls.specs.declared.places.Place as plain
 use Rattle.plain_calls.specs.declared.steps.Step as plain_step
 use Rattle.plain_calls.specs.Seen.{access_seen, marks_seen, step_seen}
-use Rattle.plain_calls.specs.Standing.{place_seen}
+use Rattle.plain_calls.specs.Begun.{place_seen}
 use Rattle.plain_calls.specs.Along.{Along, IsAfter, IsNext}
 
 to_played : (who : Who) (place : Place) (steps : List Step) → Along who place steps Closed → IsPlayed who place steps

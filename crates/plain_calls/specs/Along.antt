@@ -10,9 +10,9 @@ use Rattle.plain_calls.specs.declared.places.Begun.{Begun}
 use Rattle.plain_calls.specs.declared.places.Place as plain
 use Rattle.plain_calls.specs.declared.steps.Step as plain_step
 use Rattle.plain_calls.specs.Seen.{step_seen}
-use Rattle.plain_calls.specs.Standing.{place_seen, IsSmall}
+use Rattle.plain_calls.specs.Begun.{place_seen, IsSmall}
 
--- from the first place the steps are played to the other one: each is the step at its place for the value that it met
+-- from the first place the steps are played to the second one: each is the step at its place for the value that it met
 abbrev pub Along : Who → Place → List Step → Place → Type 0
 Along who place [] to = to ≡ place
 Along who place (step ∷ steps) to = (is_open place ≡ true) × (step ≡ step_at who place step.value) × Along who (next_place who place step.value) steps to

@@ -1,31 +1,19 @@
--- What an end of this crate needs of a step to stand after it, and how far its counts go then.
+-- What an end of this crate needs of a step to take it, and how far its counts go then.
 use Rattle.std.specs.Prelude.{ℕ, ◌+◌, ◌<◌, ◌≤◌, ◌^◌, List, [], ◌∷◌, length}
 use Rattle.split_ring.specs.declared.steps.Access.{Access}
 use Rattle.split_ring.specs.declared.steps.Access.TheVariants as access
-use Rattle.call_grammar.specs.Steps.{Mark, Saw, Reclaim, Full, Accept, Look, Deliver, Return, Done, Down, Refuse, Over}
+use Rattle.call_grammar.specs.Steps.{Mark, Reclaim}
 use Rattle.plain_calls.specs.declared.ends.End.{End}
 
 -- a write is of a word of 32 bits, and its number has 32 bits
 abbrev pub IsStorable : Access → Type 0
-IsStorable (access.Read word) = Unit {0}
 IsStorable (access.Write word value) = (word < 2 ^ 32) × (value < 2 ^ 32)
-IsStorable (access.State state) = Unit {0}
-IsStorable (access.Ring target vector) = Unit {0}
-IsStorable access.Nothing = Unit {0}
+IsStorable _ = Unit {0}
 
 -- how many frames a mark, or these marks, free
 abbrev pub freed_by : Mark → ℕ
-freed_by (Saw value) = 0
 freed_by (Reclaim count) = count
-freed_by Full = 0
-freed_by (Accept frame) = 0
-freed_by (Look count) = 0
-freed_by (Deliver frame) = 0
-freed_by Return = 0
-freed_by Done = 0
-freed_by Down = 0
-freed_by (Refuse refused) = 0
-freed_by Over = 0
+freed_by _ = 0
 
 abbrev pub freed_in : List Mark → ℕ
 freed_in [] = 0

@@ -1,5 +1,5 @@
 pub mod Seen
-pub mod Standing
+pub mod Begun
 pub mod Along
 pub mod Following
 pub mod WorkedCalls

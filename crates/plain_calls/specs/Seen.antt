@@ -1,4 +1,4 @@
--- How the types of this crate are seen: as the records of the link's laws.
+-- How the types of this crate are seen: as those of the call grammar.
 use Rattle.std.specs.Prelude.{ℕ, ◌≡◌, ◌==◌, if◌then◌else◌, List, [], ◌∷◌, length, map}
 use Rattle.split_ring.specs.declared.steps.Access as ring
 use Rattle.split_ring.specs.declared.steps.Access.TheVariants as access
@@ -24,7 +24,7 @@ abbrev pub stored : List Store → ℕ → ℕ
 stored [] word = 0
 stored (store ∷ older) word = if store.word == word then store.value else stored older word
 
--- the end of the laws stands where this one stands: its frames are counted, and its words are those that were stored
+-- the end of the grammar stands where this one stands: its frames are counted, and its words are those that were stored
 pub record IsSeenAs (seen : End) (end : ends.End) : Type 0 where
   pub handshake : end.handshake ≡ seen.handshake
   pub accepted : length end.accepted ≡ seen.accepted

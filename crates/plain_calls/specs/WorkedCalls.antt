@@ -6,7 +6,7 @@ use Rattle.split_ring.specs.declared.ranges.FieldName.{FieldName}
 use Rattle.split_ring.specs.declared.ranges.FieldName.TheVariants.{AvailIndex, AvailEntry, DescAddress, DescLength, DescFlags, UsedIndex, UsedId}
 use Rattle.split_ring.specs.declared.steps.Access.TheVariants.{Read, Write, State, Ring, Nothing}
 use Rattle.call_grammar.specs.Steps.{Mark, Saw, Reclaim, Full, Accept, Look, Deliver, Return, Done, Down, Refuse, Over, Step, step_of}
-use Rattle.call_grammar.specs.Ends.{End}
+use Rattle.call_grammar.specs.Ends.{End, fresh}
 use Rattle.call_grammar.specs.Ticks.{Who}
 use Rattle.call_grammar.specs.Trees.{CallTree, GoesAlong}
 use Rattle.call_grammar.specs.Calls.{Tick, Stop, Offer, Poll, tree_of, IsCall}
@@ -27,7 +27,7 @@ frame = 255 ∷ 255 ∷ 255 ∷ 255 ∷ 255 ∷ 255 ∷ 2 ∷ 0 ∷ 0 ∷ 0 ∷ 
 
 -- an end in this phase, which accepted these frames and freed none
 abbrev pub end_at : Phase → List (List ℕ) → End
-end_at phase accepted = record { handshake = record { phase = phase; mark = false }; accepted = accepted; freed = 0; delivered = []; returned = 0; written = λ word. 0 }
+end_at phase accepted = record fresh { handshake = record { phase = phase; mark = false }; accepted = accepted }
 
 -- the lines of a history, without their peer: a read, a write, a State step and a doorbell, each with its marks
 abbrev pub r : (word value : ℕ) → List Mark → Step
@@ -63,7 +63,9 @@ abbrev pub offer_ended : List Step
 offer_ended = w 1024 1792 [] ∷ w 1025 0 [] ∷ w 1026 14 [] ∷ w 1027 0 [] ∷ w 1281 0 [] ∷ w 1280 65536 (Accept frame ∷ []) ∷ d 1 1 (Over ∷ []) ∷ []
 
 abbrev pub item_read : List Step
-item_read = r 1280 65536 (Look 1 ∷ []) ∷ r 1281 0 [] ∷ r 1024 1792 [] ∷ r 1025 0 [] ∷ r 1026 14 [] ∷ r 1027 0 [] ∷ r 1472 4294967295 [] ∷ r 1473 196607 [] ∷ r 1474 16777216 [] ∷ r 1475 8 (Deliver frame ∷ []) ∷ []
+item_read =
+    r 1280 65536 (Look 1 ∷ []) ∷ r 1281 0 [] ∷ r 1024 1792 [] ∷ r 1025 0 [] ∷ r 1026 14 [] ∷ r 1027 0 [] ∷
+    r 1472 4294967295 [] ∷ r 1473 196607 [] ∷ r 1474 16777216 [] ∷ r 1475 8 (Deliver frame ∷ []) ∷ []
 
 abbrev pub item_returned : List Step
 item_returned = w 5425 0 [] ∷ w 5426 1 [] ∷ w 5424 65536 (Return ∷ []) ∷ d 0 1 (Done ∷ []) ∷ []
@@ -81,7 +83,8 @@ returned_ids from zero = []
 returned_ids from (suc more) = r (5425 + 2 * from) from [] ∷ returned_ids (from + 1) more
 
 abbrev pub offer_46 : ℕ → List Step
-offer_46 entry_word = r 5424 2949120 (Reclaim 45 ∷ []) ∷ (returned_ids 0 45 ++ (w 1472 4294967295 [] ∷ w 1473 196607 [] ∷ w 1474 16777216 [] ∷ w 1475 8 [] ∷ w 1024 1792 [] ∷ w 1025 0 [] ∷ w 1026 14 [] ∷ w 1027 0 [] ∷
+offer_46 entry_word = r 5424 2949120 (Reclaim 45 ∷ []) ∷ (returned_ids 0 45 ++ (
+    w 1472 4294967295 [] ∷ w 1473 196607 [] ∷ w 1474 16777216 [] ∷ w 1475 8 [] ∷ w 1024 1792 [] ∷ w 1025 0 [] ∷ w 1026 14 [] ∷ w 1027 0 [] ∷
     w 1303 entry_word [] ∷ w 1280 3014656 (Accept frame ∷ []) ∷ d 1 1 (Over ∷ []) ∷ []))
 
 -- The bound of the available index
@@ -96,7 +99,8 @@ abbrev pub address_refused : (low high value : ℕ) → List Step
 address_refused low high value = r 5376 65536 (Look 1 ∷ []) ∷ r 5377 0 [] ∷ r 5120 low [] ∷ r 5121 high (refuse DescAddress value) ∷ s 0 (Over ∷ []) ∷ []
 
 abbrev pub length_refused : ℕ → List Step
-length_refused length = r 5376 65536 (Look 1 ∷ []) ∷ r 5377 0 [] ∷ r 5120 1792 [] ∷ r 5121 0 [] ∷ r 5122 length (refuse DescLength length) ∷ s 0 (Over ∷ []) ∷ []
+length_refused length =
+    r 5376 65536 (Look 1 ∷ []) ∷ r 5377 0 [] ∷ r 5120 1792 [] ∷ r 5121 0 [] ∷ r 5122 length (refuse DescLength length) ∷ s 0 (Over ∷ []) ∷ []
 
 abbrev pub flags_refused : List Step
 flags_refused = r 5376 65536 (Look 1 ∷ []) ∷ r 5377 0 [] ∷ r 5120 1792 [] ∷ r 5121 0 [] ∷ r 5122 14 [] ∷ r 5123 1 (refuse DescFlags 1) ∷ s 0 (Over ∷ []) ∷ []
@@ -108,7 +112,7 @@ id_refused = r 5424 65536 (Reclaim 1 ∷ []) ∷ r 5425 7 (refuse UsedId 7) ∷ 
 abbrev pub used_refused : List Step
 used_refused = r 5424 131072 (refuse UsedIndex 2) ∷ s 0 (Over ∷ []) ∷ []
 
--- these lists are calls, and the five steps before the reset begin one
+-- these lists are calls, and the five steps before a reset in the middle of an offer begin one
 pub record RowsAreCalls : Type 0 where
   pub shortest_handshake_init : IsCall peer_0 (end_at Reset []) Tick to_init
   pub shortest_handshake_ready : IsCall small_peer_0 (end_at Init []) Tick to_ready
@@ -140,8 +144,9 @@ pub record RowsAreCalls : Type 0 where
 
 -- The same lists with one line changed
 
--- a clear that leaves out a word; a wrong byte; no accept; another descriptor in the entry; a length of the used element that is wrong; a word of the frame that changed after
--- its delivery; a length that is read twice; a value refused that is in range; a refusal that is left out
+-- a clear that leaves out a word; a wrong byte; no accept; another descriptor in the entry; a length of the used element that is wrong;
+-- a word of the frame that changed after its delivery; a length that is read twice; a value refused that is in range; a refusal that is
+-- left out
 abbrev pub clear_short : List Step
 clear_short = r 1 1 (Saw 1 ∷ []) ∷ w 1024 0 [] ∷ w 1025 0 [] ∷ s 2 (Over ∷ []) ∷ []
 
@@ -158,10 +163,14 @@ abbrev pub published_early : List Step
 published_early = w 1024 1792 [] ∷ w 1025 0 [] ∷ w 1026 14 [] ∷ w 1027 0 [] ∷ w 1280 65536 (Accept frame ∷ []) ∷ w 1281 0 [] ∷ d 1 1 (Over ∷ []) ∷ []
 
 abbrev pub length_read_twice : List Step
-length_read_twice = r 1280 65536 (Look 1 ∷ []) ∷ r 1281 0 [] ∷ r 1024 1792 [] ∷ r 1025 0 [] ∷ r 1026 14 [] ∷ r 1026 14 [] ∷ r 1027 0 [] ∷ r 1472 4294967295 [] ∷ r 1473 196607 [] ∷ r 1474 16777216 [] ∷ r 1475 8 (Deliver frame ∷ []) ∷ []
+length_read_twice =
+    r 1280 65536 (Look 1 ∷ []) ∷ r 1281 0 [] ∷ r 1024 1792 [] ∷ r 1025 0 [] ∷ r 1026 14 [] ∷ r 1026 14 [] ∷ r 1027 0 [] ∷
+    r 1472 4294967295 [] ∷ r 1473 196607 [] ∷ r 1474 16777216 [] ∷ r 1475 8 (Deliver frame ∷ []) ∷ []
 
 abbrev pub word_changed : List Step
-word_changed = r 1280 65536 (Look 1 ∷ []) ∷ r 1281 0 [] ∷ r 1024 1792 [] ∷ r 1025 0 [] ∷ r 1026 14 [] ∷ r 1027 0 [] ∷ r 1472 4294967295 [] ∷ r 1473 196607 [] ∷ r 1474 16777216 [] ∷ r 1475 9 (Deliver frame ∷ []) ∷ []
+word_changed =
+    r 1280 65536 (Look 1 ∷ []) ∷ r 1281 0 [] ∷ r 1024 1792 [] ∷ r 1025 0 [] ∷ r 1026 14 [] ∷ r 1027 0 [] ∷
+    r 1472 4294967295 [] ∷ r 1473 196607 [] ∷ r 1474 16777216 [] ∷ r 1475 9 (Deliver frame ∷ []) ∷ []
 
 abbrev pub wrong_used_length : List Step
 wrong_used_length = w 5425 0 [] ∷ w 5426 14 [] ∷ w 5424 65536 (Return ∷ []) ∷ d 0 1 (Done ∷ []) ∷ []
@@ -192,7 +201,8 @@ pub record ChangedRowsAreNone : Type 0 where
   pub each_descriptor_entry : ¬ IsCall peer_0 (end_at Run []) Poll (r 5376 65536 (Look 1 ∷ []) ∷ r 5377 63 (refuse AvailEntry 63) ∷ s 0 (Over ∷ []) ∷ [])
   pub each_descriptor_address : ¬ IsCall peer_0 (end_at Run []) Poll (address_refused 1792 0 1792)
   pub each_descriptor_length : ¬ IsCall peer_0 (end_at Run []) Poll (length_refused 14)
-  pub each_descriptor_flags : ¬ IsCall peer_0 (end_at Run []) Poll (r 5376 65536 (Look 1 ∷ []) ∷ r 5377 0 [] ∷ r 5120 1792 [] ∷ r 5121 0 [] ∷ r 5122 14 [] ∷ r 5123 0 (refuse DescFlags 0) ∷ s 0 (Over ∷ []) ∷ [])
+  pub each_descriptor_flags : ¬ IsCall peer_0 (end_at Run []) Poll
+      (r 5376 65536 (Look 1 ∷ []) ∷ r 5377 0 [] ∷ r 5120 1792 [] ∷ r 5121 0 [] ∷ r 5122 14 [] ∷ r 5123 0 (refuse DescFlags 0) ∷ s 0 (Over ∷ []) ∷ [])
   pub hostile_returns_id : ¬ IsCall peer_0 (end_at Run (frame ∷ [])) (Offer frame) id_passed
   pub hostile_returns_index : ¬ IsCall peer_0 (end_at Run (frame ∷ [])) (Offer frame) (r 5424 131072 (refuse UsedIndex 1) ∷ s 0 (Over ∷ []) ∷ [])
   pub reset_in_mid_offer : ¬ IsCall peer_0 (end_at Reset []) Tick (r 1 3 (Saw 3 ∷ []) ∷ s 1 (Over ∷ []) ∷ [])

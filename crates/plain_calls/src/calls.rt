@@ -5,7 +5,7 @@ ghost use Rattle.call_grammar.specs.Steps.{value_given};
 ghost use Rattle.call_grammar.specs.Calls.{IsCall};
 ghost use Rattle.call_grammar.specs.Places.{access_at, marks_at, is_open, step_at};
 ghost use Rattle.plain_calls.specs.Seen.{who_seen, call_seen, access_seen, step_seen, steps_seen, IsSeenAs};
-ghost use Rattle.plain_calls.specs.Standing.{place_seen, IsSmall};
+ghost use Rattle.plain_calls.specs.Begun.{place_seen, IsSmall};
 ghost use Rattle.plain_calls.specs.Along.{IsAfter, IsNext};
 
 use crate::marks::marks_at;
@@ -85,7 +85,8 @@ pub fn is_call(
     call: &Call,
     steps: &[Step],
 ) -> Result<bool, NoMemory>
-    ensures { IfOk result (λ yes. (seen : ends.End) → IsSeenAs end.now seen → (IsTrue yes ↔ IsCall (who_seen who.now) seen (call_seen call.now) (steps_seen steps.now))) }
+    ensures { IfOk result (λ yes. (seen : ends.End) → IsSeenAs end.now seen →
+        (IsTrue yes ↔ IsCall (who_seen who.now) seen (call_seen call.now) (steps_seen steps.now))) }
 {
     played_are_calls();
     let begun = begin(alloc, who, end, call)?;
@@ -107,7 +108,8 @@ pub fn next_step(
     steps: &[Step],
     value: u32,
 ) -> Result<Option<Step>, NoMemory>
-    ensures { IfOk result (λ next. (seen : ends.End) → IsSeenAs end.now seen → IsNext (who_seen who.now) seen (call_seen call.now) (steps_seen steps.now) value next) }
+    ensures { IfOk result (λ next. (seen : ends.End) → IsSeenAs end.now seen →
+        IsNext (who_seen who.now) seen (call_seen call.now) (steps_seen steps.now) value next) }
 {
     let begun = begin(alloc, who, end, call)?;
     let first = first_place(&begun, call);

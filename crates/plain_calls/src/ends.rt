@@ -6,43 +6,59 @@ use ivs_base::Frame;
 use link_handshake::Handshake;
 use split_ring::Queue;
 
-/// A peer and its partner, the first words of their sections and the words of each, the queue in them, and the vector of the
-/// doorbell.
+/// Who makes a call. Words are numbered from the base of the region.
 #[derive(Clone, Copy, Debug)]
 pub struct Who {
+    /// The peer itself.
     pub me: u32,
+    /// Its partner.
     pub other: u32,
+    /// The first word of its own section.
     pub own: u32,
+    /// The first word of its partner's section.
     pub theirs: u32,
+    /// The words of each section.
     pub words: u32,
+    /// The queue of both sections.
     pub queue: Queue,
+    /// The vector by which it rings its partner.
     pub vector: u32,
 }
 
 /// What an end wrote to a word of the region.
 #[derive(Clone, Copy, Debug)]
 pub struct Store {
+    /// The number of the word.
     pub word: u32,
+    /// What was written to it.
     pub value: u32,
 }
 
-/// Where an end of the link stands: its handshake, how many frames of its session it accepted, freed and delivered, and what it
-/// wrote, the newest first.
+/// Where an end of the link stands.
 #[derive(Debug, Drop)]
 pub struct End {
+    /// Its phase, and whether it refused the link.
     pub handshake: Handshake,
+    /// How many frames of its session it accepted.
     pub accepted: u32,
+    /// How many of these were freed.
     pub freed: u32,
+    /// How many frames of its session it delivered.
     pub delivered: u32,
+    /// What it wrote, the newest first.
     pub stores: Vec<Store>,
 }
 
-/// What an end may be told to do. An Offer is of a frame.
+/// What an end may be told to do.
 #[derive(Debug, Drop)]
 pub enum Call {
+    /// Looks at the other's state, and moves on.
     Tick,
+    /// Leaves the link.
     Stop,
+    /// Publishes this frame.
     Offer(Frame),
+    /// Takes the frames that the other published.
     Poll,
 }
 

@@ -1,6 +1,5 @@
 //! An end after a step, and after a device reset.
 ghost use Rattle.std.specs.Prelude.{◌≡◌, ◌∷◌, [], OnOk};
-ghost use Rattle.link_handshake.specs.PhaseTable.{phase_at};
 ghost use Rattle.split_ring.specs.declared.steps.Access.TheVariants.{Write};
 ghost use Rattle.call_grammar.specs.Ends as ends;
 ghost use Rattle.call_grammar.specs.Ends.{fresh, after_reset, with_state, stated, noted, noted_all, end_after};
@@ -9,20 +8,8 @@ ghost use Rattle.plain_calls.specs.Following.{IsStorable, HasRoom, HasCounted};
 
 use crate::{Access, End, Mark, Step, Store};
 use ivs_base::NoMemory;
-use link_handshake::{Handshake, Phase};
+use link_handshake::{Handshake, phase_of};
 use std::alloc::Global;
-
-/// The phase that a state stands for.
-fn phase_at(state: u32) -> Phase
-    ensures { result ≡ phase_at state }
-{
-    match state {
-        0 => Phase::Reset,
-        1 => Phase::Init,
-        2 => Phase::Ready,
-        _ => Phase::Run,
-    }
-}
 
 impl End {
     /// An end at its start.
@@ -54,7 +41,7 @@ impl End {
         ensures seen { (seen : ends.End) → IsSeenAs self.old seen → IsSeenAs self.new (with_state seen state) }
         ensures counts { HasCounted self.old [] self.new }
     {
-        self.handshake.enter(phase_at(state));
+        self.handshake.enter(phase_of(state));
         if state == 2 {
             self.accepted = 0;
             self.freed = 0;

@@ -1,6 +1,7 @@
 //! The plain program of the link: slow functions that compute the next step of a call, and whether a list of steps is a call, by
 //! going from place to place. It stands on the definitions of `call_grammar`, and shares no code with an engine.
-//! Its contracts promise an answer of yes exactly where the definition holds.
+//! Its contracts promise an answer of yes exactly where the definition holds. Worked examples of calls, which are calls by the same
+//! definition, and the same with one line changed, which are none, show what it says yes and no to.
 #![tactic(auto)]
 
 mod calls;

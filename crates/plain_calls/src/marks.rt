@@ -8,7 +8,7 @@ ghost use Rattle.call_grammar.specs.Offers.{full_marks, reclaim_marks, refusal};
 ghost use Rattle.call_grammar.specs.Polls.{look_marks};
 ghost use Rattle.call_grammar.specs.Places.{marks_at};
 ghost use Rattle.plain_calls.specs.Seen.{who_seen, marks_seen};
-ghost use Rattle.plain_calls.specs.Standing.{job_of, place_seen, IsSmall};
+ghost use Rattle.plain_calls.specs.Begun.{job_of, place_seen, IsSmall};
 
 use crate::places::{Begun, Place, is_address, is_entry, is_length};
 use crate::words::{address_of, descriptor_of, entry_half, entry_of, frame_in, published_by};
@@ -119,9 +119,7 @@ fn word_marks(
     if words > 0 {
         return Ok(Vec::new(alloc));
     }
-    let Ok(mut all) = read.to_vec(alloc) else {
-        return Err(NoMemory);
-    };
+    let mut all = read.to_vec(alloc)?;
     if all.push(value).is_err() {
         return Err(NoMemory);
     }

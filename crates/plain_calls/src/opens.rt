@@ -22,7 +22,7 @@ pub struct OpenCall {
 
 impl Model for OpenCall {
     ghost use Rattle.call_grammar.specs.Places as laws;
-    ghost use Rattle.plain_calls.specs.Standing.{place_seen, IsSmall};
+    ghost use Rattle.plain_calls.specs.Begun.{place_seen, IsSmall};
 
     ghost Value = { laws.Place };
 

@@ -8,7 +8,7 @@ ghost use Rattle.call_grammar.specs.Polls.{is_entry, is_address, is_length, look
 ghost use Rattle.call_grammar.specs.Places.{access_at, marks_at, next_place, first_place, is_open, tick_place, clear_place, fill_place, ids_place, items_place, words_place};
 ghost use Rattle.call_grammar.specs.Ends as ends;
 ghost use Rattle.plain_calls.specs.Seen.{who_seen, call_seen, access_seen, marks_seen, IsSeenAs};
-ghost use Rattle.plain_calls.specs.Standing.{job_of, place_seen, IsSmall, IsBegun};
+ghost use Rattle.plain_calls.specs.Begun.{job_of, place_seen, IsSmall, IsBegun};
 
 use crate::words::*;
 use crate::{Access, Call, End, Mark, Who};
@@ -17,19 +17,26 @@ use link_handshake::{Handshake, Move, Phase};
 use split_ring::{FieldName, Refused};
 use std::alloc::Global;
 
-/// What a call holds from its beginning: the handshake of its end, the frame that it offers with its number and the word of the own
-/// section that holds its entry, and how many frames were freed and taken.
+/// What a call holds from its beginning.
 #[derive(Debug, Drop)]
 pub struct Begun {
+    /// The handshake of its end.
     pub handshake: Handshake,
+    /// The frame that it offers, or nothing.
     pub frame: Vec<u8>,
+    /// The number of that frame in the session.
     pub number: u32,
+    /// The word of the own section that holds its entry, as the end wrote it last.
     pub beside: u32,
+    /// How many frames were freed.
     pub freed: u32,
+    /// How many frames were taken.
     pub taken: u32,
 }
 
-/// Where a call is: the places of `call_grammar`, one for one.
+/// Where a call is: the places of `call_grammar`, one for one. `more` is how many words, ids or items come after the one in hand, and
+/// `number` the number of that item in the session; `entry` is its descriptor, with the `address` and the length in `bytes` that were
+/// read; and of its frame the words `read`, with so many `words` after the next one.
 #[derive(Debug, Drop)]
 pub enum Place {
     Closed,
@@ -496,10 +503,7 @@ pub fn begin(alloc: Global, who: &Who, end: &End, call: &Call) -> Result<Begun, 
     ensures { IfOk result (λ begun. IsBegun who.now end.now call.now begun) }
 {
     let frame = match call {
-        Call::Offer(frame) => match frame.bytes().to_vec(alloc) {
-            Ok(bytes) => bytes,
-            Err(_) => return Err(NoMemory),
-        },
+        Call::Offer(frame) => frame.bytes().to_vec(alloc)?,
         Call::Tick | Call::Stop | Call::Poll => Vec::new(alloc),
     };
     let k = entry_of(who, u64::from(end.accepted));
@@ -515,7 +519,8 @@ pub fn begin(alloc: Global, who: &Who, end: &End, call: &Call) -> Result<Begun, 
 
 /// The place at which a call begins.
 pub fn first_place(begun: &Begun, call: &Call) -> Place
-    ensures place { (who : Who) (end : End) (seen : ends.End) → IsBegun who end call.now begun.now → IsSeenAs end seen → place_seen begun.now result ≡ first_place (who_seen who) seen (call_seen call.now) }
+    ensures place { (who : Who) (end : End) (seen : ends.End) → IsBegun who end call.now begun.now → IsSeenAs end seen →
+        place_seen begun.now result ≡ first_place (who_seen who) seen (call_seen call.now) }
     ensures small { IsSmall result }
 {
     let runs = matches!(begun.handshake.phase(), Phase::Run);

@@ -13,8 +13,13 @@ pub enum Access {
     Write(u64, u64),
     /// Writes the own State.
     State(u32),
-    /// Writes the Doorbell, for this peer and vector.
-    Ring { target: u32, vector: u32 },
+    /// Writes the Doorbell.
+    Ring {
+        /// The peer that is rung.
+        target: u32,
+        /// The vector by which it is rung.
+        vector: u32,
+    },
     /// The one step of a call that is down.
     Nothing,
 }
@@ -46,46 +51,49 @@ pub enum Mark {
     Over,
 }
 
-/// One step: the access, the value that it gave, which is 0 where it is no read, and its marks.
+/// One step of a call.
 #[derive(Debug, Drop)]
 pub struct Step {
+    /// Its access.
     pub access: Access,
+    /// The value that a read gave; 0 where it is no read.
     pub value: u32,
+    /// What is marked on it, in order.
     pub marks: Vec<Mark>,
 }
 
 impl Mark {
     /// Is it the same mark?
-    pub fn is(&self, other: &Mark) -> bool
-        ensures { IsTrue result ↔ self.now ≡ other.now }
+    pub fn is(&self, mark: &Mark) -> bool
+        ensures { IsTrue result ↔ self.now ≡ mark.now }
     {
         match self {
-            Mark::Saw(mine) => match other {
+            Mark::Saw(mine) => match mark {
                 Mark::Saw(theirs) => mine == theirs,
                 _ => false,
             },
-            Mark::Reclaim(mine) => match other {
+            Mark::Reclaim(mine) => match mark {
                 Mark::Reclaim(theirs) => mine == theirs,
                 _ => false,
             },
-            Mark::Look(mine) => match other {
+            Mark::Look(mine) => match mark {
                 Mark::Look(theirs) => mine == theirs,
                 _ => false,
             },
-            Mark::Accept(mine) => match other {
+            Mark::Accept(mine) => match mark {
                 Mark::Accept(theirs) => mine == theirs,
                 _ => false,
             },
-            Mark::Deliver(mine) => match other {
+            Mark::Deliver(mine) => match mark {
                 Mark::Deliver(theirs) => mine == theirs,
                 _ => false,
             },
-            Mark::Full => matches!(other, Mark::Full),
-            Mark::Return => matches!(other, Mark::Return),
-            Mark::Done => matches!(other, Mark::Done),
-            Mark::Down => matches!(other, Mark::Down),
-            Mark::Over => matches!(other, Mark::Over),
-            Mark::Refuse(mine) => match other {
+            Mark::Full => matches!(mark, Mark::Full),
+            Mark::Return => matches!(mark, Mark::Return),
+            Mark::Done => matches!(mark, Mark::Done),
+            Mark::Down => matches!(mark, Mark::Down),
+            Mark::Over => matches!(mark, Mark::Over),
+            Mark::Refuse(mine) => match mark {
                 Mark::Refuse(theirs) => mine.field == theirs.field && mine.value == theirs.value,
                 _ => false,
             },

@@ -186,9 +186,7 @@ pub fn frame_in(alloc: Global, length: u32, words: &[u32]) -> Result<Frame, NoMe
             (*word / 65_536 % 256) as u8,
             (*word / 16_777_216 % 256) as u8,
         ];
-        if bytes.extend_from_slice(&four).is_err() {
-            return Err(NoMemory);
-        }
+        bytes.extend_from_slice(&four)?;
     }
     let count = bytes.len().min(length as usize);
     Frame::of(alloc, &bytes[..count])

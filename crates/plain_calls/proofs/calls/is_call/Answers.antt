@@ -5,7 +5,7 @@ use Rattle.call_grammar.specs.Plays.{IsPlayed}
 use Rattle.plain_calls.specs.declared.places.Place as plain
 use Rattle.plain_calls.specs.Along.{IsAfter}
 use Rattle.plain_calls.specs.Seen.{who_seen, call_seen, steps_seen}
-use Rattle.plain_calls.specs.Standing.{place_seen}
+use Rattle.plain_calls.specs.Begun.{place_seen}
 use Rattle.plain_calls.proofs.Along.{whole, unplayed}
 use Rattle.plain_calls.proofs.calls.is_call.Goals as goal
 

@@ -3,7 +3,7 @@ use Rattle.std.specs.Cmp.Rules.{comparing}
 use Rattle.call_grammar.specs.Places.{access_at, marks_at}
 use Rattle.call_grammar.specs.Steps.{value_given}
 use Rattle.plain_calls.specs.Seen.{who_seen, access_seen}
-use Rattle.plain_calls.specs.Standing.{place_seen}
+use Rattle.plain_calls.specs.Begun.{place_seen}
 use Rattle.plain_calls.proofs.Same.{step_is}
 use Rattle.plain_calls.proofs.calls.is_step_at.Goals as goal
 

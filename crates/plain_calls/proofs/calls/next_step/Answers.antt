@@ -4,7 +4,7 @@ use Rattle.call_grammar.specs.Places.{is_open}
 use Rattle.plain_calls.specs.declared.places.Place as plain
 use Rattle.plain_calls.specs.Along.{IsAfter}
 use Rattle.plain_calls.specs.Seen.{who_seen, call_seen, steps_seen}
-use Rattle.plain_calls.specs.Standing.{place_seen}
+use Rattle.plain_calls.specs.Begun.{place_seen}
 use Rattle.plain_calls.proofs.Along.{none_unplayed, none_closed, some_next}
 use Rattle.plain_calls.proofs.calls.next_step.Goals as goal
 

@@ -1,7 +1,7 @@
 use Rattle.std.proofs.Common.{drop}
 use Rattle.call_grammar.specs.Places.{Place}
 use Rattle.plain_calls.specs.Seen.{who_seen, steps_seen}
-use Rattle.plain_calls.specs.Standing.{place_seen, IsSmall}
+use Rattle.plain_calls.specs.Begun.{place_seen, IsSmall}
 use Rattle.plain_calls.specs.Along.{Along}
 use Rattle.plain_calls.proofs.calls.place_after.Given as goal
 

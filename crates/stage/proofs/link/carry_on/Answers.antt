@@ -25,8 +25,8 @@ tell_notes-requires c =
     let who = c.requires.stands.0 in
     let peer = c.requires.stands.1 in
     subst (λ (ns : List Note). HaveFrames (map (mark_line c.args.me) (marks_between (offered c.took-notes.new.self) (delivered c.took-notes.new.self) ns))) (sym c.as_slice.ensures.value)
-    (frames_now c.args.me c.args.link.now.end c.took-notes.new.self _ c.took-notes.result.items who peer c.args.link.now stands c.took-notes.ensures
-    (busy_next c.args.link.now.end c.took-notes.new.self _ c.took-notes.result.items who peer.end stands.place c.took-notes.ensures stands.end))
+    (frames_now c.args.me c.args.link.now.end c.took-notes.new.self _ c.took-notes.result.items who peer c.args.link.now stands c.took-notes.ensures.steps
+    (busy_next c.args.link.now.end c.took-notes.new.self _ c.took-notes.result.items who peer.end stands.place c.took-notes.ensures.steps stands.end))
 
 pub returns-in_err-tell_notes-clause-seated : goal.returns-in_err-tell_notes-clause-seated
 returns-in_err-tell_notes-clause-seated c = λ q seated. c.tell_notes.ensures.seated q (c.perform.ensures.seated q seated)
@@ -40,7 +40,7 @@ returns-in_default-clause-seated c = λ q seated. c.tell_notes.ensures.seated q 
 pub returns-in-Some-clause-steps : goal.returns-in-Some-clause-steps
 returns-in-Some-clause-steps c = λ world drained past losses peer after stands.
     let who = who_of world c.args.me in
-    let took : Takes c.args.link.now.end c.in_ok-value.value c.took-notes.result.items c.took-notes.new.self = c.took-notes.ensures in
+    let took : Takes c.args.link.now.end c.in_ok-value.value c.took-notes.result.items c.took-notes.new.self = c.took-notes.ensures.steps in
     let driver : DriverIs (Some c.in-Some.auto) peer.driver = subst (λ (o : Option Plan). DriverIs o peer.driver) c.in-Some.is stands.driver in
     carried c.places_follow_trees.ensures world drained past losses c.args.me peer c.args.link.now _ c.perform.new.self c.tell_notes.new.scene c.next-access.result c.in_ok-value.value c.took-notes.result.items stands
     (sym (busy_is c.args.link.now.end who peer.end stands.place stands.end) ∙ c.requires.open)
@@ -53,7 +53,7 @@ returns-in-Some-clause-steps c = λ world drained past losses peer after stands.
 pub returns-in_default-clause-steps : goal.returns-in_default-clause-steps
 returns-in_default-clause-steps c = λ world drained past losses peer after stands.
     let who = who_of world c.args.me in
-    let took : Takes c.args.link.now.end c.in_ok-value.value c.took-notes.result.items c.took-notes.new.self = c.took-notes.ensures in
+    let took : Takes c.args.link.now.end c.in_ok-value.value c.took-notes.result.items c.took-notes.new.self = c.took-notes.ensures.steps in
     carried c.places_follow_trees.ensures world drained past losses c.args.me peer c.args.link.now _ c.perform.new.self c.tell_notes.new.scene c.next-access.result c.in_ok-value.value c.took-notes.result.items stands
     (sym (busy_is c.args.link.now.end who peer.end stands.place stands.end) ∙ c.requires.open)
     (c.next-access.ensures.access who peer.end stands.place stands.end) (c.in_ok-value.ensures.after world drained past losses after) took

@@ -1,11 +1,11 @@
--- Where a call of this crate stands, as a place of the link's laws.
+-- What a call of this crate holds from its beginning, and its place, as a place of the call grammar.
 use Rattle.std.specs.Prelude.{ℕ, ◌≡◌, List, [], ◌+◌, ◌<◌, ◌^◌}
 use Rattle.call_grammar.specs.Offers.{Job}
 use Rattle.call_grammar.specs.Places as laws
 use Rattle.plain_calls.specs.declared.ends.Who.{Who}
 use Rattle.plain_calls.specs.declared.ends.End.{End}
 use Rattle.plain_calls.specs.declared.ends.Call.{Call}
-use Rattle.plain_calls.specs.declared.ends.Call.TheVariants.{Tick, Stop, Offer, Poll}
+use Rattle.plain_calls.specs.declared.ends.Call.TheVariants.{Offer}
 use Rattle.plain_calls.specs.Seen.{who_seen, stored}
 use Rattle.split_ring.specs.Layout.{word_place, Entry}
 use Rattle.call_grammar.specs.Offers.{entry_of}
@@ -64,10 +64,8 @@ IsSmall _ = Unit {0}
 
 -- the frame of a call that offers one
 abbrev pub frame_of : Call → List ℕ
-frame_of Tick = []
-frame_of Stop = []
 frame_of (Offer frame) = frame
-frame_of Poll = []
+frame_of _ = []
 
 -- this is what the call holds of its end from its beginning
 pub record IsBegun (who : Who) (end : End) (call : Call) (begun : Begun) : Type 0 where

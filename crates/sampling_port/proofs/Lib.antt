@@ -2,3 +2,4 @@ pub mod Hands
 pub mod Following
 pub mod Reaching
 pub mod Once
+pub mod Listing

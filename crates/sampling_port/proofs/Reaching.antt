@@ -54,7 +54,7 @@ either_stays who true t u s s' = s
 either_stays who false t u s s' = s'
 
 reads_stay : (shape : Shape) (me from most number bytes : ℕ) (read : List ℕ) (at count : ℕ) → IsMessageSize most → port_words most ≤ shape.out → at + count ≤ most / 4 →
-    StaysInReach (who_of shape me from) (unmarked (read_words (section_start shape from) most number bytes read at count))
+    StaysInReach (who_of shape me from) (unmarked (read_words from (section_start shape from) most number bytes read at count))
 reads_stay shape me from most number bytes read at zero size room few = (inr (omega arith, omega arith), λ value. tt)
 reads_stay shape me from most number bytes read at (suc more) size room few =
     (inr (omega arith, omega (arith, within shape.out most number at size room (omega arith))), λ value. reads_stay shape me from most number bytes (take bytes (read ++ word_bytes value)) (at + 1) more size room (omega arith))
@@ -63,17 +63,17 @@ fits : (most value : ℕ) → is_length most value ≡ true → value ≤ most
 fits most value is = grind (arith, nat_tests)
 
 message_stays : (shape : Shape) (me from most number value : ℕ) → IsMessageSize most → port_words most ≤ shape.out → (b : Bool) → is_length most value ≡ b →
-    StaysInReach (who_of shape me from) (unmarked (if b then read_words (section_start shape from) most number value [] 0 (words_for value) else Ended))
+    StaysInReach (who_of shape me from) (unmarked (if b then read_words from (section_start shape from) most number value [] 0 (words_for value) else Ended))
 message_stays shape me from most number value size room true is = let few = fits most value is in reads_stay shape me from most number value [] 0 (words_for value) size room (omega arith)
 message_stays shape me from most number value size room false is = tt
 
 length_stays : (shape : Shape) (me from most number : ℕ) → IsMessageSize most → port_words most ≤ shape.out →
-    StaysInReach (who_of shape me from) (unmarked (read_length (section_start shape from) most number))
+    StaysInReach (who_of shape me from) (unmarked (read_length from (section_start shape from) most number))
 length_stays shape me from most number size room =
     (inr (omega arith, omega (arith, length_within shape.out most number size room)), λ value. message_stays shape me from most number value size room (is_length most value) refl)
 
 samples_stay : (shape : Shape) (me from most last : ℕ) → IsMessageSize most → port_words most ≤ shape.out →
-    StaysInReach (who_of shape me from) (unmarked (sample (section_start shape from) most last))
+    StaysInReach (who_of shape me from) (unmarked (sample from (section_start shape from) most last))
 samples_stay shape me from most last size room = (
   inr (omega arith, omega arith),
   λ value. either_stays (who_of shape me from) (nat_lt value last) Ended _ tt (either_stays (who_of shape me from) (value == 0) Ended _ tt (length_stays shape me from most value size room)),

@@ -14,7 +14,7 @@ use Rattle.sampling_port.specs.Layout.{IsMessageSize, port_words}
 use Rattle.sampling_port.specs.Marks.{marked}
 use Rattle.sampling_port.specs.Trees.{PortTree, Ended, PortStep, port_step, Goes, Makes, unmarked, unmarked_step}
 use Rattle.sampling_port.specs.Calls.{publish, sample}
-use Rattle.sampling_port.specs.Views.{PortView, IsPort, is_busy, own, theirs, access_at, note_at, port_after, left, left_at, publishing, sampling}
+use Rattle.sampling_port.specs.Views.{PortView, IsPort, is_busy, from_at, own, theirs, access_at, note_at, port_after, left, left_at, publishing, sampling}
 
 -- why a geometry has no port for messages of so many bytes; sizes are in bytes
 abbrev pub IsPortFault : Shape → ℕ → PortFault → Type 0
@@ -47,23 +47,23 @@ pub record CallsStayInReach : Type 0 where
   pub publishes : (shape : Shape) (me from most number : ℕ) (message : List ℕ) → IsMessageSize most → port_words most ≤ shape.out → length message ≤ most →
       StaysInReach (who_of shape me from) (unmarked (publish (section_start shape me) most number message))
   pub samples : (shape : Shape) (me from most last : ℕ) → IsMessageSize most → port_words most ≤ shape.out →
-      StaysInReach (who_of shape me from) (unmarked (sample (section_start shape from) most last))
+      StaysInReach (who_of shape me from) (unmarked (sample from (section_start shape from) most last))
 
 -- a sample's reads: no word twice, or the first word once more behind those
 abbrev pub IsReadOnce : ℕ → List ℕ → Type 0
 IsReadOnce sequence reads = AreDistinct reads ⊎ ((front : List ℕ) × (reads ≡ sequence ∷ (front ++ sequence ∷ [])) × AreDistinct (sequence ∷ front))
 
 abbrev pub FieldsAreReadOnce : Type 0
-FieldsAreReadOnce = (theirs most last : ℕ) (steps : List PortStep) → Makes (sample theirs most last) steps → IsReadOnce theirs (reads_of (map unmarked_step steps))
+FieldsAreReadOnce = (from theirs most last : ℕ) (steps : List PortStep) → Makes (sample from theirs most last) steps → IsReadOnce theirs (reads_of (map unmarked_step steps))
 
 -- the step of a port that met this value: a message got is the one in hand
 abbrev pub step_of_port : PortView → ℕ → PortStep
-step_of_port port value = port_step (access_at port port.place) value (marked port.hand (note_at port port.place value))
+step_of_port port value = port_step (access_at port port.place) value (marked (from_at port.place) port.hand (note_at port port.place value))
 
 -- a port goes along its call, and along nothing else
 pub record PortsFollowCalls : Type 0 where
   pub publishes : (port : PortView) (message : List ℕ) → left (publishing port message) ≡ publish (own port) port.most (port.published + 1) message
-  pub samples : (port : PortView) (from : ℕ) → left (sampling port from) ≡ sample (theirs port from) port.most (slice_index port.lasts from)
+  pub samples : (port : PortView) (from : ℕ) → left (sampling port from) ≡ sample from (theirs port from) port.most (slice_index port.lasts from)
   pub comes : (port : PortView) (value : ℕ) → is_busy port ≡ true → Goes (left port) (step_of_port port value) (left (port_after port port.place value))
   pub goes : (port : PortView) (step : PortStep) (rest : PortTree) → Goes (left port) step rest →
       (value : ℕ) × (step ≡ step_of_port port value) × (rest ≡ left (port_after port port.place value))

@@ -4,4 +4,5 @@ pub mod Trees
 pub mod Calls
 pub mod Views
 pub mod Kept
+pub mod Lists
 pub mod Laws

@@ -25,6 +25,14 @@ pub record PortView : Type 0 where
   pub hand : List ℕ
   pub message : List ℕ
 
+-- the peer that is sampled at a place; a publish samples nobody
+abbrev pub from_at : Place → ℕ
+from_at (AtSequence from) = from
+from_at (AtLength from sequence) = from
+from_at (AtWord from sequence bytes at more) = from
+from_at (AtSecond from sequence) = from
+from_at _ = 0
+
 -- a port of these numbers that did nothing yet
 abbrev pub fresh_port : Shape → (me most : ℕ) → PortView
 fresh_port shape me most = record { shape = shape; me = me; most = most; published = 0; lasts = replicate 8 0; place = Closed; hand = []; message = [] }
@@ -100,6 +108,12 @@ port_after port (AtLength from sequence) value = if is_length port.most value th
 port_after port (AtWord from sequence bytes at more) value = record port { place = reading_place from sequence bytes (at + 1) more; hand = take bytes (port.hand ++ word_bytes value) }
 port_after port (AtSecond from sequence) value = if value == sequence then got port from sequence else closed port
 
+-- the numbers that were handed in stay
+pub record KeepsNumbers (old new : PortView) : Type 0 where
+  pub shape : new.shape ≡ old.shape
+  pub me : new.me ≡ old.me
+  pub most : new.most ≡ old.most
+
 -- What is left of the open call
 
 abbrev pub left_at : PortView → Place → PortTree
@@ -107,10 +121,10 @@ left_at port Closed = Ended
 left_at port WritingLength = publish (own port) port.most (port.published + 1) port.hand
 left_at port (WritingWord at more) = write_words (own port) port.most (port.published + 1) port.hand at (suc more)
 left_at port WritingSequence = write_sequence (own port) (port.published + 1)
-left_at port (AtSequence from) = sample (theirs port from) port.most (slice_index port.lasts from)
-left_at port (AtLength from sequence) = read_length (theirs port from) port.most sequence
-left_at port (AtWord from sequence bytes at more) = read_words (theirs port from) port.most sequence bytes port.hand at (suc more)
-left_at port (AtSecond from sequence) = look_again (theirs port from) sequence port.hand
+left_at port (AtSequence from) = sample from (theirs port from) port.most (slice_index port.lasts from)
+left_at port (AtLength from sequence) = read_length from (theirs port from) port.most sequence
+left_at port (AtWord from sequence bytes at more) = read_words from (theirs port from) port.most sequence bytes port.hand at (suc more)
+left_at port (AtSecond from sequence) = look_again from (theirs port from) sequence port.hand
 
 abbrev pub left : PortView → PortTree
 left port = left_at port port.place

@@ -1,4 +1,5 @@
 //! What holds of the calls of every port. Each function does nothing: its contract is the law.
+ghost use Rattle.sampling_port.specs.Lists.{CallsAreLists};
 ghost use Rattle.sampling_port.specs.Laws.{CallsStayInReach, FieldsAreReadOnce, PortsFollowCalls};
 
 /// A publish writes the own section alone, and a sample reads the section of the peer that it samples alone, whatever it reads.
@@ -14,4 +15,9 @@ pub fn fields_are_read_once()
 /// A port goes along its call, step by step, whatever is handed to `took`, and along nothing else.
 pub fn ports_follow_calls()
     ensures { PortsFollowCalls }
+{}
+
+/// A list of steps is a whole publish or a whole sample exactly where the table of calls has it.
+pub fn calls_are_lists()
+    ensures { CallsAreLists }
 {}

@@ -11,6 +11,6 @@ mod port;
 #[cfg(test)]
 mod tests;
 
-pub use laws::{calls_stay_in_reach, fields_are_read_once, ports_follow_calls};
+pub use laws::{calls_are_lists, calls_stay_in_reach, fields_are_read_once, ports_follow_calls};
 pub use notes::{PortFault, PortField, PortNote};
 pub use port::Port;

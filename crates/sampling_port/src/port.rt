@@ -3,7 +3,7 @@ ghost use Rattle.std.specs.Prelude.{ℕ, ◌≡◌, ◌+◌, ◌-◌, ◌*◌, �
 ghost use Rattle.call_grammar.specs.Words.{words_for, frame_word, word_bytes};
 ghost use Rattle.section_map.specs.Geometry.{section_start};
 ghost use Rattle.sampling_port.specs.Layout.{IsMessageSize, length_place, data_place};
-ghost use Rattle.sampling_port.specs.Views.{PortView, IsPort, fresh_port, is_busy, publishing, sampling, access_at, note_at, port_after, closed, got};
+ghost use Rattle.sampling_port.specs.Views.{PortView, IsPort, fresh_port, is_busy, publishing, sampling, access_at, note_at, port_after, closed, got, KeepsNumbers};
 ghost use Rattle.sampling_port.specs.Laws.{IsPortFault, IsInReach};
 
 use crate::notes::{PortFault, PortField, PortNote};
@@ -189,6 +189,7 @@ impl Port {
         requires { is_busy self.old ≡ true }
         ensures note { result ≡ note_at self.old self.old.place value }
         ensures value { self.new ≡ port_after self.old self.old.place value }
+        ensures kept { KeepsNumbers self.old self.new }
     {
         match self.place {
             Place::WritingLength => {
@@ -284,6 +285,7 @@ impl Port {
         requires { self.old.place ≡ Place.AtSequence from }
         ensures note { result ≡ note_at self.old self.old.place value }
         ensures value { self.new ≡ port_after self.old self.old.place value }
+        ensures kept { KeepsNumbers self.old self.new }
     {
         if value < self.lasts[from as usize] {
             self.close();
@@ -308,6 +310,7 @@ impl Port {
         requires { self.old.place ≡ Place.AtLength from sequence }
         ensures note { result ≡ note_at self.old self.old.place value }
         ensures value { self.new ≡ port_after self.old self.old.place value }
+        ensures kept { KeepsNumbers self.old self.new }
     {
         if value < 1 || self.most < value {
             self.close();
@@ -334,6 +337,7 @@ impl Port {
         requires { self.old.place ≡ Place.AtWord from sequence bytes at more }
         ensures note { result ≡ note_at self.old self.old.place value }
         ensures value { self.new ≡ port_after self.old self.old.place value }
+        ensures kept { KeepsNumbers self.old self.new }
     {
         put_word(&mut self.hand, bytes as usize, at as usize, value);
         self.filled = bytes.min(4 * at + 4);
@@ -346,6 +350,7 @@ impl Port {
         requires { self.old.place ≡ Place.AtSecond from sequence }
         ensures note { result ≡ note_at self.old self.old.place value }
         ensures value { self.new ≡ port_after self.old self.old.place value }
+        ensures kept { KeepsNumbers self.old self.new }
     {
         if value != sequence {
             self.close();

@@ -1,0 +1,10 @@
+pub mod TableLaws
+pub mod SizeLaws
+pub mod Follows
+pub mod ActRowLaws
+pub mod DueLaws
+pub mod ForwardLaws
+pub mod BackLaws
+pub mod ReadLaws
+pub mod WholeLaws
+pub mod LawLaws

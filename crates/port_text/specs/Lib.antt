@@ -1,0 +1,10 @@
+pub mod Acts
+pub mod Table
+pub mod ActRows
+pub mod PortWorlds
+pub mod Props
+pub mod Spelling
+pub mod Judge
+pub mod Answers
+pub mod Drafts
+pub mod Laws

@@ -155,10 +155,8 @@ impl<'a> Course<'a> {
             return Err(StepFault::Unlawful(Unlawful { line: number, law }));
         }
         self.passed += 1;
-        match self.settle() {
-            Ok(()) => Ok(()),
-            Err(NoMemory) => Err(StepFault::NoMemory),
-        }
+        self.settle()?;
+        Ok(())
     }
 
     /// Were all lines taken? Else the next line, which has this number, is missing.

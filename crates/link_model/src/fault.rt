@@ -1,4 +1,8 @@
 //! Why a history isn't lawful.
+ghost use Rattle.std.specs.Prelude.{◌≡◌};
+ghost use Rattle.link_model.specs.declared.fault.StepFault.TheVariants.{NoMemory as OutOfMemory};
+
+use ivs_base::NoMemory;
 use thiserror::Error;
 
 /// The law that a line breaks.
@@ -37,4 +41,12 @@ pub enum StepFault {
     /// There was no memory left.
     #[error("out of memory")]
     NoMemory,
+}
+
+impl From<NoMemory> for StepFault {
+    ghost from_gives = { λ _ fault. fault ≡ OutOfMemory };
+
+    fn from(_e: NoMemory) -> StepFault {
+        StepFault::NoMemory
+    }
 }

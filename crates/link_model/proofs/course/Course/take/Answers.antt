@@ -14,6 +14,6 @@ settle-requires c =
     let some = c.requires in
     (some.0 ++ c.args.line.now ∷ [], one_taken some.0 c.args.self.now c.args.line.now some.1.along (c.is_due.ensures.due c.if-not-is_due.false))
 
-pub returns-in-Ok-clause-on : goal.returns-in-Ok-clause-on
-returns-in-Ok-clause-on c = λ lines goes.
-    c.in-Ok.ensures.on (lines ++ c.args.line.now ∷ []) (one_taken lines c.args.self.now c.args.line.now goes.along (c.is_due.ensures.due c.if-not-is_due.false))
+pub returns-clause-on : goal.returns-clause-on
+returns-clause-on c = λ lines goes.
+    c.in_ok-settle.ensures.on (lines ++ c.args.line.now ∷ []) (one_taken lines c.args.self.now c.args.line.now goes.along (c.is_due.ensures.due c.if-not-is_due.false))

@@ -12,9 +12,11 @@ use std::marker::Model;
 /// What an automatic peer does next.
 #[derive(Clone, Copy, Debug, PartialEq, Eq)]
 pub enum Choice {
+    /// A Tick.
     Tick,
     /// An offer of the head.
     Offer,
+    /// A poll.
     Poll,
     /// Nothing: no frame is left, and as many were delivered as are expected.
     Finished,
@@ -82,7 +84,8 @@ impl Auto {
 
     /// What comes next, for an end in this phase. The round goes on with it.
     pub fn choose(&mut self, phase: Phase) -> Choice
-        ensures choice { (count : ℕ) → HasCounted self.old count → IsChoice result self.old.frames (choice_of phase self.old.round self.old.frames count self.old.expected) }
+        ensures choice { (count : ℕ) → HasCounted self.old count →
+            IsChoice result self.old.frames (choice_of phase self.old.round self.old.frames count self.old.expected) }
         ensures round { self.new ≡ record self.old { round = round_after result self.old.round } }
     {
         let choice = self.choice(phase);
@@ -129,7 +132,8 @@ impl Auto {
 
     /// What comes next.
     fn choice(&self, phase: Phase) -> Choice
-        ensures { (count : ℕ) → HasCounted self.now count → IsChoice result self.now.frames (choice_of phase self.now.round self.now.frames count self.now.expected) }
+        ensures { (count : ℕ) → HasCounted self.now count →
+            IsChoice result self.now.frames (choice_of phase self.now.round self.now.frames count self.now.expected) }
     {
         if self.finished() {
             return Choice::Finished;

@@ -24,8 +24,8 @@ GoesTo world lines past who most peer seen (Some read) = Reads lines past (Some 
 -- after an event of a peer, the lines and the peer go on to its own
 abbrev pub GoesBy : World → List Line → List ℕ → Event → ℕ → Peer → Peer → Option ℕ → Type 0
 GoesBy world lines losses event read old new to =
-    (past : List Line) (lost : ℕ → ℕ) (most : ℕ) (peer : history_peers.Peer) → Reads lines past (Some read) → AreTold world.geometry.peers past → HasLosses losses lost →
-    IsPeer (who_of world (event_peer event)) most old peer →
+    (past : List Line) (lost : ℕ → ℕ) (most : ℕ) (peer : history_peers.Peer) → Reads lines past (Some read) →
+    AreTold world.geometry.peers past → HasLosses losses lost → IsPeer (who_of world (event_peer event)) most old peer →
     GoesTo world lines (reverse (lines_by event (step_in world peer past event) (device_lines world past lost event (step_in world peer past event))) ++ past)
     (who_of world (event_peer event)) (most + 2) (peer_in world peer past event) new to
 

@@ -18,7 +18,8 @@ use scenario_text::Scenario;
 /// Tells the devices what a line says of them.
 fn tell(devices: &mut Device, line: &Line)
     requires { IsTold (peer_count devices.old) line.now }
-    ensures stands { (world : device.Devices) (events : List device.Event) → Stands world events devices.old → Stands world (told_before (told_by line.now) events) devices.new }
+    ensures stands { (world : device.Devices) (events : List device.Event) → Stands world events devices.old →
+        Stands world (told_before (told_by line.now) events) devices.new }
     ensures peers { peer_count devices.new ≡ peer_count devices.old }
 {
     match line {

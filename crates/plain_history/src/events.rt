@@ -10,30 +10,43 @@ use plain_calls::{Access, Call};
 use scenario_text::Act;
 use std::alloc::Global;
 
-/// An access to the configuration space, the register page or the MSI-X region of a peer.
+/// An access to the configuration space, the register page or the MSI-X region of a peer. Offsets and widths are in bytes.
 #[derive(Clone, Copy, Debug)]
 pub enum DeviceAccess {
+    /// Reads the configuration space.
     ReadsConfig { offset: u16, width: u16 },
+    /// Writes it.
     WritesConfig { offset: u16, width: u16, value: u32 },
+    /// Reads the register page.
     ReadsRegister { offset: u32 },
+    /// Writes it.
     WritesRegister { offset: u32, value: u32 },
+    /// Reads the MSI-X region.
     ReadsMsix { offset: u32 },
+    /// Writes it.
     WritesMsix { offset: u32, value: u32 },
 }
 
-/// What happens: a peer is told to make a call, to choose its calls from now on, or to write at random from now on; it takes its
-/// turn; it makes one access of its own accord; its device is reset; it reaches a part of its device; its next interrupt is to
-/// be lost; or an interrupt with this vector is repeated at it.
+/// What happens at a peer.
 #[derive(Drop)]
 pub enum Event {
+    /// It is told to make this call.
     Asked { peer: u32, call: Call },
+    /// It chooses its calls from now on, and expects so many deliveries.
     Automated { peer: u32, expected: u64 },
+    /// It writes at random from now on, by a generator with this seed.
     Stormed { peer: u32, seed: u64 },
+    /// It takes its turn.
     Turned { peer: u32 },
+    /// It makes this access of its own accord.
     Acted { peer: u32, access: Access },
+    /// Its device is reset.
     WasReset { peer: u32 },
+    /// It reaches a part of its device.
     Reached { peer: u32, access: DeviceAccess },
+    /// Its next interrupt is to be lost.
     Loses { peer: u32 },
+    /// An interrupt with this vector comes to it once more.
     Repeated { peer: u32, vector: u32 },
 }
 

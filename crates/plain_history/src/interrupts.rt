@@ -37,7 +37,8 @@ fn read_arrival(
     delivery: &Delivery,
 ) -> Option<usize>
     requires { read ≤ length lines.now }
-    ensures reads { (past : List Line) (lost : ℕ → ℕ) → Reads lines.now past (Some read) → HasLosses losses.now lost → Reads lines.now (arrival past lost delivery.now ∷ past) result }
+    ensures reads { (past : List Line) (lost : ℕ → ℕ) → Reads lines.now past (Some read) → HasLosses losses.now lost →
+        Reads lines.now (arrival past lost delivery.now ∷ past) result }
     ensures within { IfSome result (λ at. at ≤ length lines.now) }
 {
     let Delivery { peer, vector } = *delivery;
@@ -58,7 +59,8 @@ pub fn read_arrivals(
     deliveries: &[Delivery],
 ) -> Option<usize>
     requires { read ≤ length lines.now }
-    ensures { (past : List Line) (lost : ℕ → ℕ) → Reads lines.now past (Some read) → HasLosses losses.now lost → Reads lines.now (reverse (arrived past lost deliveries.now) ++ past) result }
+    ensures { (past : List Line) (lost : ℕ → ℕ) → Reads lines.now past (Some read) → HasLosses losses.now lost →
+        Reads lines.now (reverse (arrived past lost deliveries.now) ++ past) result }
 {
     let mut at = read;
     for delivery in deliveries {

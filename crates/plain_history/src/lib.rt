@@ -50,7 +50,8 @@ fn read_act(
     requires act { IsAct (world_of scenario.now) act.now }
     requires here { (count : ℕ) × (at : history.Moment) × IsMoment (world_of scenario.now) lines.now count at moment.old × (count + cost act.now ≤ 4000000) }
     ensures { let world = world_of scenario.now in
-        IfOk result (λ yes. (count : ℕ) (at : history.Moment) → IsMoment world lines.now count at moment.old → GoesOn world lines.now (count + cost act.now) (run world (events_of act.now) at) moment.new yes) }
+        IfOk result (λ yes. (count : ℕ) (at : history.Moment) → IsMoment world lines.now count at moment.old →
+        GoesOn world lines.now (count + cost act.now) (run world (events_of act.now) at) moment.new yes) }
 {
     for _k in 0..act.cost() {
         let event = event_of(alloc, act)?;

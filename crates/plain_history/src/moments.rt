@@ -18,11 +18,14 @@ use lawful_history::Line;
 use scenario_text::Scenario;
 use std::alloc::Global;
 
-/// How many lines were read, how many interrupts of each of 8 peers are to be lost, and the peers, from peer 0.
+/// What was read so far.
 #[derive(Drop)]
 pub struct Moment {
+    /// How many lines.
     pub read: usize,
+    /// How many interrupts of each of 8 peers are to be lost.
     pub losses: [u64; 8],
+    /// The peers, from peer 0.
     pub peers: Vec<Peer>,
 }
 

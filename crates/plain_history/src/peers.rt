@@ -20,43 +20,61 @@ use std::mem::replace;
 /// What the call before tells of the round of an automatic peer.
 #[derive(Clone, Copy, Debug)]
 pub enum Round {
+    /// The round begins with the next call.
     Anew,
+    /// The call was an Offer of the round.
     AfterOffer,
+    /// The call was the Poll of the round.
     AfterPoll,
 }
 
 /// What an automatic peer chooses: a call, or that it is finished.
 #[derive(Drop)]
 pub enum Choice {
+    /// A Tick.
     Tick,
+    /// An Offer of this frame.
     Offer(Frame),
+    /// A Poll.
     Poll,
+    /// No call any more.
     Finished,
 }
 
-/// An automatic peer: its frames that weren't accepted yet, how many deliveries it expects and how many it had, and its round.
+/// An automatic peer.
 #[derive(Drop)]
 pub struct Auto {
+    /// Its frames that weren't accepted yet, in order.
     pub frames: Vec<Frame>,
+    /// How many deliveries it expects.
     pub expected: u64,
+    /// How many it had.
     pub delivered: u64,
+    /// Where its round is.
     pub round: Round,
 }
 
-/// Who chooses what a peer does: the schedule; the rule of the automatic peer; or a storm, whose generator is at this number.
+/// Who chooses what a peer does.
 #[derive(Drop)]
 pub enum Driver {
+    /// The schedule: the peer waits for its calls.
     Waits,
+    /// The rule of the automatic peer.
     Chooses(Auto),
+    /// A storm, whose generator is at this number.
     Storms(u64),
 }
 
-/// The end of a peer, its open call, the calls that wait, the oldest first, and its driver.
+/// A peer.
 #[derive(Drop)]
 pub struct Peer {
+    /// Its end of the link.
     pub end: End,
+    /// Its open call.
     pub call: OpenCall,
+    /// The calls that wait, the oldest first.
     pub waiting: Vec<Call>,
+    /// Its driver.
     pub driver: Driver,
 }
 
@@ -99,7 +117,8 @@ impl Auto {
 
     /// What the peer chooses in this phase.
     fn choose(&self, alloc: Global, phase: Phase) -> Result<Choice, NoMemory>
-        ensures { IfOk result (λ choice. choice_seen choice ≡ choice_of phase (round_seen self.now.round) self.now.frames.items self.now.delivered self.now.expected) }
+        ensures { IfOk result (λ choice. choice_seen choice ≡
+            choice_of phase (round_seen self.now.round) self.now.frames.items self.now.delivered self.now.expected) }
     {
         if self.frames.is_empty() && self.delivered >= self.expected {
             return Ok(Choice::Finished);
@@ -133,7 +152,8 @@ impl Peer {
 
     /// A call was put after those that wait; but a frame for an automatic peer was put after its frames.
     pub fn ask(&mut self, call: Call) -> Result<(), NoMemory>
-        ensures { OnOk result ((who : laws.Who) (most : ℕ) (peer : history.Peer) → IsPeer who most self.old peer → IsPeer who most self.new (asked peer (call_seen call))) }
+        ensures { OnOk result ((who : laws.Who) (most : ℕ) (peer : history.Peer) → IsPeer who most self.old peer →
+            IsPeer who most self.new (asked peer (call_seen call))) }
     {
         match (&mut self.driver, call) {
             (Driver::Chooses(auto), Call::Offer(frame)) => match auto.frames.push(frame) {
@@ -190,8 +210,8 @@ impl Peer {
 
     /// An automatic peer is here in its round from now on.
     fn set_round(&mut self, round: Round)
-        ensures { (who : laws.Who) (most : ℕ) (peer : history.Peer) (auto : history.Auto) → peer.driver ≡ history.Chooses auto → IsPeer who most self.old peer →
-            IsPeer who most self.new (record peer { driver = history.Chooses (record auto { round = round_seen round }) }) }
+        ensures { (who : laws.Who) (most : ℕ) (peer : history.Peer) (auto : history.Auto) → peer.driver ≡ history.Chooses auto →
+            IsPeer who most self.old peer → IsPeer who most self.new (record peer { driver = history.Chooses (record auto { round = round_seen round }) }) }
     {
         if let Driver::Chooses(auto) = &mut self.driver {
             auto.round = round;
@@ -206,8 +226,12 @@ impl Peer {
         call: &Call,
         round: Round,
     ) -> Result<(), NoMemory>
-        ensures { OnOk result ((most : ℕ) (peer : history.Peer) (auto : history.Auto) → peer.driver ≡ history.Chooses auto → IsPeer (who_seen who.now) most self.old peer →
-            IsPeer (who_seen who.now) most self.new (record peer { left = tree_of (who_seen who.now) peer.end (call_seen call.now); driver = history.Chooses (record auto { round = round_seen round }) })) }
+        ensures { let who = who_seen who.now in
+            OnOk result ((most : ℕ) (peer : history.Peer) (auto : history.Auto) → peer.driver ≡ history.Chooses auto →
+            IsPeer who most self.old peer → IsPeer who most self.new (record peer {
+              left = tree_of who peer.end (call_seen call.now);
+              driver = history.Chooses (record auto { round = round_seen round });
+            })) }
     {
         self.set_round(round);
         self.begin(alloc, who, call)?;
@@ -216,7 +240,9 @@ impl Peer {
 
     /// Opens the call that an automatic peer chooses, if it chooses one.
     fn choose(&mut self, alloc: Global, who: &Who) -> Result<(), NoMemory>
-        ensures { OnOk result ((most : ℕ) (peer : history.Peer) → IsPeer (who_seen who.now) most self.old peer → IsPeer (who_seen who.now) most self.new (chosen (who_seen who.now) peer peer.driver)) }
+        ensures { let who = who_seen who.now in
+            OnOk result ((most : ℕ) (peer : history.Peer) → IsPeer who most self.old peer →
+            IsPeer who most self.new (chosen who peer peer.driver)) }
     {
         let phase = self.end.handshake.phase();
         let choice = match &self.driver {
@@ -236,7 +262,8 @@ impl Peer {
 
     /// Opens the call that comes next where none is open: the oldest that waits, else the one that an automatic peer chooses.
     pub fn open_next(&mut self, alloc: Global, who: &Who) -> Result<(), NoMemory>
-        ensures { OnOk result ((most : ℕ) (peer : history.Peer) → IsPeer (who_seen who.now) most self.old peer → IsPeer (who_seen who.now) most self.new (opened (who_seen who.now) peer)) }
+        ensures { let who = who_seen who.now in
+            OnOk result ((most : ℕ) (peer : history.Peer) → IsPeer who most self.old peer → IsPeer who most self.new (opened who peer)) }
     {
         if self.call.is_open() {
             return Ok(());
@@ -273,8 +300,9 @@ impl Peer {
         requires next { step_seen step.now ≡ step_at (who_seen who.now) self.old.call met }
         requires storable { IsStorable (step_seen step.now).access }
         requires few { (most : ℕ) × (peer : history.Peer) × IsPeer (who_seen who.now) most self.old peer × (most + 2 < 2 ^ 32) }
-        ensures { OnOk result ((most : ℕ) (peer : history.Peer) → IsPeer (who_seen who.now) most self.old peer →
-            IsPeer (who_seen who.now) (most + 2) self.new (stepped peer (step_seen step.now) (remaining (who_seen who.now) (next_place (who_seen who.now) self.old.call met)))) }
+        ensures { let who = who_seen who.now in
+            OnOk result ((most : ℕ) (peer : history.Peer) → IsPeer who most self.old peer →
+            IsPeer who (most + 2) self.new (stepped peer (step_seen step.now) (remaining who (next_place who self.old.call met)))) }
     {
         self.end.follow(step)?;
         self.count(step.marks.as_slice());

@@ -51,7 +51,8 @@ fn is_told(me: u32, access: Access, met: u32, line: &Line) -> bool
 
 /// Reads the line of an access, which met this value.
 fn read_access(me: u32, access: Access, met: u32, lines: &[Line], read: usize) -> Option<usize>
-    ensures reads { (past : List Line) → Reads lines.now past (Some read) → Reads lines.now (reverse (access_lines me (access_seen access) met) ++ past) result }
+    ensures reads { (past : List Line) → Reads lines.now past (Some read) →
+        Reads lines.now (reverse (access_lines me (access_seen access) met) ++ past) result }
     ensures within { IfSome result (λ at. read ≤ length lines.now → at ≤ length lines.now) }
     ensures storable { OnSome result (IsStorable (access_seen access)) }
 {
@@ -139,7 +140,8 @@ pub fn read_step(
     requires fits { FitsDoorbell (access_seen step.now.access) }
     requires told { (past : List Line) × Reads lines.now past (Some read) × AreTold scenario.now.geometry.peers past }
     ensures reads { (past : List Line) (lost : ℕ → ℕ) → Reads lines.now past (Some read) → HasLosses losses.now lost →
-        Reads lines.now (reverse (step_lines me (step_seen step.now) (step_interrupts (world_of scenario.now) past lost me (Some (step_seen step.now)))) ++ past) result }
+        Reads lines.now (reverse (step_lines me (step_seen step.now)
+        (step_interrupts (world_of scenario.now) past lost me (Some (step_seen step.now)))) ++ past) result }
     ensures storable { OnSome result (IsStorable (access_seen step.now.access)) }
 {
     let Some(at) = read_access(me, step.access, step.value, lines, read) else {

@@ -48,8 +48,10 @@ fn read_call(
     requires few { (most : ℕ) × (it : history.Peer) × IsPeer (who_seen who.now) most peer.old it × (most + 2 < 2 ^ 32) }
     requires told { (past : List Line) × Reads lines.now past (Some read) × AreTold scenario.now.geometry.peers past }
     ensures { let world = world_of scenario.now in
-        IfOk result (λ at. (past : List Line) (lost : ℕ → ℕ) (most : ℕ) (it : history.Peer) → Reads lines.now past (Some read) → AreTold world.geometry.peers past → HasLosses losses.now lost →
-        IsPeer (who_seen who.now) most peer.old it → GoesTo world lines.now (reverse (turn_lines me (step_by world me it.driver it.left past) (step_interrupts world past lost me (step_by world me it.driver it.left past))) ++ past)
+        IfOk result (λ at. (past : List Line) (lost : ℕ → ℕ) (most : ℕ) (it : history.Peer) → Reads lines.now past (Some read) →
+        AreTold world.geometry.peers past → HasLosses losses.now lost →
+        IsPeer (who_seen who.now) most peer.old it → let step = step_by world me it.driver it.left past in
+        GoesTo world lines.now (reverse (turn_lines me step (step_interrupts world past lost me step)) ++ past)
         (who_seen who.now) (most + 2) (moved it past) peer.new at) }
 {
     places_follow_trees();
@@ -75,8 +77,9 @@ fn read_driver(
     requires there { me < scenario.now.geometry.peers }
     requires told { (past : List Line) × Reads lines.now past (Some read) × AreTold scenario.now.geometry.peers past }
     ensures { let world = world_of scenario.now in
-        (past : List Line) (lost : ℕ → ℕ) (who : laws.Who) (most : ℕ) (it : history.Peer) → Reads lines.now past (Some read) → AreTold world.geometry.peers past → HasLosses losses.now lost →
-        IsPeer who most peer.old it → GoesTo world lines.now (reverse (turn_lines me (driven_step world me it.driver) (step_interrupts world past lost me (driven_step world me it.driver))) ++ past)
+        (past : List Line) (lost : ℕ → ℕ) (who : laws.Who) (most : ℕ) (it : history.Peer) → Reads lines.now past (Some read) →
+        AreTold world.geometry.peers past → HasLosses losses.now lost → IsPeer who most peer.old it → let step = driven_step world me it.driver in
+        GoesTo world lines.now (reverse (turn_lines me step (step_interrupts world past lost me step)) ++ past)
         who most (driven it it.driver) peer.new result }
 {
     match &mut peer.driver {
@@ -103,8 +106,9 @@ fn read_turn(
     requires few { (most : ℕ) × (it : history.Peer) × IsPeer (who_of (world_of scenario.now) me) most peer.old it × (most + 2 < 2 ^ 32) }
     requires told { (past : List Line) × Reads lines.now past (Some read) × AreTold scenario.now.geometry.peers past }
     ensures { let world = world_of scenario.now in
-        IfOk result (λ at. (past : List Line) (lost : ℕ → ℕ) (most : ℕ) (it : history.Peer) → Reads lines.now past (Some read) → AreTold world.geometry.peers past → HasLosses losses.now lost →
-        IsPeer (who_of world me) most peer.old it → GoesTo world lines.now (reverse (turn_lines me (turn_step world me it past) (step_interrupts world past lost me (turn_step world me it past))) ++ past)
+        IfOk result (λ at. (past : List Line) (lost : ℕ → ℕ) (most : ℕ) (it : history.Peer) → Reads lines.now past (Some read) →
+        AreTold world.geometry.peers past → HasLosses losses.now lost → IsPeer (who_of world me) most peer.old it → let step = turn_step world me it past in
+        GoesTo world lines.now (reverse (turn_lines me step (step_interrupts world past lost me step)) ++ past)
         (who_of world me) (most + 2) (turned world me it past) peer.new at) }
 {
     let who = who_of(scenario, me);
@@ -150,7 +154,8 @@ fn read_access_of(
     requires told { (past : List Line) × Reads lines.now past (Some read) × AreTold scenario.now.geometry.peers past }
     ensures { let world = world_of scenario.now in let a = access_seen access in
         (past : List Line) (lost : ℕ → ℕ) → Reads lines.now past (Some read) → HasLosses losses.now lost →
-        Reads lines.now (reverse (acted_lines me a (acted_step world me a past) (step_interrupts world past lost me (acted_step world me a past))) ++ past) result }
+        let step = acted_step world me a past in
+        Reads lines.now (reverse (acted_lines me a step (step_interrupts world past lost me step)) ++ past) result }
 {
     if let Some(word) = denied_word(scenario, me, access) {
         return read_line(lines, read, &Line::Denied { peer: me, word });
@@ -174,7 +179,8 @@ fn read_reset(
     requires there { me < scenario.now.geometry.peers }
     requires told { (past : List Line) × Reads lines.now past (Some read) × AreTold scenario.now.geometry.peers past }
     ensures { let world = world_of scenario.now in
-        (past : List Line) (lost : ℕ → ℕ) → Reads lines.now past (Some read) → HasLosses losses.now lost → Reads lines.now (reverse (Reset me ∷ arrivals world past lost (Reset me)) ++ past) result }
+        (past : List Line) (lost : ℕ → ℕ) → Reads lines.now past (Some read) → HasLosses losses.now lost →
+        Reads lines.now (reverse (Reset me ∷ arrivals world past lost (Reset me)) ++ past) result }
 {
     let Some(at) = read_line(lines, read, &Line::Reset { peer: me }) else {
         return None;
@@ -245,7 +251,8 @@ pub fn read_event(
     read: usize,
 ) -> Result<Option<usize>, NoMemory>
     requires can { CanHappen (world_of scenario.now) (event_seen event) }
-    requires few { (most : ℕ) × (it : history.Peer) × IsPeer (who_of (world_of scenario.now) (event_peer (event_seen event))) most peer.old it × (most + 2 < 2 ^ 32) }
+    requires few { (most : ℕ) × (it : history.Peer) ×
+        IsPeer (who_of (world_of scenario.now) (event_peer (event_seen event))) most peer.old it × (most + 2 < 2 ^ 32) }
     requires told { (past : List Line) × Reads lines.now past (Some read) × AreTold scenario.now.geometry.peers past }
     ensures { IfOk result (λ at. GoesBy (world_of scenario.now) lines.now losses.now (event_seen event) read peer.old peer.new at) }
 {

@@ -45,7 +45,7 @@ const THIRD: &str =
 /// Those of `ONE_RUNS`, before and after the section.
 const BEFORE: &str = "r 0 1 0\nsaw 0 0\ns 0 1\nover 0\ns 1 2\nr 0 1 2\nsaw 0 2\n";
 
-const BEHIND: &str = "s 0 2\nover 0\nr 0 1 2\nsaw 0 2\ns 0 3\nover 0\n";
+const AFTER: &str = "s 0 2\nover 0\nr 0 1 2\nsaw 0 2\ns 0 3\nover 0\n";
 
 /// The history of these parts, where the first lines that are spelled `from` are spelled `to`.
 fn history(alloc: Global, parts: &[Part], from: &str, to: &str) -> Result<String, Fail> {
@@ -343,7 +343,7 @@ fn beside_hostile(
     let parts = [
         Part::Lines(BEFORE),
         Part::Clears(0, 1024),
-        Part::Lines(BEHIND),
+        Part::Lines(AFTER),
         Part::Lines(lines),
     ];
     stands_alone(rt, alloc, HOSTILE, acts.as_str(), &parts, last, &[change])
@@ -480,7 +480,7 @@ fn longest_frame(rt: HostRuntime) -> Result<(), Fail> {
     let parts = [
         Part::Lines(BEFORE),
         Part::Clears(0, 1024),
-        Part::Lines(BEHIND),
+        Part::Lines(AFTER),
         Part::Lines(
             "w 1 5376 65536\nw 1 5120 1792\nw 1 5122 14\nw 1 5122 14592\nr 0 5376 65536\nlook 0 1\nr 0 5377 0\nr 0 5120 1792\nr 0 5121 0\nr 0 5122 14592\nr 0 5123 0\n",
         ),

@@ -5,7 +5,7 @@ use Rattle.frame_capture.specs.declared.order.Order.{Order}
 use Rattle.frame_capture.specs.declared.packets.Packet.{Packet}
 use Rattle.frame_capture.specs.declared.faults.CaptureFault.{CaptureFault}
 use Rattle.frame_capture.specs.declared.faults.CaptureFault.TheVariants.{BadPacket, CutPacket, NoMemory}
-use Rattle.frame_capture.specs.CaptureFile.{bytes_of, number_at, magic, header_bytes, packets_bytes, IsPacket, IsCaptureFile}
+use Rattle.frame_capture.specs.CaptureFile.{bytes_of, number_at, magic, header_bytes, packets_bytes, IsPacket, AreShort, IsCaptureFile}
 use Rattle.frame_capture.specs.Faults.{HasHeader, IsCaptureFault}
 use Rattle.frame_capture.specs.Reading.{IsPacketsFault}
 use Rattle.frame_capture.proofs.Bytes.{AreBytes}
@@ -46,3 +46,6 @@ fault_of order bytes left (BadPacket number) h is bad = (order, h, rw is at bad)
 fault_of order bytes left (CutPacket number) h is bad = (order, h, rw is at bad)
 fault_of order bytes left NoMemory h is bad = tt
 fault_of order bytes left _ h is bad = absurd bad
+
+pub each_short : (ps : List Packet) → All IsPacket ps → AreShort ps
+each_short ps each k d lt = let is = each k d lt in is.short

@@ -5,4 +5,6 @@ pub mod FeedLaws
 pub mod Heads
 pub mod Offered
 pub mod Puts
+pub mod OneFile
+pub mod OneFault
 pub mod Texts

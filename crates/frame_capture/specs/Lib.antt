@@ -2,5 +2,6 @@ pub mod CaptureFile
 pub mod Deliveries
 pub mod Faults
 pub mod Feed
+pub mod Laws
 pub mod Offers
 pub mod Reading

@@ -7,14 +7,18 @@
 mod deliveries;
 mod faults;
 mod feeding;
+mod laws;
 mod order;
 mod packets;
 mod printing;
 mod reading;
+#[cfg(test)]
+mod tests;
 
 pub use deliveries::captured;
 pub use faults::CaptureFault;
 pub use feeding::{FeedFault, scenario_of};
+pub use laws::{faults_are_exact, file_is_of_one_capture, frames_are_delivered};
 pub use packets::{Capture, Packet, Packets};
 pub use printing::print;
 pub use reading::parse;

@@ -5,7 +5,7 @@ ghost use Rattle.frame_capture.specs.CaptureFile.{IsInOrder, number_at};
 use byteorder::{BigEndian, ByteOrder, LittleEndian};
 
 /// What a file begins with, in its byte order.
-const MAGIC: u32 = 0xa1b2_c3d4;
+pub const MAGIC: u32 = 0xa1b2_c3d4;
 
 /// The byte order of all numbers of a file.
 #[derive(Clone, Copy, Debug, PartialEq, Eq)]

@@ -3,7 +3,7 @@ ghost use Rattle.std.specs.Prelude.{◌≡◌, ◌≤◌, ◌++◌, ◌^◌, ◌
 ghost use Rattle.byteorder.specs.Endian.{little_bytes};
 ghost use Rattle.frame_capture.specs.CaptureFile.{header_bytes, packet_bytes, packets_bytes, IsPacket, AreShort, IsCaptureFile};
 
-use crate::order::Order;
+use crate::order::{MAGIC, Order};
 use crate::packets::{Capture, Packet};
 use byteorder::{ByteOrder, LittleEndian};
 use ivs_base::NoMemory;
@@ -32,7 +32,7 @@ fn put_header(out: &mut Vec<u8>, snaplen: u32) -> Result<(), AllocError>
     ensures put { OnOk result (out.new.items ≡ out.old.items ++ header_bytes Order.Little 0 0 snaplen) }
     ensures fits { OnOk result (snaplen < 2 ^ 32) }
 {
-    put_u32(out, 0xa1b2_c3d4)?;
+    put_u32(out, MAGIC)?;
     put_u16(out, 2)?;
     put_u16(out, 4)?;
     put_u32(out, 0)?;

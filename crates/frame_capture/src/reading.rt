@@ -1,6 +1,6 @@
 //! Reading a capture file.
 ghost use Rattle.std.specs.Prelude.{◌≡◌, ◌≤◌, ◌++◌, ◌<◌, All, IfOk, IfErr, length, drop};
-ghost use Rattle.frame_capture.specs.CaptureFile.{packet_bytes, packets_bytes, IsPacket, IsCaptureFile};
+ghost use Rattle.frame_capture.specs.CaptureFile.{packet_bytes, packets_bytes, IsPacket, AreShort, IsCaptureFile};
 ghost use Rattle.frame_capture.specs.Faults.{IsTooLong, IsCut, IsFirstBad, IsCaptureFault};
 ghost use Rattle.frame_capture.specs.Reading.{StartsWith, IsDamage, fault_at, IsPacketsFault};
 
@@ -105,6 +105,8 @@ fn read_packets(alloc: Global, order: Order, bytes: &[u8]) -> Result<Packets, Ca
 /// where its bytes aren't all there. Zone and figures may be any, and the captured length may differ from the original one.
 pub fn parse(alloc: Global, bytes: &[u8]) -> Result<Capture, CaptureFault>
     ensures file { IfOk result (λ capture. IsCaptureFile capture bytes.now) }
+    // So it can be printed.
+    ensures short { IfOk result (λ capture. AreShort capture.packets) }
     ensures fault { IfErr result (IsCaptureFault bytes.now) }
 {
     if bytes.len() < HEADER {

@@ -1,7 +1,7 @@
 use Rattle.std.proofs.Common.{arith}
 use Rattle.std.proofs.lemmas.List.{take_rest}
 use Rattle.std.proofs.lemmas.Result.{err_from_is_err_and}
-use Rattle.frame_capture.proofs.Heads.{file_of, fault_of}
+use Rattle.frame_capture.proofs.Heads.{file_of, fault_of, each_short}
 use Rattle.frame_capture.proofs.reading.parse.Goals as goal
 
 pub returns-in_err-packets-clause-fault : goal.returns-in_err-packets-clause-fault
@@ -15,3 +15,6 @@ returns-clause-file c =
     file_of c.in-Some.order c.u32_at.result c.in_ok-packets.packets c.args.bytes.now _ (λ i. omega (arith, c.type_inv.bytes i))
     ((omega arith, c.in-Some.ensures.found), (omega arith, omega arith), omega arith) (omega arith) c.u32_at.ensures
     c.in_ok-packets.ensures.each (take_rest c.args.bytes.now 24) c.in_ok-packets.ensures.spelled
+
+pub returns-clause-short : goal.returns-clause-short
+returns-clause-short c = each_short c.in_ok-packets.packets c.in_ok-packets.ensures.each

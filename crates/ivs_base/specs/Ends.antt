@@ -1,35 +1,27 @@
 -- What a source gives and a sink takes (profile). Bytes that an end doesn't tell are None.
-use Rattle.std.specs.Prelude.{ℕ, ◌≡◌, ◌+◌, ◌-◌, ◌^◌, ◌<◌, ◌≤◌, ◌⊎◌, Bool, List, [], ◌++◌, Option, Some, None, IsTrue, length, min}
+use Rattle.std.specs.Prelude.{ℕ, ◌≡◌, ◌+◌, ◌-◌, ◌^◌, ◌<◌, ◌≤◌, ◌⊎◌, Bool, List, Option, Some, IsTrue, length, min}
+use Rattle.std.specs.Io.KnownBytes.{Consumes, Appends, IsAtEnd}
 
--- what is known of a source: the bytes left, where they are told; that a read found the end; its faults
+-- what is known of a source: the bytes left, where they are told; that its last read found the end; that its last read
+-- failed; its faults; that none of its reads fails
 pub record Input : Type 0 where
   pub left : Option (List ℕ)
   pub ended : Bool
+  pub failed : Bool
   pub faults : ℕ
+  pub never_fails : Bool
 
--- what is known of a sink: the bytes written, where they are told; its faults
+-- what is known of a sink: the bytes written, where they are told; that its last write failed; its faults; as many bytes
+-- more as it takes for certain before one of its writes fails
 pub record Output : Type 0 where
   pub written : Option (List ℕ)
+  pub failed : Bool
   pub faults : ℕ
-
--- these bytes, and after them what is left
-abbrev pub ahead : List ℕ → Option (List ℕ) → Option (List ℕ)
-ahead bytes (Some rest) = Some (bytes ++ rest)
-ahead bytes None = None
-
--- what was written, and these bytes after it
-abbrev pub appended : Option (List ℕ) → List ℕ → Option (List ℕ)
-appended (Some written) bytes = Some (written ++ bytes)
-appended None bytes = None
-
--- nothing is left, where that is told
-abbrev pub IsAtEnd : Option (List ℕ) → Type 0
-IsAtEnd (Some left) = left ≡ []
-IsAtEnd None = Unit {0}
+  pub room : ℕ
 
 -- the source gave these bytes
 abbrev pub Gave : Input → List ℕ → Input → Type 0
-Gave before bytes now = before.left ≡ ahead bytes now.left
+Gave before bytes now = Consumes before.left now.left bytes
 
 -- the source gave so many bytes
 abbrev pub GaveMany : Input → ℕ → Input → Type 0
@@ -43,9 +35,13 @@ GaveAtMost before count now = (bytes : List ℕ) × Gave before bytes now × (le
 abbrev pub HasEnded : Input → Type 0
 HasEnded now = IsTrue now.ended × IsAtEnd now.left
 
+-- the source tells what is left of it: these bytes
+abbrev pub Tells : Input → List ℕ → Type 0
+Tells now bytes = now.left ≡ Some bytes
+
 -- the sink took these bytes
 abbrev pub Took : Output → List ℕ → Output → Type 0
-Took before bytes now = now.written ≡ appended before.written bytes
+Took before bytes now = Appends before.written now.written bytes
 
 -- one more, up to the last number that a count reaches
 abbrev pub counted : ℕ → ℕ
@@ -62,3 +58,13 @@ SourceFailed before now = Rose before.faults now.faults
 -- the sink failed between these two
 abbrev pub SinkFailed : Output → Output → Type 0
 SinkFailed before now = Rose before.faults now.faults
+
+-- one read failed between these two, and it was the last
+pub record LastReadFailed (before now : Input) : Type 0 where
+  pub last : IsTrue now.failed
+  pub once : now.faults ≡ counted before.faults
+
+-- one write failed between these two, and it was the last
+pub record LastWriteFailed (before now : Output) : Type 0 where
+  pub last : IsTrue now.failed
+  pub once : now.faults ≡ counted before.faults

@@ -1,4 +1,4 @@
-//! Ethernet frames, and the want of memory.
+//! Ethernet frames, and NoMemory.
 ghost use Rattle.std.specs.Prelude.{◌≡◌, ℕ, List, IfOk};
 ghost use Rattle.std.specs.Str.{bytes_eq};
 ghost use Rattle.std.specs.Cmp.Rules.{comparing};

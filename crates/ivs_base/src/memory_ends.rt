@@ -1,7 +1,7 @@
 //! A source and a sink in memory, which fail at the calls that they were told to fail at. Their calls
 //! are told exactly, so that a test can follow what a fault does to whoever reads or writes.
-ghost use Rattle.std.specs.Prelude.{◌≡◌, ◌<◌, ◌≤◌, ◌+◌, ◌↔◌, ◌⊎◌, [], IfOk, OnErr, IsErr, Contains, length, take};
-ghost use Rattle.ivs_base.specs.Ends.{counted, Gave, HasEnded, Took, SourceFailed, SinkFailed};
+ghost use Rattle.std.specs.Prelude.{◌≡◌, ◌<◌, ◌≤◌, ◌+◌, ◌↔◌, ◌⊎◌, [], false, IfOk, IsOk, IsTrue, OnOk, OnErr, IsErr, Contains, length, take};
+ghost use Rattle.ivs_base.specs.Ends.{counted, Gave, HasEnded, Took, SourceFailed, SinkFailed, LastReadFailed, LastWriteFailed};
 ghost use Rattle.ivs_base.specs.MemoryEnds.{input_of, given_count, source_after, source_failed, output_of, taken_count, sink_after, sink_failed};
 
 use super::ends::{Failed, Sink, Source};
@@ -19,6 +19,7 @@ pub struct MemorySource {
     fails: Vec<u64>,
     calls: u64,
     faults: u64,
+    failed: bool,
 }
 
 impl Model for MemorySource {
@@ -27,7 +28,7 @@ impl Model for MemorySource {
 
     ghost Value = { MemoryInput };
 
-    ghost view = { λ s. record { left = drop s.at s.bytes.items; piece = s.piece; fails = s.fails.items; calls = s.calls; faults = s.faults } };
+    ghost view = { λ s. record { left = drop s.at s.bytes.items; piece = s.piece; fails = s.fails.items; calls = s.calls; faults = s.faults; failed = s.failed } };
 
     ghost invariant = { λ s. (s.at ≤ vec_len s.bytes) × (0 < s.piece) };
 }
@@ -42,7 +43,7 @@ impl MemorySource {
         fails: &[u64],
     ) -> Result<MemorySource, NoMemory>
         requires { 0 < piece }
-        ensures { IfOk result (λ s. s ≡ record { left = bytes.now; piece = piece; fails = fails.now; calls = 0; faults = 0 }) }
+        ensures { IfOk result (λ s. s ≡ record { left = bytes.now; piece = piece; fails = fails.now; calls = 0; faults = 0; failed = false }) }
     {
         let bytes = bytes.to_vec(alloc)?;
         let fails = fails.to_vec(alloc)?;
@@ -53,6 +54,7 @@ impl MemorySource {
             fails,
             calls: 0,
             faults: 0,
+            failed: false,
         })
     }
 
@@ -79,14 +81,21 @@ impl Source for MemorySource {
         ensures fits { IfOk result (λ k. k ≤ length into.old) }
         ensures gives { IfOk result (λ k. Gave (input_of self.old) (take k into.new) (input_of self.new)) }
         ensures end { IfOk result (λ k. k ≡ 0 → HasEnded (input_of self.new)) }
+        ensures quiet { OnOk result ((input_of self.new).faults ≡ (input_of self.old).faults) }
         ensures later { (input_of self.old).faults ≤ (input_of self.new).faults }
         ensures cause { OnErr result (SourceFailed (input_of self.old) (input_of self.new)) }
+        ensures fault { OnErr result (LastReadFailed (input_of self.old) (input_of self.new)) }
+        ensures nothing { OnErr result (Gave (input_of self.old) [] (input_of self.new)) }
+        ensures sound { IsTrue (input_of self.old).never_fails → IsOk result }
+        ensures same { (input_of self.new).never_fails ≡ (input_of self.old).never_fails }
     {
         self.calls = self.calls.saturating_add(1);
         if self.fails.contains(&self.calls) {
             self.faults = self.faults.saturating_add(1);
+            self.failed = true;
             return Err(Failed);
         }
+        self.failed = false;
         let left = self.bytes.len() - self.at;
         let count = left.min(self.piece).min(into.len());
         into[..count].copy_from_slice(&self.bytes[self.at..self.at + count]);
@@ -106,6 +115,7 @@ pub struct MemorySink {
     fails: Vec<u64>,
     calls: u64,
     faults: u64,
+    failed: bool,
 }
 
 impl Model for MemorySink {
@@ -114,7 +124,7 @@ impl Model for MemorySink {
 
     ghost Value = { MemoryOutput };
 
-    ghost view = { λ s. record { written = s.bytes.items; room = s.room; piece = s.piece; fails = s.fails.items; calls = s.calls; faults = s.faults } };
+    ghost view = { λ s. record { written = s.bytes.items; room = s.room; piece = s.piece; fails = s.fails.items; calls = s.calls; faults = s.faults; failed = s.failed } };
 
     ghost invariant = { λ s. (s.room ≤ vec_capacity s.bytes) × (vec_len s.bytes ≤ s.room) × (0 < s.piece) };
 }
@@ -129,7 +139,7 @@ impl MemorySink {
         fails: &[u64],
     ) -> Result<MemorySink, NoMemory>
         requires { 0 < piece }
-        ensures { IfOk result (λ s. s ≡ record { written = []; room = room; piece = piece; fails = fails.now; calls = 0; faults = 0 }) }
+        ensures { IfOk result (λ s. s ≡ record { written = []; room = room; piece = piece; fails = fails.now; calls = 0; faults = 0; failed = false }) }
     {
         let bytes = Vec::with_capacity(alloc, room)?;
         let fails = fails.to_vec(alloc)?;
@@ -140,6 +150,7 @@ impl MemorySink {
             fails,
             calls: 0,
             faults: 0,
+            failed: false,
         })
     }
 
@@ -173,16 +184,22 @@ impl Sink for MemorySink {
         ensures some { IfOk result (λ k. 0 < k) }
         ensures fits { IfOk result (λ k. k ≤ length bytes.now) }
         ensures appends { IfOk result (λ k. Took (output_of self.old) (take k bytes.now) (output_of self.new)) }
-        ensures nothing { OnErr result ((output_of self.new).written ≡ (output_of self.old).written) }
+        ensures quiet { OnOk result ((output_of self.new).faults ≡ (output_of self.old).faults) }
+        ensures nothing { OnErr result (Took (output_of self.old) [] (output_of self.new)) }
         ensures later { (output_of self.old).faults ≤ (output_of self.new).faults }
         ensures cause { OnErr result (SinkFailed (output_of self.old) (output_of self.new)) }
+        ensures fault { OnErr result (LastWriteFailed (output_of self.old) (output_of self.new)) }
+        ensures sound { length bytes.now ≤ (output_of self.old).room → IsOk result }
+        ensures room { IfOk result (λ k. (output_of self.old).room ≤ (output_of self.new).room + k) }
     {
         self.calls = self.calls.saturating_add(1);
         let count = bytes.len().min(self.piece);
         if self.fails.contains(&self.calls) || count > self.room - self.bytes.len() {
             self.faults = self.faults.saturating_add(1);
+            self.failed = true;
             return Err(Failed);
         }
+        self.failed = false;
         self.bytes.extend_from_slice(&bytes[..count]).unwrap();
         Ok(count)
     }

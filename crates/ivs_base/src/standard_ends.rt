@@ -1,37 +1,39 @@
-//! Standard input and standard output as a source and a sink. Their bytes aren't told: this is the
-//! edge that no contract sees after.
-ghost use Rattle.std.specs.Prelude.{◌≡◌, ◌<◌, ◌≤◌, ◌↔◌, IfOk, IsOk, OnOk, OnErr, IsTrue, None, false, length, take};
-ghost use Rattle.ivs_base.specs.Ends.{counted, Gave, HasEnded, Took, SourceFailed, SinkFailed};
+//! Standard input and standard output as a source and a sink. Their view passes on what a reader and a
+//! writer tell of their bytes. Standard input and standard output tell nothing: that edge is trusted.
+ghost use Rattle.std.specs.Prelude.{◌≡◌, ◌+◌, ◌<◌, ◌≤◌, ◌↔◌, [], IfOk, IsOk, OnOk, OnErr, IsTrue, false, length, take};
+ghost use Rattle.ivs_base.specs.Ends.{counted, Gave, HasEnded, Took, SourceFailed, SinkFailed, LastReadFailed, LastWriteFailed};
 
 use super::ends::{Failed, Sink, Source};
 use std::io::{Read, Write};
 use std::marker::Model;
 
-/// Standard input, or another reader whose bytes aren't told. It counts each error of the reader.
+/// Standard input, or another reader. It counts each error of the reader.
 #[derive(Drop)]
-pub struct InputSource<R> {
+pub struct InputSource<R: Read> {
     reader: R,
     ended: bool,
+    failed: bool,
     faults: u64,
 }
 
-impl<R> Model for InputSource<R> {
-    ghost use Rattle.std.specs.Prelude.{None};
+impl<R: Read> Model for InputSource<R> {
+    ghost use Rattle.std.specs.Prelude.{false};
     ghost use Rattle.ivs_base.specs.Ends.{Input};
 
     ghost Value = { Input };
 
-    ghost view = { λ s. record { left = None; ended = s.ended; faults = s.faults } };
+    ghost view = { λ s. record { left = R.remaining s.reader; ended = s.ended; failed = s.failed; faults = s.faults; never_fails = false } };
 }
 
 impl<R: Read> InputSource<R> {
-    /// A source over a reader, with no faults so far.
+    /// A source over a reader, with no faults so far. What is left of it is what the reader gives.
     pub fn new(reader: R) -> Self
-        ensures { result ≡ record { left = None; ended = false; faults = 0 } }
+        ensures { result ≡ record { left = R.remaining reader; ended = false; failed = false; faults = 0; never_fails = false } }
     {
         InputSource {
             reader,
             ended: false,
+            failed: false,
             faults: 0,
         }
     }
@@ -57,45 +59,56 @@ impl<R: Read> Source for InputSource<R> {
         ensures fits { IfOk result (λ k. k ≤ length into.old) }
         ensures gives { IfOk result (λ k. Gave self.old (take k into.new) self.new) }
         ensures last { IfOk result (λ k. k ≡ 0 → HasEnded self.new) }
+        ensures quiet { OnOk result (self.new.faults ≡ self.old.faults) }
         ensures later { self.old.faults ≤ self.new.faults }
         ensures cause { OnErr result (SourceFailed self.old self.new) }
+        ensures fault { OnErr result (LastReadFailed self.old self.new) }
+        ensures nothing { OnErr result (Gave self.old [] self.new) }
+        ensures sound { IsTrue self.old.never_fails → IsOk result }
+        ensures same { self.new.never_fails ≡ self.old.never_fails }
     {
         match self.reader.read(into) {
             Ok(count) => {
                 self.ended = count == 0;
+                self.failed = false;
                 Ok(count)
             }
             Err(_) => {
                 self.faults = self.faults.saturating_add(1);
+                self.failed = true;
                 Err(Failed)
             }
         }
     }
 }
 
-/// Standard output, or another writer whose bytes aren't told. It counts each error of the writer, and
-/// each write that takes nothing as one.
+/// Standard output, or another writer. It counts each error of the writer, and each write that takes
+/// nothing as one.
 #[derive(Drop)]
-pub struct OutputSink<W> {
+pub struct OutputSink<W: Write> {
     writer: W,
+    failed: bool,
     faults: u64,
 }
 
-impl<W> Model for OutputSink<W> {
-    ghost use Rattle.std.specs.Prelude.{None};
+impl<W: Write> Model for OutputSink<W> {
     ghost use Rattle.ivs_base.specs.Ends.{Output};
 
     ghost Value = { Output };
 
-    ghost view = { λ s. record { written = None; faults = s.faults } };
+    ghost view = { λ s. record { written = W.contents s.writer; failed = s.failed; faults = s.faults; room = 0 } };
 }
 
 impl<W: Write> OutputSink<W> {
-    /// A sink over a writer, with no faults so far.
+    /// A sink over a writer, with no faults so far. What is written is what the writer holds.
     pub fn new(writer: W) -> Self
-        ensures { result ≡ record { written = None; faults = 0 } }
+        ensures { result ≡ record { written = W.contents writer; failed = false; faults = 0; room = 0 } }
     {
-        OutputSink { writer, faults: 0 }
+        OutputSink {
+            writer,
+            failed: false,
+            faults: 0,
+        }
     }
 
     /// How many calls failed so far, up to 2^64 - 1.
@@ -118,14 +131,22 @@ impl<W: Write> Sink for OutputSink<W> {
         ensures some { IfOk result (λ k. 0 < k) }
         ensures fits { IfOk result (λ k. k ≤ length bytes.now) }
         ensures appends { IfOk result (λ k. Took self.old (take k bytes.now) self.new) }
-        ensures nothing { OnErr result (self.new.written ≡ self.old.written) }
+        ensures quiet { OnOk result (self.new.faults ≡ self.old.faults) }
+        ensures nothing { OnErr result (Took self.old [] self.new) }
         ensures later { self.old.faults ≤ self.new.faults }
         ensures cause { OnErr result (SinkFailed self.old self.new) }
+        ensures fault { OnErr result (LastWriteFailed self.old self.new) }
+        ensures sound { length bytes.now ≤ self.old.room → IsOk result }
+        ensures room { IfOk result (λ k. self.old.room ≤ self.new.room + k) }
     {
         match self.writer.write(bytes) {
-            Ok(count) if count > 0 => Ok(count),
+            Ok(count) if count > 0 => {
+                self.failed = false;
+                Ok(count)
+            }
             _ => {
                 self.faults = self.faults.saturating_add(1);
+                self.failed = true;
                 Err(Failed)
             }
         }

@@ -1,3 +1,4 @@
+//! The layout's numbers by hand, and ends that fail, or that take and give little.
 use super::*;
 use std::io;
 use std::io::{ErrorKind, Read, Write};
@@ -123,5 +124,55 @@ fn faults_of_the_standard_ends(rt: HostRuntime) -> Result<(), Fail> {
     assert_eq!(rt; sink.faults(), 1);
     let mut whole = OutputSink::new(io::writer(&rt));
     assert_eq!(rt; write_whole(&mut whole, b"written\n"), Ok(()));
+    Ok(())
+}
+
+// A writer that takes one byte a call, and fails after so many.
+#[derive(Drop)]
+struct Trickle {
+    held: Vec<u8>,
+    most: usize,
+}
+
+impl Write for Trickle {
+    fn write(&mut self, buf: &[u8]) -> io::Result<usize> {
+        if buf.is_empty() {
+            return Ok(0);
+        }
+        if self.held.len() >= self.most {
+            return Err(io::Error::from(ErrorKind::StorageFull));
+        }
+        self.held.push(buf[0])?;
+        Ok(1)
+    }
+
+    fn flush(&mut self) -> io::Result<()> {
+        Ok(())
+    }
+}
+
+#[test]
+fn writers_that_take_little(rt: HostRuntime) -> Result<(), Fail> {
+    let record = b"record 1\nivshm 1\n".as_slice();
+    for (most, want) in [(100usize, 17), (17, 17), (16, 16), (0, 0)] {
+        let held = Vec::new(rt.alloc());
+        let mut writer = Trickle { held, most };
+        let mut sink = OutputSink::new(&mut writer);
+        let got = write_whole(&mut sink, record);
+        assert_eq!(rt; got.is_ok(), want == record.len(), "{most}");
+        assert_eq!(rt; sink.faults(), u64::from(got.is_err()), "{most}");
+        assert!(rt; want <= record.len());
+        assert!(rt; writer.held.as_slice() == &record[..want], "{most}");
+    }
+    Ok(())
+}
+
+#[test]
+fn readers_give_their_bytes(rt: HostRuntime) -> Result<(), Fail> {
+    let text = b"ivshm 1\npeers 2\n".as_slice();
+    let mut source = InputSource::new(text);
+    let read = read_all(rt.alloc(), &mut source, 100)?;
+    assert!(rt; read.as_slice() == text);
+    assert_eq!(rt; source.faults(), 0);
     Ok(())
 }

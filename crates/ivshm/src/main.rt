@@ -1,31 +1,16 @@
-//! The program `ivshm`: it hands its words, standard input and standard output to the top call, and ends with the exit
-//! status of the answer. It stands on `ivshm_cli` for all that it does; the two real ends are the trusted edge, whose
-//! bytes no contract tells.
+//! The program `ivshm`: it hands its words, standard input and standard output to the top call, and ends with the number
+//! of its status. It stands on `ivshm_cli` for all that it does; the arguments and the two real ends are the trusted edge,
+//! of which no contract tells.
 #![tactic(auto)]
 
 use ivs_base::{InputSource, OutputSink};
-use ivshm_cli::{Status, ivshm};
+use ivshm_cli::{status_of_words, words_of};
 use std::process::ExitCode;
-use std::rt::Env;
 use std::{env, io};
 
-/// The words after the program's name.
-fn words(rt: &(impl Env + AllocGlobal)) -> io::Result<Vec<String>> {
-    let mut words = Vec::new(rt.alloc());
-    for word in env::args(rt)?.skip(1) {
-        words.push(word)?;
-    }
-    Ok(words)
-}
-
 fn main(rt: HostRuntime) -> ExitCode {
-    let status = match words(&rt) {
-        Ok(words) => {
-            let mut source = InputSource::new(rt.reader());
-            let mut sink = OutputSink::new(io::writer(&rt));
-            ivshm(rt.alloc(), words.as_slice(), &mut source, &mut sink)
-        }
-        Err(_) => Status::NoMemory,
-    };
-    ExitCode::from(status.exit_number())
+    let words = words_of(rt.alloc(), env::args(&rt));
+    let mut source = InputSource::new(rt.reader());
+    let mut sink = OutputSink::new(io::writer(&rt));
+    status_of_words(rt.alloc(), words, &mut source, &mut sink).exit_code()
 }

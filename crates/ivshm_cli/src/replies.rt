@@ -1,9 +1,9 @@
 //! What is due to a form and to the bytes that it read.
 
-ghost use Rattle.std.specs.Prelude.{◌≡◌, ◌^◌, ◌<◌, ◌≤◌, ℕ, List, true, false, Option, Some, None, Ok, IsSome, IsTrue, IfOk, OnOk, IsErrOf, length};
-ghost use Rattle.ivs_base.specs.Ends.{SourceFailed};
-ghost use Rattle.ivshm_cli.specs.Forms.{limit_of, passes, scenario_fault, IsInRange, IsTextVerdict, Answers};
-ghost use Rattle.ivshm_cli.specs.Due.{IsDue, HasRead, is_answer};
+ghost use Rattle.std.specs.Prelude.{◌≡◌, ◌≢◌, ◌^◌, ◌<◌, ◌≤◌, ℕ, List, true, false, Option, Some, None, Ok, IsSome, IsTrue, IfOk, OnOk, IsErrOf, length};
+ghost use Rattle.ivs_base.specs.Ends.{SourceFailed, LastReadFailed};
+ghost use Rattle.ivshm_cli.specs.Forms.{limit_of, passes, scenario_fault, IsInRange, IsTextVerdict, Replies};
+ghost use Rattle.ivshm_cli.specs.Due.{IsDue, HasRead, has_reply};
 ghost use Rattle.scenario_text.specs.Scenario.{World};
 ghost use Rattle.scenario_text.specs.Spelling.{IsSpelling, world_of};
 ghost use Rattle.scenario_text.specs.Judge.{answer as judged};
@@ -13,6 +13,7 @@ ghost use Rattle.ivshm_cli.specs.Replay.{Spells, status_of};
 ghost use Rattle.ivshm_cli.specs.Configuration.{IsConfigurationOf};
 ghost use Rattle.ivshm_cli.specs.Load.{IsLoadOf};
 ghost use Rattle.ivshm_cli.specs.declared.refusals.Fault.{Fault};
+ghost use Rattle.ivshm_cli.specs.declared.replies.NoReply.TheVariants.{NoMemory as OutOfMemory};
 
 use crate::configuration::configuration;
 use crate::exit::Status;
@@ -25,7 +26,8 @@ use record_text::{RecordFault, Trace, parse as parse_record, print};
 use scenario_text::{Scenario, ScenarioFault, load, parse};
 use section_dump::{DumpFault, dump};
 use sim_world::simulate;
-use std::alloc::Global;
+use std::alloc::{AllocError, Global};
+use thiserror::Error;
 use trace_replay::{Verdict, replay};
 
 /// A status and the text that is due with it.
@@ -35,11 +37,31 @@ pub(crate) struct Reply {
     pub(crate) text: Vec<u8>,
 }
 
-/// Why a form has no answer of its own.
-#[derive(Clone, Copy, Debug, PartialEq, Eq)]
-pub(crate) enum Failure {
+/// Why a form has no reply of its own.
+#[derive(Clone, Copy, Debug, PartialEq, Eq, Error)]
+pub(crate) enum NoReply {
+    /// What was read is refused.
+    #[error("{0}")]
     Refused(Fault),
+    /// There was no memory left.
+    #[error("out of memory")]
     NoMemory,
+}
+
+impl From<NoMemory> for NoReply {
+    ghost from_gives = { λ _ e. e ≡ OutOfMemory };
+
+    fn from(_e: NoMemory) -> NoReply {
+        NoReply::NoMemory
+    }
+}
+
+impl From<AllocError> for NoReply {
+    ghost from_gives = { λ _ e. e ≡ OutOfMemory };
+
+    fn from(_e: AllocError) -> NoReply {
+        NoReply::NoMemory
+    }
 }
 
 /// What a form reads, to its end.
@@ -54,6 +76,9 @@ pub(crate) fn read_for<S: Source>(
     ensures too_long { IsErrOf result ReadEnd.TooLong → ((bytes : List ℕ)
         × HasRead (limit_of form) (S.input source.old) (S.input source.new) bytes × (passes (limit_of form) bytes ≡ true)) }
     ensures fault { IsErrOf result ReadEnd.ReadFault → IsSome (limit_of form) × SourceFailed (S.input source.old) (S.input source.new) }
+    ensures last { IsErrOf result ReadEnd.ReadFault → LastReadFailed (S.input source.old) (S.input source.new) }
+    ensures sound { IsTrue (S.input source.old).never_fails → result ≢ Err ReadEnd.ReadFault }
+    ensures quiet { result ≢ Err ReadEnd.ReadFault → (S.input source.new).faults ≡ (S.input source.old).faults }
     ensures nothing { limit_of form ≡ None → source.new ≡ source.old }
     ensures later { (S.input source.old).faults ≤ (S.input source.new).faults }
 {
@@ -64,46 +89,40 @@ pub(crate) fn read_for<S: Source>(
 }
 
 /// The scenario that the bytes spell.
-fn scenario_in(alloc: Global, bytes: &[u8]) -> Result<Scenario, Failure>
+fn scenario_in(alloc: Global, bytes: &[u8]) -> Result<Scenario, NoReply>
     ensures spelled { IfOk result (λ scenario. IsSpelling (world_of scenario) bytes.now) }
     ensures read { IfOk result (λ scenario. judged bytes.now ≡ Ok (world_of scenario)) }
-    ensures refused { (fault : Fault) → IsErrOf result (Failure.Refused fault)
+    ensures refused { (fault : Fault) → IsErrOf result (NoReply.Refused fault)
         → (fault_in : World → Option Fault) → scenario_fault fault_in (judged bytes.now) ≡ Some fault }
 {
     match parse(alloc, bytes) {
         Ok(scenario) => Ok(scenario),
-        Err(ScenarioFault::NoMemory) => Err(Failure::NoMemory),
-        Err(fault) => Err(Failure::Refused(Fault::Text(fault))),
+        Err(ScenarioFault::NoMemory) => Err(NoReply::NoMemory),
+        Err(fault) => Err(NoReply::Refused(Fault::Text(fault))),
     }
 }
 
 /// The record of the scenario that the bytes spell and of its lawful history.
-fn simulated(alloc: Global, bytes: &[u8]) -> Result<Vec<u8>, Failure>
+fn simulated(alloc: Global, bytes: &[u8]) -> Result<Vec<u8>, NoReply>
     ensures accepted { OnOk result (IsTextVerdict Form.Sim bytes.now None) }
     ensures record { IfOk result (λ text. IsRecordOf bytes.now text.items) }
-    ensures refused { (fault : Fault) → IsErrOf result (Failure.Refused fault) → IsTextVerdict Form.Sim bytes.now (Some fault) }
+    ensures refused { (fault : Fault) → IsErrOf result (NoReply.Refused fault) → IsTextVerdict Form.Sim bytes.now (Some fault) }
 {
     let scenario = scenario_in(alloc, bytes)?;
-    let trace = match simulate(alloc, scenario) {
-        Ok(trace) => trace,
-        Err(_) => return Err(Failure::NoMemory),
-    };
-    match print(alloc, &trace) {
-        Ok(text) => Ok(text),
-        Err(_) => Err(Failure::NoMemory),
-    }
+    let trace = simulate(alloc, scenario)?;
+    Ok(print(alloc, &trace)?)
 }
 
 /// The record that the bytes spell.
-fn record_in(alloc: Global, bytes: &[u8]) -> Result<Trace, Failure>
+fn record_in(alloc: Global, bytes: &[u8]) -> Result<Trace, NoReply>
     ensures accepted { OnOk result (IsTextVerdict Form.Replay bytes.now None) }
     ensures spelled { IfOk result (λ trace. Spells bytes.now (world_of trace.scenario) trace.lines) }
-    ensures refused { (fault : Fault) → IsErrOf result (Failure.Refused fault) → IsTextVerdict Form.Replay bytes.now (Some fault) }
+    ensures refused { (fault : Fault) → IsErrOf result (NoReply.Refused fault) → IsTextVerdict Form.Replay bytes.now (Some fault) }
 {
     match parse_record(alloc, bytes) {
         Ok(trace) => Ok(trace),
-        Err(RecordFault::NoMemory) => Err(Failure::NoMemory),
-        Err(fault) => Err(Failure::Refused(Fault::Trace(fault))),
+        Err(RecordFault::NoMemory) => Err(NoReply::NoMemory),
+        Err(fault) => Err(NoReply::Refused(Fault::Trace(fault))),
     }
 }
 
@@ -118,51 +137,44 @@ fn verdict_status(verdict: Verdict) -> Status
 }
 
 /// Whether the history of the record that the bytes spell is the lawful one, or where it differs.
-fn replayed(alloc: Global, bytes: &[u8]) -> Result<Reply, Failure>
+fn replayed(alloc: Global, bytes: &[u8]) -> Result<Reply, NoReply>
     ensures accepted { OnOk result (IsTextVerdict Form.Replay bytes.now None) }
-    ensures verdict { IfOk result (λ r. Answers Form.Replay bytes.now r.status r.text.items) }
-    ensures refused { (fault : Fault) → IsErrOf result (Failure.Refused fault) → IsTextVerdict Form.Replay bytes.now (Some fault) }
+    ensures verdict { IfOk result (λ r. Replies Form.Replay bytes.now r.status r.text.items) }
+    ensures refused { (fault : Fault) → IsErrOf result (NoReply.Refused fault) → IsTextVerdict Form.Replay bytes.now (Some fault) }
 {
     let trace = record_in(alloc, bytes)?;
-    let Ok(verdict) = replay(alloc, &trace) else {
-        return Err(Failure::NoMemory);
-    };
-    match verdict_text(alloc, verdict) {
-        Ok(text) => Ok(Reply {
-            status: verdict_status(verdict),
-            text,
-        }),
-        Err(_) => Err(Failure::NoMemory),
-    }
+    let verdict = replay(alloc, &trace)?;
+    let text = verdict_text(alloc, verdict)?;
+    Ok(Reply {
+        status: verdict_status(verdict),
+        text,
+    })
 }
 
 /// The listing of the image that the bytes are.
-fn listed(alloc: Global, bytes: &[u8]) -> Result<Vec<u8>, Failure>
+fn listed(alloc: Global, bytes: &[u8]) -> Result<Vec<u8>, NoReply>
     ensures accepted { OnOk result (IsTextVerdict Form.Dump bytes.now None) }
     ensures listing { IfOk result (λ text. IsListing bytes.now text.items) }
-    ensures refused { (fault : Fault) → IsErrOf result (Failure.Refused fault) → IsTextVerdict Form.Dump bytes.now (Some fault) }
+    ensures refused { (fault : Fault) → IsErrOf result (NoReply.Refused fault) → IsTextVerdict Form.Dump bytes.now (Some fault) }
 {
     match dump(alloc, bytes) {
         Ok(text) => Ok(text),
-        Err(DumpFault::NoMemory) => Err(Failure::NoMemory),
-        Err(fault) => Err(Failure::Refused(Fault::Image(fault))),
+        Err(DumpFault::NoMemory) => Err(NoReply::NoMemory),
+        Err(fault) => Err(NoReply::Refused(Fault::Image(fault))),
     }
 }
 
 /// The configuration space of this peer's device, in the world that the bytes spell.
-fn configured(alloc: Global, peer: u32, bytes: &[u8]) -> Result<Vec<u8>, Failure>
+fn configured(alloc: Global, peer: u32, bytes: &[u8]) -> Result<Vec<u8>, NoReply>
     ensures accepted { OnOk result (IsTextVerdict (Form.Config peer) bytes.now None) }
     ensures configuration { IfOk result (λ text. IsConfigurationOf bytes.now text.items) }
-    ensures refused { (fault : Fault) → IsErrOf result (Failure.Refused fault) → IsTextVerdict (Form.Config peer) bytes.now (Some fault) }
+    ensures refused { (fault : Fault) → IsErrOf result (NoReply.Refused fault) → IsTextVerdict (Form.Config peer) bytes.now (Some fault) }
 {
     let scenario = scenario_in(alloc, bytes)?;
     if peer >= scenario.geometry.peers() {
-        return Err(Failure::Refused(Fault::BadPeer));
+        return Err(NoReply::Refused(Fault::BadPeer));
     }
-    match configuration(alloc, &scenario.geometry, scenario.wiring) {
-        Ok(text) => Ok(text),
-        Err(_) => Err(Failure::NoMemory),
-    }
+    Ok(configuration(alloc, &scenario.geometry, scenario.wiring)?)
 }
 
 /// What the lawful history of a load of so many frames counts.
@@ -173,13 +185,10 @@ fn loaded(alloc: Global, count: u32) -> Result<Vec<u8>, NoMemory>
 {
     let scenario = load(alloc, count)?;
     let trace = simulate(alloc, scenario)?;
-    match summary(alloc, count, &trace) {
-        Ok(text) => Ok(text),
-        Err(_) => Err(NoMemory),
-    }
+    Ok(summary(alloc, count, &trace)?)
 }
 
-/// The answer Done with this text.
+/// The reply Done with this text.
 fn done(text: Vec<u8>) -> Reply
     ensures { result ≡ record { status = Status.Done; text = text } }
 {
@@ -189,22 +198,19 @@ fn done(text: Vec<u8>) -> Reply
     }
 }
 
-/// What a form answers to the bytes that it read.
-fn answer_for(alloc: Global, form: Form, bytes: &[u8]) -> Result<Reply, Failure>
+/// The reply of a form to the bytes that it read.
+fn reply_for(alloc: Global, form: Form, bytes: &[u8]) -> Result<Reply, NoReply>
     requires { IsInRange form }
     ensures accepted { OnOk result (IsTextVerdict form bytes.now None) }
-    ensures answers { IfOk result (λ r. Answers form bytes.now r.status r.text.items) }
-    ensures refused { (fault : Fault) → IsErrOf result (Failure.Refused fault) → IsTextVerdict form bytes.now (Some fault) }
+    ensures replies { IfOk result (λ r. Replies form bytes.now r.status r.text.items) }
+    ensures refused { (fault : Fault) → IsErrOf result (NoReply.Refused fault) → IsTextVerdict form bytes.now (Some fault) }
 {
     match form {
         Form::Sim => Ok(done(simulated(alloc, bytes)?)),
         Form::Replay => replayed(alloc, bytes),
         Form::Dump => Ok(done(listed(alloc, bytes)?)),
         Form::Config(peer) => Ok(done(configured(alloc, peer, bytes)?)),
-        Form::Load(count) => match loaded(alloc, count) {
-            Ok(text) => Ok(done(text)),
-            Err(_) => Err(Failure::NoMemory),
-        },
+        Form::Load(count) => Ok(done(loaded(alloc, count)?)),
     }
 }
 
@@ -213,17 +219,14 @@ pub(crate) fn reply_to(alloc: Global, form: Form, bytes: &[u8]) -> Result<Reply,
     requires short { passes (limit_of form) bytes.now ≡ false }
     requires range { IsInRange form }
     ensures due { IfOk result (λ r. IsDue (Some form) bytes.now r.status r.text.items) }
-    ensures answer { IfOk result (λ r. IsTrue (is_answer r.status)) }
+    ensures reply { IfOk result (λ r. IsTrue (has_reply r.status)) }
 {
-    match answer_for(alloc, form, bytes) {
+    match reply_for(alloc, form, bytes) {
         Ok(reply) => Ok(reply),
-        Err(Failure::Refused(fault)) => match refusal_line(alloc, fault) {
-            Ok(text) => Ok(Reply {
-                status: Status::Refused,
-                text,
-            }),
-            Err(_) => Err(NoMemory),
-        },
-        Err(Failure::NoMemory) => Err(NoMemory),
+        Err(NoReply::Refused(fault)) => Ok(Reply {
+            status: Status::Refused,
+            text: refusal_line(alloc, fault)?,
+        }),
+        Err(NoReply::NoMemory) => Err(NoMemory),
     }
 }

@@ -17,7 +17,7 @@ use Rattle.call_grammar.specs.Offers.{Job, refusal, refused_steps, id_step, id_s
 use Rattle.call_grammar.specs.Polls.{Item, item_entry, item_address, word_steps, return_steps, IsGood, item_steps, AreGood, items_steps, IsRefusedItem, IsPoll}
 use Rattle.call_grammar.specs.Calls.{Tick, Stop, Offer, Poll, RunsOrIsDown, job_of}
 use Rattle.call_grammar.proofs.OfferLists.{no}
-use Rattle.call_grammar.specs.StepBounds.{marks_bound, items_bound, CallsMeetBounds}
+use Rattle.call_grammar.specs.StepBounds.{marks_bound, items_bound, CallsMeetBounds, OtherCallsMeetBounds}
 
 clear_length : (at count : ℕ) → length (clear_steps at count) ≡ count
 clear_length at zero = refl
@@ -105,8 +105,15 @@ by_phase Init Runs steps bound one runs is = let n = ap length is in omega arith
 by_phase Ready Runs steps bound one runs is = let n = ap length is in omega arith
 by_phase Run Runs steps bound one runs is = runs is
 
+-- a call that is no offer
+pub others_bounding : OtherCallsMeetBounds
+others_bounding who end Tick steps no_offer is = let n = ap length is.1 in omega (arith, tick_length who is.0 (move_of end.handshake is.0))
+others_bounding who end Stop steps no_offer is = let n = ap length is in omega arith
+others_bounding who end (Offer frame) steps no_offer is = absurd (cc)
+others_bounding who end Poll steps no_offer is = by_phase end.handshake.phase (IsPoll who (length end.delivered) steps) steps (2 + items_bound steps) (omega arith) (poll_length who (length end.delivered) steps) is
+
 pub bounding : CallsMeetBounds
-bounding who end Tick steps room is = let n = ap length is.1 in omega (arith, tick_length who is.0 (move_of end.handshake is.0))
-bounding who end Stop steps room is = let n = ap length is in omega arith
 bounding who end (Offer frame) steps room is = by_phase end.handshake.phase (IsOffer who (job_of who end frame) end.freed steps) steps (limit_of who.sizes + words_for (length frame) + 8) (omega arith) (offer_length who (job_of who end frame) end.freed steps room) is
-bounding who end Poll steps room is = by_phase end.handshake.phase (IsPoll who (length end.delivered) steps) steps (2 + items_bound steps) (omega arith) (poll_length who (length end.delivered) steps) is
+bounding who end Tick steps room is = others_bounding who end Tick steps refl is
+bounding who end Stop steps room is = others_bounding who end Stop steps refl is
+bounding who end Poll steps room is = others_bounding who end Poll steps refl is

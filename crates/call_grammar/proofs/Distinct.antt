@@ -15,6 +15,7 @@ use Rattle.call_grammar.specs.Polls.{Item, item_entry, item_address, word_steps,
 use Rattle.call_grammar.proofs.OfferLists.{append_nil}
 use Rattle.call_grammar.specs.Reach.{HasSections}
 use Rattle.call_grammar.specs.ReadsOnce.{reads_of, IsNone, AreDistinct, FieldsAreReadOnce}
+use Rattle.call_grammar.proofs.Using.{indexes_lem}
 
 -- The words of an item
 
@@ -120,4 +121,4 @@ offered_lem who job freed steps has room (inr (inr (inr r))) = let within = r.wi
     (reads_distinct who has job freed r.value (returned_by freed r.value) (reclaim_marks who job freed (returned_by freed r.value)) (full_marks who job (freed + returned_by freed r.value)) (fill_steps who job 0 (words_for (length job.frame)) ++ publish_steps who job) (omega arith) (fill_reads who job 0 (words_for (length job.frame))))
 
 pub distinct : FieldsAreReadOnce
-distinct = record { taken = taken_lem; refused = refused_lem; offered = offered_lem }
+distinct = record { taken = taken_lem; refused = refused_lem; offered = offered_lem; indexes = indexes_lem }

@@ -8,5 +8,7 @@ pub mod Reaching
 pub mod Rowing
 pub mod Following
 pub mod Bounding
+pub mod Using
 pub mod Distinct
+pub mod ItemWords
 pub mod Playing

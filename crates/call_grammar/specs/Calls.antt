@@ -1,7 +1,7 @@
 -- The call grammar: which steps a call of a link peer takes (profile), as a tree and as a table of lists.
 use Rattle.std.specs.Prelude.{ℕ, ◌≡◌, ◌≢◌, ◌+◌, Bool, true, false, if◌then◌else◌, List, [], ◌∷◌, length}
 use Rattle.link_handshake.specs.declared.Phase.{Phase}
-use Rattle.link_handshake.specs.declared.Phase.TheVariants.{Reset, Init, Ready, Run}
+use Rattle.link_handshake.specs.declared.Phase.TheVariants.{Run}
 use Rattle.split_ring.specs.declared.steps.Access.TheVariants.{Nothing}
 use Rattle.split_ring.specs.Layout.{word_place, Entry}
 use Rattle.call_grammar.specs.Steps.{Down, Step, step_of}
@@ -22,10 +22,8 @@ pub data Call : Type 0 where
 
 -- the phase in which offers and polls work
 abbrev pub in_run : Phase → Bool
-in_run Reset = false
-in_run Init = false
-in_run Ready = false
 in_run Run = true
+in_run _ = false
 
 -- the job of an offer that this end begins: the frame is the next one of the session
 abbrev pub job_of : Who → End → List ℕ → Job
@@ -51,10 +49,8 @@ down_step = step_of Nothing 0 (Down ∷ [])
 
 -- an Offer or a Poll that begins in this phase: its steps in RUN, else the one step of a call that is down
 abbrev pub RunsOrIsDown : Phase → Type 0 → List Step → Type 0
-RunsOrIsDown Reset in_run steps = steps ≡ down_step ∷ []
-RunsOrIsDown Init in_run steps = steps ≡ down_step ∷ []
-RunsOrIsDown Ready in_run steps = steps ≡ down_step ∷ []
 RunsOrIsDown Run in_run steps = in_run
+RunsOrIsDown _ in_run steps = steps ≡ down_step ∷ []
 
 -- a finished call, that this end began, is one of these lists of steps
 abbrev pub IsCall : Who → End → Call → List Step → Type 0

@@ -1,11 +1,12 @@
--- An end of the link between two steps, and what a step changes in it. An end is changed by `record end { .. }` alone, and `fresh` is the only literal.
+-- An end of the link between two steps, and what a step changes in it. An end is changed by `record end { .. }` alone, and `fresh` is
+-- the only literal.
 use Rattle.std.specs.Prelude.{ℕ, ◌≡◌, ◌≢◌, ◌+◌, ◌==◌, true, false, if◌then◌else◌, List, [], ◌∷◌, ◌++◌}
 use Rattle.link_handshake.specs.declared.Phase.TheVariants.{Reset}
 use Rattle.link_handshake.specs.PhaseTable.{phase_at}
 use Rattle.link_handshake.specs.Standing.{Standing}
 use Rattle.split_ring.specs.declared.steps.Access.{Access}
 use Rattle.split_ring.specs.declared.steps.Access.TheVariants as access
-use Rattle.call_grammar.specs.Steps.{Mark, Saw, Reclaim, Full, Accept, Look, Deliver, Return, Done, Down, Refuse, Over, Step}
+use Rattle.call_grammar.specs.Steps.{Mark, Reclaim, Accept, Deliver, Return, Refuse, Step}
 
 -- where its handshake stands: the phase, and the mark of an end that refused the link; of its session the frames accepted and
 -- delivered, by their bytes, and how many were freed and returned; and what the end wrote last to each word of the region, or 0
@@ -38,26 +39,19 @@ with_state end state = record {
 
 -- what an access changes: a write of a word and a write of State
 abbrev pub stated : End → Access → End
-stated end (access.Read word) = end
 stated end (access.Write word value) = record end { written = λ w. if w == word then value else end.written w }
 stated end (access.State state) = with_state end state
-stated end (access.Ring target vector) = end
-stated end access.Nothing = end
+stated end _ = end
 
 -- what a mark counts: frames freed, accepted, delivered and returned. A refusal marks the end; its phase is set at the State step
 -- after it (profile)
 abbrev pub noted : End → Mark → End
-noted end (Saw value) = end
 noted end (Reclaim count) = record end { freed = end.freed + count }
-noted end Full = end
 noted end (Accept frame) = record end { accepted = end.accepted ++ frame ∷ [] }
-noted end (Look count) = end
 noted end (Deliver frame) = record end { delivered = end.delivered ++ frame ∷ [] }
 noted end Return = record end { returned = end.returned + 1 }
-noted end Done = end
-noted end Down = end
 noted end (Refuse refused) = record end { handshake = record (end.handshake) { mark = true } }
-noted end Over = end
+noted end _ = end
 
 abbrev pub noted_all : End → List Mark → End
 noted_all end [] = end
@@ -69,5 +63,7 @@ end_after end step = noted_all (stated end step.access) step.marks
 
 -- the phase changes at a State step alone, and it is then the one that was written
 pub record PhaseFollowsState : Type 0 where
-  pub kept : (end : End) (step : Step) → ((state : ℕ) → step.access ≢ access.State state) → (end_after end step).handshake.phase ≡ end.handshake.phase
-  pub written : (end : End) (step : Step) (state : ℕ) → step.access ≡ access.State state → (end_after end step).handshake.phase ≡ phase_at state
+  pub kept : (end : End) (step : Step) → ((state : ℕ) → step.access ≢ access.State state) →
+      (end_after end step).handshake.phase ≡ end.handshake.phase
+  pub written : (end : End) (step : Step) (state : ℕ) → step.access ≡ access.State state →
+      (end_after end step).handshake.phase ≡ phase_at state

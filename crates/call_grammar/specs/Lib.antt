@@ -12,4 +12,5 @@ pub mod Places
 pub mod Plays
 pub mod StepBounds
 pub mod ReadsOnce
+pub mod ItemSpelling
 pub mod Automatic

@@ -42,40 +42,58 @@ ring who = Does (Ring who.other who.vector) (Over ∷ []) Ended
 
 -- the index word, with which the frame is accepted
 abbrev pub publish : Who → Job → CallTree
-publish who job = Does (Write (who.own + word_place who.sizes AvailableIndex) (index_word (job.number + 1))) (Accept job.frame ∷ []) (ring who)
+publish who job =
+    Does (Write (who.own + word_place who.sizes AvailableIndex) (index_word (job.number + 1))) (Accept job.frame ∷ []) (ring who)
 
--- the entry, which names the descriptor
+-- the word with the entry, which names the descriptor, and what stands beside it
+abbrev pub entry_written : Who → Job → ℕ
+entry_written who job = with_entry (entry_of who job.number) job.beside (descriptor_of who job.number)
+
+-- the entry
 abbrev pub enter : Who → Job → CallTree
-enter who job = Does (Write (who.own + word_place who.sizes (Entry (entry_of who job.number))) (with_entry (entry_of who job.number) job.beside (descriptor_of who job.number))) [] (publish who job)
+enter who job = Does (Write (who.own + word_place who.sizes (Entry (entry_of who job.number))) (entry_written who job)) [] (publish who job)
 
 -- the descriptor's four words: the address, low and high, the length, and no flags
 abbrev pub describe_flags : Who → Job → CallTree
 describe_flags who job = Does (Write (who.own + word_place who.sizes (Flags (descriptor_of who job.number))) 0) [] (enter who job)
 
 abbrev pub describe_length : Who → Job → CallTree
-describe_length who job = Does (Write (who.own + word_place who.sizes (Length (descriptor_of who job.number))) (length job.frame)) [] (describe_flags who job)
+describe_length who job =
+    Does (Write (who.own + word_place who.sizes (Length (descriptor_of who job.number))) (length job.frame)) [] (describe_flags who job)
 
 abbrev pub describe_high : Who → Job → CallTree
-describe_high who job = Does (Write (who.own + word_place who.sizes (Address (descriptor_of who job.number)) + 1) 0) [] (describe_length who job)
+describe_high who job =
+    Does (Write (who.own + word_place who.sizes (Address (descriptor_of who job.number)) + 1) 0) [] (describe_length who job)
 
 abbrev pub describe : Who → Job → CallTree
-describe who job = Does (Write (who.own + word_place who.sizes (Address (descriptor_of who job.number))) (place_of who.sizes (Slot (descriptor_of who job.number)))) [] (describe_high who job)
+describe who job =
+    Does (Write (who.own + word_place who.sizes (Address (descriptor_of who job.number))) (place_of who.sizes (Slot (descriptor_of who job.number))))
+    [] (describe_high who job)
 
 -- so many words of the frame from this one on, each to its place in the slot
 abbrev pub fill : Who → Job → ℕ → ℕ → CallTree
 fill who job at zero = describe who job
-fill who job at (suc more) = Does (Write (who.own + word_place who.sizes (Slot (descriptor_of who job.number)) + at) (frame_word job.frame at)) [] (fill who job (at + 1) more)
+fill who job at (suc more) =
+    Does (Write (who.own + word_place who.sizes (Slot (descriptor_of who job.number)) + at) (frame_word job.frame at))
+    [] (fill who job (at + 1) more)
 
 -- the end of the reads: the offer is over where as many frames as may be are in flight
 abbrev pub after_ids : Who → Job → ℕ → CallTree
 after_ids who job freed = if job.number == freed + limit_of who.sizes then Ended else fill who job 0 (words_for (length job.frame))
+
+-- the marks of the read of an id, with so many more to come
+abbrev pub id_marks : Who → Job → (freed more : ℕ) → ℕ → List Mark
+id_marks who job freed more value =
+    if value == descriptor_of who freed
+    then (if more == 0 then full_marks who job (freed + 1) else [])
+    else refusal field_name.UsedId value
 
 -- so many ids of used elements, where so many frames were freed: each is the descriptor of the oldest frame in flight, which is freed then
 abbrev pub read_ids : Who → Job → ℕ → ℕ → CallTree
 read_ids who job freed zero = after_ids who job freed
 read_ids who job freed (suc more) =
     Reads (who.theirs + word_place who.sizes (Id (entry_of who freed)))
-    (λ value. if value == descriptor_of who freed then (if more == 0 then full_marks who job (freed + 1) else []) else refusal field_name.UsedId value)
+    (λ value. id_marks who job freed more value)
     (λ value. if value == descriptor_of who freed then read_ids who job (freed + 1) more else set_state 0)
 
 -- how many frames a used index returns
@@ -86,11 +104,18 @@ returned_by freed value = distance (freed % 65536) (high_half value)
 abbrev pub reclaim_marks : Who → Job → ℕ → ℕ → List Mark
 reclaim_marks who job freed count = if count == 0 then Reclaim 0 ∷ full_marks who job freed else Reclaim count ∷ []
 
+-- the marks of the read of the used index
+abbrev pub used_marks : Who → Job → ℕ → ℕ → List Mark
+used_marks who job freed value =
+    if nat_le (returned_by freed value) (job.number - freed)
+    then reclaim_marks who job freed (returned_by freed value)
+    else refusal field_name.UsedIndex (high_half value)
+
 -- an offer of this job, where so many frames were freed
 abbrev pub offer : Who → Job → ℕ → CallTree
 offer who job freed =
     Reads (who.theirs + word_place who.sizes UsedIndex)
-    (λ value. if nat_le (returned_by freed value) (job.number - freed) then reclaim_marks who job freed (returned_by freed value) else refusal field_name.UsedIndex (high_half value))
+    (λ value. used_marks who job freed value)
     (λ value. if nat_le (returned_by freed value) (job.number - freed) then read_ids who job freed (returned_by freed value) else set_state 0)
 
 -- The table of finished offers
@@ -118,7 +143,9 @@ write_step word written marks = step_of (Write word written) 0 marks
 -- the words of the frame
 abbrev pub fill_steps : Who → Job → ℕ → ℕ → List Step
 fill_steps who job at zero = []
-fill_steps who job at (suc more) = write_step (who.own + word_place who.sizes (Slot (descriptor_of who job.number)) + at) (frame_word job.frame at) [] ∷ fill_steps who job (at + 1) more
+fill_steps who job at (suc more) =
+    write_step (who.own + word_place who.sizes (Slot (descriptor_of who job.number)) + at) (frame_word job.frame at) [] ∷
+    fill_steps who job (at + 1) more
 
 -- the descriptor, the entry, the index and the doorbell
 abbrev pub publish_steps : Who → Job → List Step
@@ -127,11 +154,12 @@ publish_steps who job =
     write_step (who.own + word_place who.sizes (Address (descriptor_of who job.number)) + 1) 0 [] ∷
     write_step (who.own + word_place who.sizes (Length (descriptor_of who job.number))) (length job.frame) [] ∷
     write_step (who.own + word_place who.sizes (Flags (descriptor_of who job.number))) 0 [] ∷
-    write_step (who.own + word_place who.sizes (Entry (entry_of who job.number))) (with_entry (entry_of who job.number) job.beside (descriptor_of who job.number)) [] ∷
+    write_step (who.own + word_place who.sizes (Entry (entry_of who job.number))) (entry_written who job) [] ∷
     write_step (who.own + word_place who.sizes AvailableIndex) (index_word (job.number + 1)) (Accept job.frame ∷ []) ∷
     step_of (Ring who.other who.vector) 0 (Over ∷ []) ∷ []
 
--- the reads of an offer that finds so many returned frames: the used index, then their ids in order, with `full` on the last where so many are in flight still
+-- the reads of an offer that finds so many returned frames: the used index, then their ids in order, with `full` on the last where so
+-- many are in flight still
 abbrev pub reclaim_steps : Who → Job → ℕ → ℕ → List Step
 reclaim_steps who job freed value =
     used_step who value (reclaim_marks who job freed (returned_by freed value)) ∷
@@ -151,7 +179,8 @@ pub record RefusesUsedId (who : Who) (job : Job) (freed : ℕ) (steps : List Ste
   pub before : passed < returned_by freed value
   pub id : ℕ
   pub wrong : ¬ IsUsedId (descriptor_of who (freed + passed)) id
-  pub steps_are : steps ≡ used_step who value (reclaim_marks who job freed (returned_by freed value)) ∷ (id_steps who freed passed [] ++ refused_steps (id_step who (freed + passed) id (refusal field_name.UsedId id)))
+  pub steps_are : steps ≡ used_step who value (reclaim_marks who job freed (returned_by freed value)) ∷
+      (id_steps who freed passed [] ++ refused_steps (id_step who (freed + passed) id (refusal field_name.UsedId id)))
 
 -- as many as may be are in flight still
 pub record MeetsFull (who : Who) (job : Job) (freed : ℕ) (steps : List Step) : Type 0 where
@@ -169,4 +198,5 @@ pub record IsAccepted (who : Who) (job : Job) (freed : ℕ) (steps : List Step) 
 
 -- a finished offer is one of these four lists
 abbrev pub IsOffer : Who → Job → ℕ → List Step → Type 0
-IsOffer who job freed steps = RefusesUsedIndex who job freed steps ⊎ (RefusesUsedId who job freed steps ⊎ (MeetsFull who job freed steps ⊎ IsAccepted who job freed steps))
+IsOffer who job freed steps =
+    RefusesUsedIndex who job freed steps ⊎ (RefusesUsedId who job freed steps ⊎ (MeetsFull who job freed steps ⊎ IsAccepted who job freed steps))

@@ -3,24 +3,24 @@ use Rattle.std.specs.Prelude.{ℕ, zero, suc, ◌≡◌, ◌+◌, ◌-◌, ◌/�
 use Rattle.link_handshake.specs.declared.Move.{Move}
 use Rattle.link_handshake.specs.declared.Move.TheVariants.{Stay, Set, ClearThenSet}
 use Rattle.link_handshake.specs.Standing.{Standing, move_of}
-use Rattle.split_ring.specs.declared.ranges.FieldName.TheVariants as field_name
 use Rattle.split_ring.specs.declared.steps.Access.{Access}
 use Rattle.split_ring.specs.declared.steps.Access.TheVariants as access
 use Rattle.split_ring.specs.Layout.{size_of, limit_of, place_of, word_place, Address, Length, Flags, AvailableIndex, Entry, UsedIndex, Id, Amount, Slot}
-use Rattle.split_ring.specs.Spelling.{low_half, high_half, entry_half}
+use Rattle.split_ring.specs.Spelling.{low_half}
 use Rattle.call_grammar.specs.Steps.{Mark, Over, Accept, Deliver, Return, Done, Down, Step, step_of}
 use Rattle.call_grammar.specs.Trees.{CallTree, Ended, Reads, Goes}
 use Rattle.call_grammar.specs.Ends.{End}
-use Rattle.call_grammar.specs.Words.{index_word, with_entry, address_of, words_for, frame_word, frame_in}
-use Rattle.call_grammar.specs.Ticks.{Who, clear, set_state, tick_marks, after_tick}
-use Rattle.call_grammar.specs.Offers.{Job, descriptor_of, entry_of, refusal, full_marks, ring, publish, enter, describe_flags, describe_length, describe_high, describe, fill, read_ids, returned_by, reclaim_marks, offer}
-use Rattle.call_grammar.specs.Polls.{is_entry, is_address, is_length, return_index, return_length, give_back, read_words, read_flags, read_length, read_high, read_low, item, ring_back, items, published_by, look_marks, poll}
+use Rattle.call_grammar.specs.Words.{index_word, address_of, words_for, frame_word, frame_in}
+use Rattle.call_grammar.specs.Ticks.{Who, clear, set_state, other_state, tick_marks, after_tick}
+use Rattle.call_grammar.specs.Offers.{Job, descriptor_of, entry_of, entry_written, ring, publish, enter, describe_flags, describe_length, describe_high, describe, fill, id_marks, read_ids, returned_by, used_marks, offer}
+use Rattle.call_grammar.specs.Polls.{is_entry, is_address, is_length, entry_in, entry_marks, address_marks, length_marks, flags_marks, return_index, return_length, give_back, read_words, read_flags, read_length, read_high, read_low, item, ring_back, items, published_by, available_marks, poll}
 use Rattle.call_grammar.specs.Calls.{Call, Tick, Stop, Offer, Poll, in_run, job_of, down, tree_of}
 
--- Where a call is: none is open; before the read of a tick, a write of 0 with so many more to come, a State step, the State step of a refusal, or the step of a call that is
--- down; before an offer's read of the used index or of an id with so many more to come, its write of a frame's word with so many more to come, of each word of the descriptor,
--- of the entry, of the index, or its doorbell; before a poll's read of the available index, of an item's entry, address, length, flags or word, each with so many more items to
--- come, or its write of the used element or the used index, or its doorbell
+-- Where a call is: none is open; before the read of a tick, a write of 0 with so many more to come, a State step, the State step of a
+-- refusal, or the step of a call that is down; before an offer's read of the used index or of an id with so many more to come, its write
+-- of a frame's word with so many more to come, of each word of the descriptor, of the entry, of the index, or its doorbell; before a
+-- poll's read of the available index, of an item's entry, address, length, flags or word, each with so many more items to come, or its
+-- write of the used element or the used index, or its doorbell
 pub data Place : Type 0 where
   Closed : Place
   AtState : (handshake : Standing) → Place
@@ -53,7 +53,8 @@ pub data Place : Type 0 where
 -- what is left of a call at its place
 abbrev pub remaining : Who → Place → CallTree
 remaining who Closed = Ended
-remaining who (AtState handshake) = Reads who.other (λ value. tick_marks value (move_of handshake value)) (λ value. after_tick who (move_of handshake value))
+remaining who (AtState handshake) =
+    Reads (other_state who) (λ value. tick_marks value (move_of handshake value)) (λ value. after_tick who (move_of handshake value))
 remaining who (Clearing at more state) = clear at (suc more) (set_state state)
 remaining who (Setting state) = set_state state
 remaining who Refusing = set_state 0
@@ -117,19 +118,21 @@ first_place who end Poll = if in_run end.handshake.phase then AtAvailIndex (leng
 -- the access of the step at a place
 abbrev pub access_at : Who → Place → Access
 access_at who Closed = access.Nothing
-access_at who (AtState handshake) = access.Read who.other
+access_at who (AtState handshake) = access.Read (other_state who)
 access_at who (Clearing at more state) = access.Write at 0
 access_at who (Setting state) = access.State state
 access_at who Refusing = access.State 0
 access_at who Downed = access.Nothing
 access_at who (AtUsedIndex job freed) = access.Read (who.theirs + word_place who.sizes UsedIndex)
 access_at who (AtUsedId job freed more) = access.Read (who.theirs + word_place who.sizes (Id (entry_of who freed)))
-access_at who (Filling job at more) = access.Write (who.own + word_place who.sizes (Slot (descriptor_of who job.number)) + at) (frame_word job.frame at)
-access_at who (WritingLow job) = access.Write (who.own + word_place who.sizes (Address (descriptor_of who job.number))) (place_of who.sizes (Slot (descriptor_of who job.number)))
+access_at who (Filling job at more) =
+    access.Write (who.own + word_place who.sizes (Slot (descriptor_of who job.number)) + at) (frame_word job.frame at)
+access_at who (WritingLow job) =
+    access.Write (who.own + word_place who.sizes (Address (descriptor_of who job.number))) (place_of who.sizes (Slot (descriptor_of who job.number)))
 access_at who (WritingHigh job) = access.Write (who.own + word_place who.sizes (Address (descriptor_of who job.number)) + 1) 0
 access_at who (WritingLength job) = access.Write (who.own + word_place who.sizes (Length (descriptor_of who job.number))) (length job.frame)
 access_at who (WritingFlags job) = access.Write (who.own + word_place who.sizes (Flags (descriptor_of who job.number))) 0
-access_at who (WritingEntry job) = access.Write (who.own + word_place who.sizes (Entry (entry_of who job.number))) (with_entry (entry_of who job.number) job.beside (descriptor_of who job.number))
+access_at who (WritingEntry job) = access.Write (who.own + word_place who.sizes (Entry (entry_of who job.number))) (entry_written who job)
 access_at who (WritingIndex job) = access.Write (who.own + word_place who.sizes AvailableIndex) (index_word (job.number + 1))
 access_at who RingingOffer = access.Ring who.other who.vector
 access_at who (AtAvailIndex taken) = access.Read (who.theirs + word_place who.sizes AvailableIndex)
@@ -150,15 +153,15 @@ marks_at who (AtState handshake) value = tick_marks value (move_of handshake val
 marks_at who (Setting state) value = Over ∷ []
 marks_at who Refusing value = Over ∷ []
 marks_at who Downed value = Down ∷ []
-marks_at who (AtUsedIndex job freed) value = if nat_le (returned_by freed value) (job.number - freed) then reclaim_marks who job freed (returned_by freed value) else refusal field_name.UsedIndex (high_half value)
-marks_at who (AtUsedId job freed more) value = if value == descriptor_of who freed then (if more == 0 then full_marks who job (freed + 1) else []) else refusal field_name.UsedId value
+marks_at who (AtUsedIndex job freed) value = used_marks who job freed value
+marks_at who (AtUsedId job freed more) value = id_marks who job freed more value
 marks_at who (WritingIndex job) value = Accept job.frame ∷ []
 marks_at who RingingOffer value = Over ∷ []
-marks_at who (AtAvailIndex taken) value = if nat_le (published_by taken value) (size_of who.sizes) then look_marks (published_by taken value) else refusal field_name.AvailIndex (high_half value)
-marks_at who (AtEntry number more) value = if is_entry who.sizes (entry_half (entry_of who number) value) then [] else refusal field_name.AvailEntry (entry_half (entry_of who number) value)
-marks_at who (AtHigh number more entry low) value = if is_address who.sizes (address_of low value) then [] else refusal field_name.DescAddress (address_of low value)
-marks_at who (AtLength number more entry address) value = if is_length who.sizes address value then [] else refusal field_name.DescLength value
-marks_at who (AtFlags number more entry address bytes) value = if low_half value == 0 then [] else refusal field_name.DescFlags (low_half value)
+marks_at who (AtAvailIndex taken) value = available_marks who taken value
+marks_at who (AtEntry number more) value = entry_marks who number value
+marks_at who (AtHigh number more entry low) value = address_marks who low value
+marks_at who (AtLength number more entry address) value = length_marks who address value
+marks_at who (AtFlags number more entry address bytes) value = flags_marks value
 marks_at who (AtWord number more entry address bytes read words) value = if words == 0 then Deliver (frame_in bytes (read ++ value ∷ [])) ∷ [] else []
 marks_at who (GivingIndex number more) value = Return ∷ []
 marks_at who RingingPoll value = Done ∷ []
@@ -172,7 +175,8 @@ next_place who (Clearing at more state) value = clear_place (at + 1) more state
 next_place who (Setting state) value = Closed
 next_place who Refusing value = Closed
 next_place who Downed value = Closed
-next_place who (AtUsedIndex job freed) value = if nat_le (returned_by freed value) (job.number - freed) then ids_place who job freed (returned_by freed value) else Refusing
+next_place who (AtUsedIndex job freed) value =
+    if nat_le (returned_by freed value) (job.number - freed) then ids_place who job freed (returned_by freed value) else Refusing
 next_place who (AtUsedId job freed more) value = if value == descriptor_of who freed then ids_place who job (freed + 1) more else Refusing
 next_place who (Filling job at more) value = fill_place job (at + 1) more
 next_place who (WritingLow job) value = WritingHigh job
@@ -182,13 +186,20 @@ next_place who (WritingFlags job) value = WritingEntry job
 next_place who (WritingEntry job) value = WritingIndex job
 next_place who (WritingIndex job) value = RingingOffer
 next_place who RingingOffer value = Closed
-next_place who (AtAvailIndex taken) value = if nat_le (published_by taken value) (size_of who.sizes) then (if published_by taken value == 0 then Closed else items_place taken (published_by taken value)) else Refusing
-next_place who (AtEntry number more) value = if is_entry who.sizes (entry_half (entry_of who number) value) then AtLow number more (entry_half (entry_of who number) value) else Refusing
+next_place who (AtAvailIndex taken) value =
+    if nat_le (published_by taken value) (size_of who.sizes)
+    then (if published_by taken value == 0 then Closed else items_place taken (published_by taken value))
+    else Refusing
+next_place who (AtEntry number more) value =
+    if is_entry who.sizes (entry_in who number value) then AtLow number more (entry_in who number value) else Refusing
 next_place who (AtLow number more entry) value = AtHigh number more entry value
-next_place who (AtHigh number more entry low) value = if is_address who.sizes (address_of low value) then AtLength number more entry (address_of low value) else Refusing
+next_place who (AtHigh number more entry low) value =
+    if is_address who.sizes (address_of low value) then AtLength number more entry (address_of low value) else Refusing
 next_place who (AtLength number more entry address) value = if is_length who.sizes address value then AtFlags number more entry address value else Refusing
-next_place who (AtFlags number more entry address bytes) value = if low_half value == 0 then words_place number more entry address bytes [] (words_for bytes) else Refusing
-next_place who (AtWord number more entry address bytes read words) value = words_place number more entry address bytes (read ++ value ∷ []) words
+next_place who (AtFlags number more entry address bytes) value =
+    if low_half value == 0 then words_place number more entry address bytes [] (words_for bytes) else Refusing
+next_place who (AtWord number more entry address bytes read words) value =
+    words_place number more entry address bytes (read ++ value ∷ []) words
 next_place who (GivingId number more entry) value = GivingLength number more
 next_place who (GivingLength number more) value = GivingIndex number more
 next_place who (GivingIndex number more) value = items_place (number + 1) more
@@ -208,4 +219,5 @@ pub record PlacesFollowTrees : Type 0 where
   pub begins : (who : Who) (end : End) (call : Call) → remaining who (first_place who end call) ≡ tree_of who end call
   pub goes : (who : Who) (place : Place) (step : Step) (left : CallTree) → Goes (remaining who place) step left →
       (value : ℕ) × (step ≡ step_at who place value) × (left ≡ remaining who (next_place who place value))
-  pub comes : (who : Who) (place : Place) (value : ℕ) → is_open place ≡ true → Goes (remaining who place) (step_at who place value) (remaining who (next_place who place value))
+  pub comes : (who : Who) (place : Place) (value : ℕ) → is_open place ≡ true →
+      Goes (remaining who place) (step_at who place value) (remaining who (next_place who place value))

@@ -24,6 +24,24 @@ is_address q address = (address % 4 == 0) && (nat_le (payload_of q) address && n
 abbrev pub is_length : Sizes → ℕ → ℕ → Bool
 is_length q address length = nat_le 14 length && (nat_le length 65553 && nat_le (address + length) q.out)
 
+-- The marks of those reads: none, or the refusal
+
+-- the entry of the item with this number, in the word that was read
+abbrev pub entry_in : Who → (number value : ℕ) → ℕ
+entry_in who number value = entry_half (entry_of who number) value
+
+abbrev pub entry_marks : Who → (number value : ℕ) → List Mark
+entry_marks who number value = if is_entry who.sizes (entry_in who number value) then [] else refusal field_name.AvailEntry (entry_in who number value)
+
+abbrev pub address_marks : Who → (low value : ℕ) → List Mark
+address_marks who low value = if is_address who.sizes (address_of low value) then [] else refusal field_name.DescAddress (address_of low value)
+
+abbrev pub length_marks : Who → (address value : ℕ) → List Mark
+length_marks who address value = if is_length who.sizes address value then [] else refusal field_name.DescLength value
+
+abbrev pub flags_marks : ℕ → List Mark
+flags_marks value = if low_half value == 0 then [] else refusal field_name.DescFlags (low_half value)
+
 -- The tree of a poll. Each part has what comes after it as its last argument; items and frames are numbered in the session, and the item of a number has its
 -- entry at the number modulo the queue's size
 
@@ -49,29 +67,30 @@ read_words who number entry address bytes read (suc more) after =
 abbrev pub read_flags : Who → (number entry address bytes : ℕ) → CallTree → CallTree
 read_flags who number entry address bytes after =
     Reads (who.theirs + word_place who.sizes (Flags entry))
-    (λ value. if low_half value == 0 then [] else refusal field_name.DescFlags (low_half value))
+    (λ value. flags_marks value)
     (λ value. if low_half value == 0 then read_words who number entry address bytes [] (words_for bytes) after else set_state 0)
 
 abbrev pub read_length : Who → (number entry address : ℕ) → CallTree → CallTree
 read_length who number entry address after =
     Reads (who.theirs + word_place who.sizes (Length entry))
-    (λ value. if is_length who.sizes address value then [] else refusal field_name.DescLength value)
+    (λ value. length_marks who address value)
     (λ value. if is_length who.sizes address value then read_flags who number entry address value after else set_state 0)
 
 abbrev pub read_high : Who → (number entry low : ℕ) → CallTree → CallTree
 read_high who number entry low after =
     Reads (who.theirs + word_place who.sizes (Address entry) + 1)
-    (λ value. if is_address who.sizes (address_of low value) then [] else refusal field_name.DescAddress (address_of low value))
+    (λ value. address_marks who low value)
     (λ value. if is_address who.sizes (address_of low value) then read_length who number entry (address_of low value) after else set_state 0)
 
 abbrev pub read_low : Who → (number entry : ℕ) → CallTree → CallTree
-read_low who number entry after = Reads (who.theirs + word_place who.sizes (Address entry)) (λ value. []) (λ value. read_high who number entry value after)
+read_low who number entry after =
+    Reads (who.theirs + word_place who.sizes (Address entry)) (λ value. []) (λ value. read_high who number entry value after)
 
 abbrev pub item : Who → ℕ → CallTree → CallTree
 item who number after =
     Reads (who.theirs + word_place who.sizes (Entry (entry_of who number)))
-    (λ value. if is_entry who.sizes (entry_half (entry_of who number) value) then [] else refusal field_name.AvailEntry (entry_half (entry_of who number) value))
-    (λ value. if is_entry who.sizes (entry_half (entry_of who number) value) then read_low who number (entry_half (entry_of who number) value) after else set_state 0)
+    (λ value. entry_marks who number value)
+    (λ value. if is_entry who.sizes (entry_in who number value) then read_low who number (entry_in who number value) after else set_state 0)
 
 -- the doorbell of the other peer
 abbrev pub ring_back : Who → CallTree
@@ -90,12 +109,23 @@ published_by taken value = distance (taken % 65536) (high_half value)
 abbrev pub look_marks : ℕ → List Mark
 look_marks count = if count == 0 then Look 0 ∷ Done ∷ [] else Look count ∷ []
 
+-- the marks of the read of the available index
+abbrev pub available_marks : Who → (taken value : ℕ) → List Mark
+available_marks who taken value =
+    if nat_le (published_by taken value) (size_of who.sizes)
+    then look_marks (published_by taken value)
+    else refusal field_name.AvailIndex (high_half value)
+
+-- what comes after the read of the available index, where it is in range
+abbrev pub after_look : Who → (taken value : ℕ) → CallTree
+after_look who taken value = if published_by taken value == 0 then Ended else items who taken (published_by taken value)
+
 -- a poll, where so many frames were taken
 abbrev pub poll : Who → ℕ → CallTree
 poll who taken =
     Reads (who.theirs + word_place who.sizes AvailableIndex)
-    (λ value. if nat_le (published_by taken value) (size_of who.sizes) then look_marks (published_by taken value) else refusal field_name.AvailIndex (high_half value))
-    (λ value. if nat_le (published_by taken value) (size_of who.sizes) then (if published_by taken value == 0 then Ended else items who taken (published_by taken value)) else set_state 0)
+    (λ value. available_marks who taken value)
+    (λ value. if nat_le (published_by taken value) (size_of who.sizes) then after_look who taken value else set_state 0)
 
 -- The table of finished polls
 
@@ -110,7 +140,7 @@ pub record Item : Type 0 where
 
 -- the entry that an item names, and the address
 abbrev pub item_entry : Who → ℕ → Item → ℕ
-item_entry who number read = entry_half (entry_of who number) read.entry_word
+item_entry who number read = entry_in who number read.entry_word
 
 abbrev pub item_address : Item → ℕ
 item_address read = address_of read.low read.high
@@ -134,7 +164,8 @@ flags_step who number read marks = step_of (Read (who.theirs + word_place who.si
 -- the reads of these words of a frame from this place on, the last of them with these marks
 abbrev pub word_steps : Who → (address at : ℕ) → List ℕ → List Mark → List Step
 word_steps who address at [] marks = []
-word_steps who address at (word ∷ words) marks = step_of (Read (who.theirs + (address / 4 + at))) word (if length words == 0 then marks else []) ∷ word_steps who address (at + 1) words marks
+word_steps who address at (word ∷ words) marks =
+    step_of (Read (who.theirs + (address / 4 + at))) word (if length words == 0 then marks else []) ∷ word_steps who address (at + 1) words marks
 
 abbrev pub return_steps : Who → (number entry : ℕ) → List Step
 return_steps who number entry =
@@ -153,7 +184,8 @@ pub record IsGood (who : Who) (number : ℕ) (read : Item) : Type 0 where
 -- the steps of such an item: each field is read once
 abbrev pub item_steps : Who → ℕ → Item → List Step
 item_steps who number read =
-    entry_step who number read [] ∷ low_step who number read ∷ high_step who number read [] ∷ length_step who number read [] ∷ flags_step who number read [] ∷
+    entry_step who number read [] ∷ low_step who number read ∷ high_step who number read [] ∷ length_step who number read [] ∷
+    flags_step who number read [] ∷
     (word_steps who (item_address read) 0 read.words (Deliver (frame_in read.bytes read.words) ∷ []) ++ return_steps who number (item_entry who number read))
 
 -- the items from this number on are good
@@ -165,17 +197,37 @@ abbrev pub items_steps : Who → ℕ → List Item → List Step
 items_steps who number [] = []
 items_steps who number (read ∷ reads) = item_steps who number read ++ items_steps who (number + 1) reads
 
--- an item that is refused at one of its four tests, the tests before it passed; what it reads after that test doesn't count
+-- An item that is refused at one of its four tests, the tests before it passed; what it reads after that test doesn't count
+
+-- the steps up to each test, the last one with the refusal
+abbrev pub entry_refused : Who → ℕ → Item → List Step
+entry_refused who number read = refused_steps (entry_step who number read (refusal field_name.AvailEntry (item_entry who number read)))
+
+abbrev pub address_refused : Who → ℕ → Item → List Step
+address_refused who number read =
+    entry_step who number read [] ∷ low_step who number read ∷
+    refused_steps (high_step who number read (refusal field_name.DescAddress (item_address read)))
+
+abbrev pub length_refused : Who → ℕ → Item → List Step
+length_refused who number read =
+    entry_step who number read [] ∷ low_step who number read ∷ high_step who number read [] ∷
+    refused_steps (length_step who number read (refusal field_name.DescLength read.bytes))
+
+abbrev pub flags_refused : Who → ℕ → Item → List Step
+flags_refused who number read =
+    entry_step who number read [] ∷ low_step who number read ∷ high_step who number read [] ∷ length_step who number read [] ∷
+    refused_steps (flags_step who number read (refusal field_name.DescFlags (low_half read.flags_word)))
+
 abbrev pub IsRefusedItem : Who → ℕ → Item → List Step → Type 0
 IsRefusedItem who number read steps =
-    ((¬ IsAvailEntry who.sizes (item_entry who number read)) ×
-    (steps ≡ refused_steps (entry_step who number read (refusal field_name.AvailEntry (item_entry who number read))))) ⊎
+    ((¬ IsAvailEntry who.sizes (item_entry who number read)) × (steps ≡ entry_refused who number read)) ⊎
     ((IsAvailEntry who.sizes (item_entry who number read) × (¬ IsDescAddress who.sizes (item_address read)) ×
-    (steps ≡ entry_step who number read [] ∷ low_step who number read ∷ refused_steps (high_step who number read (refusal field_name.DescAddress (item_address read))))) ⊎
-    ((IsAvailEntry who.sizes (item_entry who number read) × IsDescAddress who.sizes (item_address read) × (¬ IsDescLength who.sizes (item_address read) read.bytes) ×
-    (steps ≡ entry_step who number read [] ∷ low_step who number read ∷ high_step who number read [] ∷ refused_steps (length_step who number read (refusal field_name.DescLength read.bytes)))) ⊎
-    (IsAvailEntry who.sizes (item_entry who number read) × IsDescAddress who.sizes (item_address read) × IsDescLength who.sizes (item_address read) read.bytes × (¬ IsDescFlags (low_half read.flags_word)) ×
-    (steps ≡ entry_step who number read [] ∷ low_step who number read ∷ high_step who number read [] ∷ length_step who number read [] ∷ refused_steps (flags_step who number read (refusal field_name.DescFlags (low_half read.flags_word)))))))
+    (steps ≡ address_refused who number read)) ⊎
+    ((IsAvailEntry who.sizes (item_entry who number read) × IsDescAddress who.sizes (item_address read) ×
+    (¬ IsDescLength who.sizes (item_address read) read.bytes) × (steps ≡ length_refused who number read)) ⊎
+    (IsAvailEntry who.sizes (item_entry who number read) × IsDescAddress who.sizes (item_address read) ×
+    IsDescLength who.sizes (item_address read) read.bytes × (¬ IsDescFlags (low_half read.flags_word)) ×
+    (steps ≡ flags_refused who number read))))
 
 -- the read of the available index, with its marks
 abbrev pub look_step : Who → ℕ → List Mark → Step
@@ -201,7 +253,8 @@ pub record TakesAll (who : Who) (taken : ℕ) (steps : List Step) : Type 0 where
   pub reads : List Item
   pub all : length reads ≡ published_by taken value
   pub good : AreGood who taken reads
-  pub steps_are : steps ≡ look_step who value (Look (published_by taken value) ∷ []) ∷ (items_steps who taken reads ++ step_of (Ring who.other who.vector) 0 (Done ∷ []) ∷ [])
+  pub steps_are : steps ≡ look_step who value (Look (published_by taken value) ∷ []) ∷
+      (items_steps who taken reads ++ step_of (Ring who.other who.vector) 0 (Done ∷ []) ∷ [])
 
 -- good items, and then one that is refused
 pub record RefusesItem (who : Who) (taken : ℕ) (steps : List Step) : Type 0 where
@@ -217,4 +270,5 @@ pub record RefusesItem (who : Who) (taken : ℕ) (steps : List Step) : Type 0 wh
 
 -- a finished poll is one of these four lists
 abbrev pub IsPoll : Who → ℕ → List Step → Type 0
-IsPoll who taken steps = RefusesAvailIndex who taken steps ⊎ (FindsNothing who taken steps ⊎ (TakesAll who taken steps ⊎ RefusesItem who taken steps))
+IsPoll who taken steps =
+    RefusesAvailIndex who taken steps ⊎ (FindsNothing who taken steps ⊎ (TakesAll who taken steps ⊎ RefusesItem who taken steps))

@@ -1,4 +1,5 @@
--- The state rows of the link machine over a call: an end writes 0, or the state to which the phase table moves on from the value that it saw last; and what it saw is the other's state.
+-- The state rows of the link machine over a call: an end writes 0, or the state to which the phase table moves on from the value that it
+-- saw last; and what it saw is the other's state.
 use Rattle.std.specs.Prelude.{ℕ, ◌≡◌, ◌⊎◌, List, [], ◌∷◌}
 use Rattle.link_handshake.specs.declared.Phase.{Phase}
 use Rattle.link_handshake.specs.declared.Move.TheVariants.{Set, ClearThenSet}
@@ -8,6 +9,7 @@ use Rattle.split_ring.specs.declared.steps.Access.TheVariants as access
 use Rattle.call_grammar.specs.Steps.{Mark, Saw, Step}
 use Rattle.call_grammar.specs.Trees.{CallTree, Ended, Does, Reads, Goes}
 use Rattle.call_grammar.specs.Ends.{End}
+use Rattle.call_grammar.specs.Ticks.{other_state}
 use Rattle.call_grammar.specs.Calls.{Who, Call, tree_of}
 
 -- from this phase, an end that saw this value moves on to this state
@@ -16,11 +18,8 @@ MovesTo phase seen state = (move_on phase seen ≡ Set state) ⊎ (move_on phase
 
 -- the phase after an access
 abbrev pub phase_with : Phase → Access → Phase
-phase_with phase (access.Read word) = phase
-phase_with phase (access.Write word written) = phase
 phase_with phase (access.State state) = phase_at state
-phase_with phase (access.Ring target vector) = phase
-phase_with phase access.Nothing = phase
+phase_with phase _ = phase
 
 -- the value seen last, after these marks
 abbrev pub seen_with : ℕ → List Mark → ℕ
@@ -31,7 +30,7 @@ seen_with seen (_ ∷ marks) = seen_with seen marks
 -- what these marks of a read saw is the state word of the other, and the value that was read
 abbrev pub SeesTheOther : Who → ℕ → ℕ → List Mark → Type 0
 SeesTheOther who word value [] = Unit {0}
-SeesTheOther who word value (Saw seen ∷ marks) = (word ≡ who.other) × (seen ≡ value) × SeesTheOther who word value marks
+SeesTheOther who word value (Saw seen ∷ marks) = (word ≡ other_state who) × (seen ≡ value) × SeesTheOther who word value marks
 SeesTheOther who word value (_ ∷ marks) = SeesTheOther who word value marks
 
 -- these marks saw nothing
@@ -43,16 +42,16 @@ SeesNothing (_ ∷ marks) = SeesNothing marks
 -- the row of one step: by its access, the value read and its marks, for an end in this phase that saw this value last
 abbrev pub RowHolds : Who → Phase → ℕ → Access → ℕ → List Mark → Type 0
 RowHolds who phase seen (access.Read word) value marks = SeesTheOther who word value marks
-RowHolds who phase seen (access.Write word written) value marks = SeesNothing marks
 RowHolds who phase seen (access.State state) value marks = ((state ≡ 0) ⊎ MovesTo phase seen state) × SeesNothing marks
-RowHolds who phase seen (access.Ring target vector) value marks = SeesNothing marks
-RowHolds who phase seen access.Nothing value marks = SeesNothing marks
+RowHolds who phase seen _ value marks = SeesNothing marks
 
 -- each step of the call has its row, whatever the reads give
 abbrev pub KeepsRows : Who → Phase → ℕ → CallTree → Type 0
 KeepsRows who phase seen Ended = Unit {0}
-KeepsRows who phase seen (Does access marks rest) = RowHolds who phase seen access 0 marks × KeepsRows who (phase_with phase access) (seen_with seen marks) rest
-KeepsRows who phase seen (Reads word marks rest) = (value : ℕ) → RowHolds who phase seen (access.Read word) value (marks value) × KeepsRows who phase (seen_with seen (marks value)) (rest value)
+KeepsRows who phase seen (Does access marks rest) =
+    RowHolds who phase seen access 0 marks × KeepsRows who (phase_with phase access) (seen_with seen marks) rest
+KeepsRows who phase seen (Reads word marks rest) = (value : ℕ) →
+    RowHolds who phase seen (access.Read word) value (marks value) × KeepsRows who phase (seen_with seen (marks value)) (rest value)
 
 -- every call keeps the rows, and so does what a step leaves of it; its phase is that of the end
 pub record CallsKeepRows : Type 0 where

@@ -1,37 +1,26 @@
 -- How many steps a finished call has (profile): what `turn` needs to be given, and that every call ends.
-use Rattle.std.specs.Prelude.{ℕ, ◌+◌, ◌≤◌, List, [], ◌∷◌, length}
+use Rattle.std.specs.Prelude.{ℕ, ◌≡◌, ◌+◌, ◌≤◌, Bool, true, false, List, [], ◌∷◌, length}
 use Rattle.split_ring.specs.declared.ranges.FieldName.{FieldName}
 use Rattle.split_ring.specs.declared.ranges.FieldName.TheVariants as field_name
 use Rattle.split_ring.specs.Layout.{limit_of}
-use Rattle.call_grammar.specs.Steps.{Mark, Saw, Reclaim, Full, Accept, Look, Deliver, Return, Done, Down, Refuse, Over, Step}
+use Rattle.call_grammar.specs.Steps.{Mark, Deliver, Refuse, Step}
 use Rattle.call_grammar.specs.Ends.{End}
 use Rattle.call_grammar.specs.Words.{words_for}
 use Rattle.call_grammar.specs.Ticks.{Who}
 use Rattle.call_grammar.specs.Calls.{Call, Tick, Stop, Offer, Poll, IsCall}
 
--- a refusal of a poll that is one of an item counts 8, that of the available index none
+-- a refusal in an item of a poll counts 8, that of an index or an id none
 abbrev pub refused_bound : FieldName → ℕ
 refused_bound field_name.AvailIndex = 0
-refused_bound field_name.AvailEntry = 8
-refused_bound field_name.DescAddress = 8
-refused_bound field_name.DescLength = 8
-refused_bound field_name.DescFlags = 8
 refused_bound field_name.UsedIndex = 0
 refused_bound field_name.UsedId = 0
+refused_bound _ = 8
 
 -- what a mark tells of the items of a poll: a delivered frame of w words counts 8 + w, a refused item 8
 abbrev pub mark_bound : Mark → ℕ
-mark_bound (Saw value) = 0
-mark_bound (Reclaim count) = 0
-mark_bound Full = 0
-mark_bound (Accept frame) = 0
-mark_bound (Look count) = 0
 mark_bound (Deliver frame) = 8 + words_for (length frame)
-mark_bound Return = 0
-mark_bound Done = 0
-mark_bound Down = 0
 mark_bound (Refuse refused) = refused_bound refused.field
-mark_bound Over = 0
+mark_bound _ = 0
 
 abbrev pub marks_bound : List Mark → ℕ
 marks_bound [] = 0
@@ -41,14 +30,28 @@ abbrev pub items_bound : List Step → ℕ
 items_bound [] = 0
 items_bound (step ∷ steps) = marks_bound step.marks + items_bound steps
 
--- a Tick has as many steps as a section has words and 2 more; a Stop has 1; an Offer of w words has the limit in flight and w and 8 more; a Poll has 2 and those of its items
+-- a Tick has as many steps as a section has words and 2 more; a Stop has 1; an Offer of w words has the limit in flight and w and 8 more;
+-- a Poll has 2 and those of its items
 abbrev pub bound_of : Who → Call → List Step → ℕ
 bound_of who Tick steps = who.words + 2
 bound_of who Stop steps = 1
 bound_of who (Offer frame) steps = limit_of who.sizes + words_for (length frame) + 8
 bound_of who Poll steps = 2 + items_bound steps
 
+-- no more frames are in flight than may be
+abbrev pub HasFewInFlight : Who → End → Type 0
+HasFewInFlight who end = length end.accepted ≤ end.freed + limit_of who.sizes
+
 -- a finished call meets its bound, where no more frames are in flight than may be
 abbrev pub CallsMeetBounds : Type 0
-CallsMeetBounds = (who : Who) (end : End) (call : Call) (steps : List Step) → length end.accepted ≤ end.freed + limit_of who.sizes → IsCall who end call steps →
+CallsMeetBounds = (who : Who) (end : End) (call : Call) (steps : List Step) → HasFewInFlight who end → IsCall who end call steps →
+    length steps ≤ bound_of who call steps
+
+abbrev pub is_offer : Call → Bool
+is_offer (Offer frame) = true
+is_offer _ = false
+
+-- and a Tick, a Stop and a Poll meet theirs wherever the counts stand
+abbrev pub OtherCallsMeetBounds : Type 0
+OtherCallsMeetBounds = (who : Who) (end : End) (call : Call) (steps : List Step) → is_offer call ≡ false → IsCall who end call steps →
     length steps ≤ bound_of who call steps

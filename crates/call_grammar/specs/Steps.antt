@@ -30,10 +30,7 @@ pub record Step : Type 0 where
 -- a read gives the value of its word; no other access gives one, and 0 stands there
 abbrev pub value_given : Access → ℕ → ℕ
 value_given (access.Read word) value = value
-value_given (access.Write word written) value = 0
-value_given (access.State state) value = 0
-value_given (access.Ring target vector) value = 0
-value_given access.Nothing value = 0
+value_given _ value = 0
 
 -- the step of this access, where it met this value, with these marks
 abbrev pub step_of : Access → ℕ → List Mark → Step

@@ -1,4 +1,5 @@
--- A Tick and a Stop (profile: the phase table and the order of accesses), as a tree and as a table of lists. A part of a tree has what comes after it as its last argument.
+-- A Tick and a Stop (profile: the phase table and the order of accesses), as a tree and as a table of lists. A part of a tree has what
+-- comes after it as its last argument.
 use Rattle.std.specs.Prelude.{ℕ, zero, suc, ◌+◌, List, [], ◌∷◌, ◌++◌}
 use Rattle.link_handshake.specs.declared.Move.{Move}
 use Rattle.link_handshake.specs.declared.Move.TheVariants.{Stay, Set, ClearThenSet}
@@ -9,7 +10,8 @@ use Rattle.call_grammar.specs.Steps.{Mark, Saw, Over, Step, step_of}
 use Rattle.call_grammar.specs.Trees.{CallTree, Ended, Does, Reads}
 use Rattle.call_grammar.specs.Ends.{End}
 
--- who makes the calls: a peer and its partner, the first words of their sections and the words of each, the sizes of the queue in them, and the vector of the traffic doorbell
+-- who makes the calls: a peer and its partner, the first words of their sections and the words of each, the sizes of the queue in them,
+-- and the vector of the traffic doorbell
 pub record Who : Type 0 where
   pub me : ℕ
   pub other : ℕ
@@ -40,9 +42,14 @@ after_tick who Stay = Ended
 after_tick who (Set state) = set_state state
 after_tick who (ClearThenSet state) = clear who.own who.words (set_state state)
 
+-- the word with the other's state: the State Table begins at word 0, and has a word for each peer (profile)
+abbrev pub other_state : Who → ℕ
+other_state who = who.other
+
 -- a Tick that this end begins
 abbrev pub tick : Who → End → CallTree
-tick who end = Reads who.other (λ value. tick_marks value (move_of end.handshake value)) (λ value. after_tick who (move_of end.handshake value))
+tick who end =
+    Reads (other_state who) (λ value. tick_marks value (move_of end.handshake value)) (λ value. after_tick who (move_of end.handshake value))
 
 -- The table
 
@@ -53,8 +60,12 @@ clear_steps at (suc more) = step_of (Write at 0) 0 [] ∷ clear_steps (at + 1) m
 abbrev pub state_step : ℕ → Step
 state_step state = step_of (State state) 0 (Over ∷ [])
 
+-- the read of the other's state
+abbrev pub saw_step : Who → ℕ → List Mark → Step
+saw_step who value marks = step_of (Read (other_state who)) value marks
+
 -- a Tick that read this value, by the move that it makes: no more; the State step; or 0 to each own word ascending and then the State step
 abbrev pub tick_steps : Who → ℕ → Move → List Step
-tick_steps who value Stay = step_of (Read who.other) value (Saw value ∷ Over ∷ []) ∷ []
-tick_steps who value (Set state) = step_of (Read who.other) value (Saw value ∷ []) ∷ state_step state ∷ []
-tick_steps who value (ClearThenSet state) = step_of (Read who.other) value (Saw value ∷ []) ∷ (clear_steps who.own who.words ++ state_step state ∷ [])
+tick_steps who value Stay = saw_step who value (Saw value ∷ Over ∷ []) ∷ []
+tick_steps who value (Set state) = saw_step who value (Saw value ∷ []) ∷ state_step state ∷ []
+tick_steps who value (ClearThenSet state) = saw_step who value (Saw value ∷ []) ∷ (clear_steps who.own who.words ++ state_step state ∷ [])

@@ -4,7 +4,8 @@ use Rattle.split_ring.specs.declared.steps.Access.{Access}
 use Rattle.split_ring.specs.declared.steps.Access.TheVariants.{Read}
 use Rattle.call_grammar.specs.Steps.{Mark, Step, step_of}
 
--- what is left of a call: nothing; an access with its marks, and what follows; a read of a word, and for each value that it may give the marks and what follows
+-- what is left of a call: nothing; an access with its marks, and what follows; a read of a word, and for each value that it may give
+-- the marks and what follows
 pub data CallTree : Type 0 where
   Ended : CallTree
   Does : (access : Access) (marks : List Mark) (rest : CallTree) → CallTree
@@ -31,5 +32,6 @@ Makes (Reads word marks rest) (step ∷ steps) = (value : ℕ) × (step ≡ step
 
 -- a call that is cut has the first steps of a whole one, and what is left makes the others
 pub record CutsBegin : Type 0 where
-  pub splits : (tree : CallTree) (steps others : List Step) → Makes tree (steps ++ others) → (left : CallTree) × GoesAlong tree steps left × Makes left others
-  pub joins : (tree left : CallTree) (steps others : List Step) → GoesAlong tree steps left → Makes left others → Makes tree (steps ++ others)
+  pub splits : (tree : CallTree) (steps more : List Step) → Makes tree (steps ++ more) →
+      (left : CallTree) × GoesAlong tree steps left × Makes left more
+  pub joins : (tree left : CallTree) (steps more : List Step) → GoesAlong tree steps left → Makes left more → Makes tree (steps ++ more)

@@ -11,8 +11,9 @@ ghost use Rattle.call_grammar.specs.Reach.{CallsStayInReach};
 ghost use Rattle.call_grammar.specs.Rows.{CallsKeepRows};
 ghost use Rattle.call_grammar.specs.Places.{PlacesFollowTrees};
 ghost use Rattle.call_grammar.specs.Plays.{PlayedAreCalls};
-ghost use Rattle.call_grammar.specs.StepBounds.{CallsMeetBounds};
+ghost use Rattle.call_grammar.specs.StepBounds.{CallsMeetBounds, OtherCallsMeetBounds};
 ghost use Rattle.call_grammar.specs.ReadsOnce.{FieldsAreReadOnce};
+ghost use Rattle.call_grammar.specs.ItemSpelling.{ReadItemsAreSpelled};
 
 /// A call that is cut has the first steps of a whole one.
 pub fn cuts_begin()
@@ -54,12 +55,18 @@ pub fn played_are_calls()
     ensures { PlayedAreCalls }
 {}
 
-/// A finished call has no more steps than its bound.
+/// A finished call has no more steps than its bound: an Offer where no more frames are in flight than may be, and any other call at all times.
 pub fn calls_meet_bounds()
-    ensures { CallsMeetBounds }
+    ensures calls { CallsMeetBounds }
+    ensures others { OtherCallsMeetBounds }
 {}
 
-/// Each foreign field is read once for each item of a poll, and each word once in an offer.
+/// Each foreign field is read once for each item of a poll, each word once in an offer, and each index once for each use of it.
 pub fn fields_are_read_once()
     ensures { FieldsAreReadOnce }
+{}
+
+/// The values read for one item of a poll spell the frame that it delivers, by the same definition as the words of a section.
+pub fn read_items_are_spelled()
+    ensures { ReadItemsAreSpelled }
 {}

@@ -2,9 +2,9 @@
 use Rattle.std.proofs.Common.{◌≡◌, ◌≢◌, ℕ, zero, suc, ◌<◌, ◌≤◌, List, ◌∷◌, ◌++◌, length, get_or, set, length-set, Some, None, refl, sym, ◌∙◌, ap, ap₂, subst, inl, inr, arith}
 use Rattle.std.specs.Prelude.{Bool, false, Option, slice_get, ◌⊎◌}
 use Rattle.std.proofs.lemmas.Option.{slice_get-get_or}
-use Rattle.doorbell_irq.specs.Devices.{Devices, IsDevices}
+use Rattle.doorbell_irq.specs.DeviceView.{DeviceView, IsDeviceView}
 use Rattle.doorbell_irq.specs.declared.registers.Registers.{Registers}
-use Rattle.doorbell_irq.specs.Events.{World, Event, Part, vector_count}
+use Rattle.doorbell_irq.specs.Events.{Devices, Event, Part, vector_count}
 use Rattle.doorbell_irq.specs.DeviceRules.{vector_of, resets, write_of, delivery_by, delivery_of, deliveries_below, delivery_to, connected_after, is_connected, bytes_after}
 use Rattle.doorbell_irq.specs.Registers.{IsPeer, Takes, delivery_at}
 use Rattle.doorbell_irq.specs.declared.trigger.Trigger.{Trigger}
@@ -20,19 +20,19 @@ deliveries_same f g zero same = refl
 deliveries_same f g (suc n) same = ap₂ (λ ds d. ds ++ delivery_to n d) (deliveries_same f g n (λ peer less. same peer (omega arith))) (same n (omega arith))
 
 -- The registers of a peer of a device that stands there.
-pub peer_at : (w : World) (events : List Event) (device : Devices) → IsDevices device → Stands w events device → (peer : ℕ) (d : Registers) → peer < device.peers →
+pub peer_at : (w : Devices) (events : List Event) (device : DeviceView) → IsDeviceView device → Stands w events device → (peer : ℕ) (d : Registers) → peer < device.peers →
     IsPeer w events peer (get_or device.registers peer d)
 peer_at w events device sound stands peer d inside =
     stands.registers peer (get_or device.registers peer d) (omega (arith, stands.peers))
     (slice_get-get_or device.registers peer d (omega (arith, stands.seats, sound.few)))
 
 -- The event leaves the other peers alone, but for what it triggers.
-pub record Spares (w : World) (event : Event) (peer : ℕ) : Type 0 where
+pub record Spares (w : Devices) (event : Event) (peer : ℕ) : Type 0 where
   pub registers : resets event peer ≡ false
   pub connection : (before : Bool) → connected_after event peer before ≡ before
   pub writes : (part : Part) → write_of w.wiring event peer part ≡ None
 
-module _ (w : World) (events : List Event) (event : Event) (old : Devices) (sound : IsDevices old) (stands : Stands w events old) (source : ℕ) (inside : source < old.peers)
+module _ (w : Devices) (events : List Event) (event : Event) (old : DeviceView) (sound : IsDeviceView old) (stands : Stands w events old) (source : ℕ) (inside : source < old.peers)
     (spares : (peer : ℕ) → peer ≢ source → Spares w event peer) where
   entries_few : vector_count w.wiring ≤ 64
   entries_few = subst (λ wiring. vector_count wiring ≤ 64) stands.wiring sound.entries
@@ -44,7 +44,7 @@ module _ (w : World) (events : List Event) (event : Event) (old : Devices) (soun
       quiet (spares peer other).writes is (keeps r)
 
   -- An event that triggers nobody: the source's registers alone go on.
-  pub moved : (new : Devices) (own : Registers) → new.peers ≡ old.peers → new.wiring ≡ old.wiring → new.registers ≡ set old.registers source own →
+  pub moved : (new : DeviceView) (own : Registers) → new.peers ≡ old.peers → new.wiring ≡ old.wiring → new.registers ≡ set old.registers source own →
       ((peer : ℕ) → vector_of (bytes_after w events) event peer ≡ None) → IsPeer w (event ∷ events) source own → Stands w (event ∷ events) new
   moved new own peers wiring registers quiet is = record {
     peers = peers ∙ stands.peers;
@@ -109,7 +109,7 @@ module _ (w : World) (events : List Event) (event : Event) (old : Devices) (soun
         ]
 
     -- The device after the event.
-    pub led : (new : Devices) → new.peers ≡ old.peers → new.wiring ≡ old.wiring → length new.registers ≡ length (set old.registers source own) →
+    pub led : (new : DeviceView) → new.peers ≡ old.peers → new.wiring ≡ old.wiring → length new.registers ≡ length (set old.registers source own) →
         ((peer : ℕ) (before after : Registers) → peer < old.peers → slice_get (set old.registers source own) peer ≡ Some before →
         slice_get new.registers peer ≡ Some after → Takes old.wiring (vector_at trigger peer) before after) →
         Stands w (event ∷ events) new

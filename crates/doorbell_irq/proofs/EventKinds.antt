@@ -4,8 +4,8 @@ use Rattle.std.specs.Prelude.{Bool, true, false, ◌&&◌, not, ◌==◌, if◌t
 use Rattle.std.proofs.lemmas.Bool.{ne_eqb, eqb-true}
 use Rattle.pci_space.specs.declared.wiring.Wiring.{Wiring}
 use Rattle.doorbell_irq.specs.declared.registers.Registers.{Registers}
-use Rattle.doorbell_irq.specs.Events.{World, Event, ConfigWritten, RegisterWritten, MsixWritten, WasReset, WasDisconnected, WasConnected, Part, Config, Page, Entry}
-use Rattle.doorbell_irq.specs.DeviceRules.{state_in, vector_by, vector_of, page_write, entry_write, write_of, is_connected, bytes_after}
+use Rattle.doorbell_irq.specs.Events.{Devices, Event, ConfigWritten, RegisterWritten, MsixWritten, WasReset, WasDisconnected, WasConnected, Part, Config, Page, Entry}
+use Rattle.doorbell_irq.specs.DeviceRules.{state_in, vector_by, vector_of, reset_event, page_write, entry_write, write_of, is_connected, bytes_after}
 use Rattle.doorbell_irq.specs.Registers.{IsPeer, Writes, IsReset}
 use Rattle.doorbell_irq.proofs.Steps.{peer_written, peer_kept, peer_reset}
 use Rattle.doorbell_irq.proofs.Devices.{Spares}
@@ -22,7 +22,7 @@ other_eqb source peer other = ne_eqb source peer (λ same. other (sym same))
 state_spares : (old source value : ℕ) → vector_by old source value source ≡ None
 state_spares old source value = ap (λ b. if not b && not (old == value) then Some 0 else None) (same_eqb source)
 
-module _ (w : World) (events : List Event) where
+module _ (w : Devices) (events : List Event) where
   pub config_spares : (source offset width value peer : ℕ) → peer ≢ source → Spares w (ConfigWritten source offset width value) peer
   config_spares source offset width value peer other = record {
     registers = refl;
@@ -56,15 +56,13 @@ module _ (w : World) (events : List Event) where
     nothing Page = refl
     nothing (Entry n) = ap (λ b. if b then entry_write w.wiring offset value n else None) (other_eqb source peer other)
 
-  pub reset_spares : (source peer : ℕ) → peer ≢ source → Spares w (WasReset source) peer
-  reset_spares source peer other = record {
+  pub reset_spares : (disconnects : Bool) (source peer : ℕ) → peer ≢ source → Spares w (reset_event disconnects source) peer
+  reset_spares false source peer other = record {
     registers = other_eqb source peer other;
     connection = λ before. refl;
     writes = λ part. refl;
   }
-
-  pub disconnect_spares : (source peer : ℕ) → peer ≢ source → Spares w (WasDisconnected source) peer
-  disconnect_spares source peer other = record {
+  reset_spares true source peer other = record {
     registers = other_eqb source peer other;
     connection = λ before. ap (λ b. if b then false else before) (other_eqb source peer other);
     writes = λ part. refl;
@@ -123,11 +121,9 @@ module _ (w : World) (events : List Event) where
         quiet unlike,
       )
 
-    pub was_reset : IsReset old old.connected new → IsPeer w (WasReset source ∷ events) source new
-    was_reset blank = peer_reset w events source (WasReset source) old.connected old new (same_eqb source) (sym is.connected) is blank
-
-    pub was_disconnected : IsReset old false new → IsPeer w (WasDisconnected source ∷ events) source new
-    was_disconnected blank = peer_reset w events source (WasDisconnected source) false old new (same_eqb source)
+    pub was_reset : (disconnects : Bool) → IsReset old (if disconnects then false else old.connected) new → IsPeer w (reset_event disconnects source ∷ events) source new
+    was_reset false blank = peer_reset w events source (WasReset source) old.connected old new (same_eqb source) (sym is.connected) is blank
+    was_reset true blank = peer_reset w events source (WasDisconnected source) false old new (same_eqb source)
         (ap (λ b. if b then false else is_connected events source) (same_eqb source)) is blank
 
     pub was_connected : IsReset old true new → IsPeer w (WasConnected source ∷ events) source new
@@ -135,8 +131,11 @@ module _ (w : World) (events : List Event) where
         (ap (λ b. if b then true else is_connected events source) (same_eqb source)) is blank
 
   -- A reset doesn't trigger its own peer.
-  pub reset_quiet : (source : ℕ) → vector_of (bytes_after w events) (WasReset source) source ≡ None
-  reset_quiet source = state_spares (state_in (bytes_after w events source)) source 0
+  pub reset_quiet : (disconnects : Bool) (source : ℕ) → vector_of (bytes_after w events) (reset_event disconnects source) source ≡ None
+  reset_quiet false source = state_spares (state_in (bytes_after w events source)) source 0
+  reset_quiet true source = state_spares (state_in (bytes_after w events source)) source 0
 
-  pub disconnect_quiet : (source : ℕ) → vector_of (bytes_after w events) (WasDisconnected source) source ≡ None
-  disconnect_quiet source = state_spares (state_in (bytes_after w events source)) source 0
+  -- What it triggers at the others, by its old State.
+  pub reset_triggers : (disconnects : Bool) (source peer : ℕ) → vector_by (state_in (bytes_after w events source)) source 0 peer ≡ vector_of (bytes_after w events) (reset_event disconnects source) peer
+  reset_triggers false source peer = refl
+  reset_triggers true source peer = refl

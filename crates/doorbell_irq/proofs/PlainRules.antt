@@ -11,7 +11,7 @@ use Rattle.pci_space.specs.declared.wiring.Wiring.{Wiring}
 use Rattle.pci_space.specs.Numbers.{number_byte, number_from}
 use Rattle.pci_space.specs.Fields.{merged, reset_byte}
 use Rattle.pci_space.proofs.NumberLemmas.{number_from-bytes}
-use Rattle.doorbell_irq.specs.Events.{World, Event, ConfigWritten, RegisterWritten, MsixWritten, WasReset, WasDisconnected, WasConnected, Part, Page, page_rows}
+use Rattle.doorbell_irq.specs.Events.{Devices, Event, ConfigWritten, RegisterWritten, MsixWritten, WasReset, WasDisconnected, WasConnected, Part, Page, page_rows}
 use Rattle.doorbell_irq.specs.DeviceRules.{Write, state_in, is_enabled, is_one_shot, bit, vector_by, page_write, write_of, write_or, clear_of, byte_after, delivery_by, delivery_of, resets, is_connected, bytes_after}
 
 -- A byte that is written through an open mask.
@@ -20,7 +20,7 @@ merged-open old new small =
     ap₂ bit_or (and_zero_r old) (and_numeral new 254 refl ∙ mod-eq_of_lt small) ∙ or_zero_l new
 
 -- A State that was written reads back.
-pub state_written : (w : World) (events : List Event) (peer value : ℕ) → value < 2 ^ 32 → state_in (bytes_after w (RegisterWritten peer 0x10 value ∷ events) peer) ≡ value
+pub state_written : (w : Devices) (events : List Event) (peer value : ℕ) → value < 2 ^ 32 → state_in (bytes_after w (RegisterWritten peer 0x10 value ∷ events) peer) ≡ value
 state_written w events peer value small =
     ap (λ b. number_from (λ k. byte_after (page_rows w.shape.peers peer)
     (write_or (if b then page_write 0x10 value else None)
@@ -33,7 +33,7 @@ state_written w events peer value small =
       let_in k i = merged-open (bytes_after w events peer Page k) (number_byte value i) (omega arith)
 
 -- A reset makes the State 0.
-pub state_reset : (w : World) (events : List Event) (peer : ℕ) → state_in (bytes_after w (WasReset peer ∷ events) peer) ≡ 0
+pub state_reset : (w : Devices) (events : List Event) (peer : ℕ) → state_in (bytes_after w (WasReset peer ∷ events) peer) ≡ 0
 state_reset w events peer =
     ap (λ b. number_from (λ k. if b then reset_byte (page_rows w.shape.peers peer) k else byte_after (page_rows w.shape.peers peer)
     (write_or None (clear_of Page (is_some (delivery_of w.wiring (is_connected events) (bytes_after w events) (WasReset peer) peer) && is_one_shot (bytes_after w events peer))))
@@ -56,7 +56,7 @@ by_state wiring connected byte old source value peer came = cases (source == pee
       let quiet : is_some (delivery_by wiring connected byte (vector_by old source value peer)) ≡ false = ap (λ v. is_some (delivery_by wiring connected byte v)) none in
       cc
 
-module _ (w : World) (events : List Event) (peer : ℕ) where
+module _ (w : Devices) (events : List Event) (peer : ℕ) where
   -- An event that comes to a peer writes no register of it and doesn't reset it.
   Untouched : Event → Type 0
   Untouched event = (write_of w.wiring event peer Page ≡ None) × (resets event peer ≡ false)
@@ -98,7 +98,7 @@ module _ (w : World) (events : List Event) (peer : ℕ) where
         cc
 
 -- In one-shot mode an interrupt turns interrupts off.
-pub turned_off : (w : World) (events : List Event) (event : Event) (peer : ℕ) →
+pub turned_off : (w : Devices) (events : List Event) (event : Event) (peer : ℕ) →
     is_some (delivery_of w.wiring (is_connected events) (bytes_after w events) event peer) ≡ true →
     is_one_shot (bytes_after w events peer) ≡ true → is_enabled (bytes_after w (event ∷ events) peer) ≡ false
 unfolding Came Untouched

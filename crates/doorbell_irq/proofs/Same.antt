@@ -6,7 +6,7 @@ use Rattle.pci_space.specs.Numbers.{number_from}
 use Rattle.pci_space.specs.declared.wiring.Wiring.{Wiring}
 use Rattle.pci_space.specs.declared.wiring.Wiring.TheVariants.{Msix, Intx}
 use Rattle.doorbell_irq.specs.declared.registers.Registers.{Registers}
-use Rattle.doorbell_irq.specs.Events.{World, Event, Config, Page, Entry, vector_count}
+use Rattle.doorbell_irq.specs.Events.{Devices, Event, Config, Page, Entry, vector_count}
 use Rattle.doorbell_irq.specs.DeviceRules.{bit, state_in, is_enabled, is_one_shot, lets_through, reported, delivery_by, is_connected, bytes_after, register_at, msix_at}
 use Rattle.doorbell_irq.specs.Registers.{IsPeer, byte_in, register_bytes, delivery_at}
 use Rattle.doorbell_irq.proofs.Lists.{slice_get-within}
@@ -16,7 +16,7 @@ pub number_from-same : (f g : ℕ → ℕ) (at n : ℕ) → ((k : ℕ) → f k �
 number_from-same f g at zero same = refl
 number_from-same f g at (suc n) same = ap₂ (λ (b r : ℕ). b + 256 * r) (same at) (number_from-same f g (suc at) n same)
 
-module _ (w : World) (events : List Event) (peer : ℕ) (r : Registers) (is : IsPeer w events peer r) where
+module _ (w : Devices) (events : List Event) (peer : ℕ) (r : Registers) (is : IsPeer w events peer r) where
   -- The State.
   pub state_same : state_in (register_bytes r) ≡ state_in (bytes_after w events peer)
   state_same = number_from-same (register_bytes r Page) (bytes_after w events peer Page) 0x10 4 is.page.bytes

@@ -3,7 +3,7 @@ use Rattle.std.proofs.Common.{◌≡◌, ℕ, ◌≤◌, List, ◌∷◌, Some, 
 use Rattle.std.specs.Prelude.{Bool, true, false, ◌&&◌, if◌then◌else◌, Option, is_some, slice_index}
 use Rattle.pci_space.specs.Fields.{Contents, reset_byte}
 use Rattle.doorbell_irq.specs.declared.registers.Registers.{Registers}
-use Rattle.doorbell_irq.specs.Events.{World, Event, Part, Config, Page, Entry, rows_of, vector_count}
+use Rattle.doorbell_irq.specs.Events.{Devices, Event, Part, Config, Page, Entry, rows_of, vector_count}
 use Rattle.doorbell_irq.specs.DeviceRules.{Write, is_one_shot, vector_of, resets, write_of, clear_of, write_or, byte_after, delivery_of, delivery_by, whole_write_of, connected_after, is_connected, bytes_after}
 use Rattle.doorbell_irq.specs.Registers.{register_bytes, delivery_at, Writes, Takes, IsPart, IsPeer, IsWritten, IsSpaceReset, IsReset}
 use Rattle.std.proofs.lemmas.Option.{slice_get_within}
@@ -26,7 +26,7 @@ keeps r = record {
       record { rows = ap (λ (s : Contents). s.rows) (sym same); bytes = λ k. ap (λ (s : Contents). slice_index s.bytes k) (sym same) };
 }
 
-module _ (w : World) (events : List Event) (peer : ℕ) where
+module _ (w : Devices) (events : List Event) (peer : ℕ) where
   -- A space that is written nothing stays that of its part.
   part_kept : (part : Part) (old new : Contents) → IsPart w events peer part old → IsWritten None old new → IsPart w events peer part new
   part_kept part old new was written = record { rows = written.rows ∙ was.rows; bytes = λ k. written.bytes k ∙ was.bytes k }

@@ -8,7 +8,7 @@ use Rattle.pci_space.specs.Numbers.{number_from}
 use Rattle.pci_space.specs.Fields.{reset_byte, merged_byte}
 use Rattle.doorbell_irq.specs.declared.effect.Delivery.{Delivery}
 use Rattle.doorbell_irq.specs.declared.effect.Effect.{Effect}
-use Rattle.doorbell_irq.specs.Events.{World, Event, ConfigWritten, RegisterWritten, MsixWritten, WasReset, WasDisconnected, WasConnected, Part, Config, Page, Entry, rows_of, vector_count}
+use Rattle.doorbell_irq.specs.Events.{Devices, Event, ConfigWritten, RegisterWritten, MsixWritten, WasReset, WasDisconnected, WasConnected, Part, Config, Page, Entry, interrupt_control_register, doorbell_register, state_register, doorbell_target, doorbell_vector, rows_of, vector_count}
 
 -- An access that writes a space.
 pub record Write : Type 0 where
@@ -26,11 +26,11 @@ bit n i = n / 2 ^ i % 2 == 1
 
 -- The State register.
 abbrev pub state_in : Bytes → ℕ
-state_in byte = number_from (byte Page) 0x10 4
+state_in byte = number_from (byte Page) state_register 4
 
 -- Interrupt Control bit 0: the peer takes interrupts.
 abbrev pub is_enabled : Bytes → Bool
-is_enabled byte = bit (byte Page 0x08) 0
+is_enabled byte = bit (byte Page interrupt_control_register) 0
 
 -- Privileged Control bit 0: the peer is in one-shot mode.
 abbrev pub is_one_shot : Bytes → Bool
@@ -60,12 +60,12 @@ delivery_by wiring connected byte (Some n) =
 abbrev pub vector_by : ℕ → ℕ → ℕ → ℕ → Option ℕ
 vector_by old source value peer = if not (source == peer) && not (old == value) then Some 0 else None
 
--- The vector that a write to a register of a source, whose State is `old`, triggers at a peer. The Doorbell has the vector in its
--- low 16 bits and the target in its high 16 bits, and a peer may ring itself (profile).
+-- The vector that a write to a register of a source, whose State is `old`, triggers at a peer. A peer may
+-- ring itself (profile).
 abbrev pub register_vector : ℕ → ℕ → ℕ → ℕ → ℕ → Option ℕ
 register_vector old source offset value peer =
-    if offset == 0x0C then (if value / 65536 == peer then Some (value % 65536) else None)
-    else if offset == 0x10 then vector_by old source value peer
+    if offset == doorbell_register then (if doorbell_target value == peer then Some (doorbell_vector value) else None)
+    else if offset == state_register then vector_by old source value peer
     else None
 
 -- The vector that an event triggers at a peer, where `before` is how the peers stood.
@@ -74,6 +74,11 @@ vector_of before (RegisterWritten source offset value) peer = register_vector (s
 vector_of before (WasReset source) peer = vector_by (state_in (before source)) source 0 peer
 vector_of before (WasDisconnected source) peer = vector_by (state_in (before source)) source 0 peer
 vector_of before _ peer = None
+
+-- A device reset of a peer, which may disconnect it.
+abbrev pub reset_event : (disconnects : Bool) → (peer : ℕ) → Event
+reset_event false peer = WasReset peer
+reset_event true peer = WasDisconnected peer
 
 -- The event gives all registers of a peer their reset values.
 abbrev pub resets : Event → ℕ → Bool
@@ -84,7 +89,7 @@ resets _ peer = false
 
 -- What a write to the register page leaves there: Interrupt Control and State alone keep what is written.
 abbrev pub page_write : ℕ → ℕ → Option Write
-page_write offset value = if offset == 0x08 || offset == 0x10 then Some (record { offset = offset; width = 4; value = value }) else None
+page_write offset value = if offset == interrupt_control_register || offset == state_register then Some (record { offset = offset; width = 4; value = value }) else None
 
 -- What a write to the MSI-X region leaves in entry n: an aligned word of an entry that the table has.
 abbrev pub entry_write : Wiring → ℕ → ℕ → ℕ → Option Write
@@ -102,7 +107,7 @@ write_of wiring _ peer part = None
 
 -- What the device itself writes: on a delivery in one-shot mode it clears Interrupt Control.
 abbrev pub clear_of : Part → Bool → Option Write
-clear_of Page true = Some (record { offset = 0x08; width = 4; value = 0 })
+clear_of Page true = Some (record { offset = interrupt_control_register; width = 4; value = 0 })
 clear_of Page false = None
 clear_of Config cleared = None
 clear_of (Entry n) cleared = None
@@ -139,7 +144,7 @@ is_connected [] peer = true
 is_connected (event ∷ events) peer = connected_after event peer (is_connected events peer)
 
 -- The bytes of the peers' spaces after a list of events: those at reset, and then what each event wrote.
-abbrev pub bytes_after : World → List Event → ℕ → Bytes
+abbrev pub bytes_after : Devices → List Event → ℕ → Bytes
 bytes_after w [] peer part k = reset_byte (rows_of w peer part) k
 bytes_after w (event ∷ events) peer part k =
     if resets event peer then reset_byte (rows_of w peer part) k
@@ -158,13 +163,13 @@ deliveries_below at (suc peer) = deliveries_below at peer ++ delivery_to peer (a
 
 -- The State word that an event writes, changed or not.
 abbrev pub state_of : Event → Option ℕ
-state_of (RegisterWritten p offset value) = if offset == 0x10 then Some value else None
+state_of (RegisterWritten p offset value) = if offset == state_register then Some value else None
 state_of (WasReset p) = Some 0
 state_of (WasDisconnected p) = Some 0
 state_of _ = None
 
 -- What one more event does, after a list of events.
-abbrev pub effect_of : World → List Event → Event → Effect
+abbrev pub effect_of : Devices → List Event → Event → Effect
 effect_of w events event = record {
   state = state_of event;
   deliveries = record { items = deliveries_below (delivery_of w.wiring (is_connected events) (bytes_after w events) event) w.shape.peers };

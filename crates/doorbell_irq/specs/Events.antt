@@ -1,13 +1,13 @@
 -- What can happen to the devices of a world, and what they are made of.
-use Rattle.std.specs.Prelude.{ℕ, List, [], ◌∷◌}
+use Rattle.std.specs.Prelude.{ℕ, ◌+◌, ◌*◌, ◌/◌, ◌%◌, List, [], ◌∷◌}
 use Rattle.section_map.specs.Geometry.{Shape}
 use Rattle.pci_space.specs.declared.field.Field.{Field}
 use Rattle.pci_space.specs.declared.wiring.Wiring.{Wiring}
 use Rattle.pci_space.specs.declared.wiring.Wiring.TheVariants.{Msix, Intx}
 use Rattle.pci_space.specs.Device.{row, device_rows}
 
--- A world: the sizes of its region with the number of its peers, and how its devices raise interrupts.
-pub record World : Type 0 where
+-- The devices of a world: the sizes of its region with the number of its peers, and how interrupts are raised.
+pub record Devices : Type 0 where
   pub shape : Shape
   pub wiring : Wiring
 
@@ -27,14 +27,34 @@ pub data Part : Type 0 where
   Page : Part
   Entry : (n : ℕ) → Part
 
+-- Offsets in the register page (the device's specification).
+abbrev pub interrupt_control_register : ℕ
+interrupt_control_register = 0x08
+
+abbrev pub doorbell_register : ℕ
+doorbell_register = 0x0C
+
+abbrev pub state_register : ℕ
+state_register = 0x10
+
+-- A word of the Doorbell: the vector stands in its low 16 bits, the target in its high ones (the device's specification).
+abbrev pub doorbell_word : (target vector : ℕ) → ℕ
+doorbell_word target vector = 65536 * target + vector
+
+abbrev pub doorbell_target : ℕ → ℕ
+doorbell_target word = word / 65536
+
+abbrev pub doorbell_vector : ℕ → ℕ
+doorbell_vector word = word % 65536
+
 -- The register page of a peer among so many (the device's specification; that the Doorbell reads 0 is profile).
 abbrev pub page_rows : ℕ → ℕ → List Field
 page_rows peers peer =
     row 0x00 4 peer 0  -- ID
     ∷ row 0x04 4 peers 0  -- Maximum Peers
-    ∷ row 0x08 4 0 0x0000_0001  -- Interrupt Control: bit 0
-    ∷ row 0x0C 4 0 0  -- Doorbell
-    ∷ row 0x10 4 0 0xFFFF_FFFF  -- State
+    ∷ row interrupt_control_register 4 0 0x0000_0001  -- bit 0
+    ∷ row doorbell_register 4 0 0
+    ∷ row state_register 4 0 0xFFFF_FFFF
     ∷ []
 
 -- An entry of the MSI-X table (PCI 3.0, 6.8.2). At reset it is masked.
@@ -47,7 +67,7 @@ entry_rows =
     ∷ []
 
 -- The rows of a peer's space. The program's protocol is 0001h.
-abbrev pub rows_of : World → ℕ → Part → List Field
+abbrev pub rows_of : Devices → ℕ → Part → List Field
 rows_of w peer Config = device_rows w.shape 0x0001 w.wiring
 rows_of w peer Page = page_rows w.shape.peers peer
 rows_of w peer (Entry n) = entry_rows

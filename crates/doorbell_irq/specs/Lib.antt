@@ -2,5 +2,5 @@ pub mod Events
 pub mod DeviceRules
 pub mod Registers
 pub mod Triggers
-pub mod Devices
+pub mod DeviceView
 pub mod Stands

@@ -3,7 +3,7 @@ use Rattle.std.specs.Prelude.{ℕ, ◌≡◌, Bool, ◌&&◌, List, Option, Some
 use Rattle.pci_space.specs.Fields.{Contents, reset_byte}
 use Rattle.pci_space.specs.declared.wiring.Wiring.{Wiring}
 use Rattle.doorbell_irq.specs.declared.registers.Registers.{Registers}
-use Rattle.doorbell_irq.specs.Events.{World, Event, Part, Config, Page, Entry, rows_of}
+use Rattle.doorbell_irq.specs.Events.{Devices, Event, Part, Config, Page, Entry, rows_of}
 use Rattle.doorbell_irq.specs.DeviceRules.{Bytes, Write, delivery_by, is_one_shot, clear_of, byte_after, is_connected, bytes_after}
 
 -- Byte k of a space, if there is one.
@@ -22,12 +22,12 @@ abbrev pub delivery_at : Wiring → Registers → Option ℕ → Option ℕ
 delivery_at wiring r vector = delivery_by wiring r.connected (register_bytes r) vector
 
 -- A space has the bytes of a peer's part after these events.
-pub record IsPart (w : World) (events : List Event) (peer : ℕ) (part : Part) (space : Contents) : Type 0 where
+pub record IsPart (w : Devices) (events : List Event) (peer : ℕ) (part : Part) (space : Contents) : Type 0 where
   pub rows : space.rows ≡ rows_of w peer part
   pub bytes : (k : ℕ) → slice_index space.bytes k ≡ bytes_after w events peer part k
 
 -- Registers are those of a peer after these events.
-pub record IsPeer (w : World) (events : List Event) (peer : ℕ) (r : Registers) : Type 0 where
+pub record IsPeer (w : Devices) (events : List Event) (peer : ℕ) (r : Registers) : Type 0 where
   pub connected : r.connected ≡ is_connected events peer
   pub config : IsPart w events peer Config r.config
   pub page : IsPart w events peer Page r.page

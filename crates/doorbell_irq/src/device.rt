@@ -3,10 +3,11 @@ ghost use Rattle.std.specs.Prelude.{◌≡◌, ◌<◌, ◌≤◌, ◌↔◌, �
 ghost use Rattle.pci_space.specs.Numbers.{number_from};
 ghost use Rattle.pci_space.specs.Fields.{is_access};
 ghost use Rattle.pci_space.specs.Wiring.{IsWiring};
-ghost use Rattle.doorbell_irq.specs.Events.{World, Event, ConfigWritten, RegisterWritten, MsixWritten, WasReset, WasDisconnected, WasConnected, Config, vector_count};
-ghost use Rattle.doorbell_irq.specs.DeviceRules.{bytes_after, effect_of, register_at, msix_at};
+ghost use Rattle.doorbell_irq.specs.Events.{Devices, Event, ConfigWritten, RegisterWritten, MsixWritten, WasReset, WasDisconnected, WasConnected, Config, vector_count};
+ghost use Rattle.doorbell_irq.specs.DeviceRules.{bytes_after, effect_of, reset_event, register_at, msix_at};
 ghost use Rattle.doorbell_irq.specs.Stands.{Stands, peer_count};
 
+use crate::doorbell::REGISTER_STATE;
 use crate::effect::Effect;
 use crate::registers::Registers;
 use crate::trigger::deliver;
@@ -26,13 +27,13 @@ pub struct Device {
 }
 
 impl Model for Device {
-    ghost use Rattle.doorbell_irq.specs.Devices.{Devices, IsDevices};
+    ghost use Rattle.doorbell_irq.specs.DeviceView.{DeviceView, IsDeviceView};
 
-    ghost Value = { Devices };
+    ghost Value = { DeviceView };
 
     ghost view = { λ d. record { peers = d.peers; wiring = d.wiring; registers = d.registers } };
 
-    ghost invariant = { λ d. IsDevices (record { peers = d.peers; wiring = d.wiring; registers = d.registers }) };
+    ghost invariant = { λ d. IsDeviceView (record { peers = d.peers; wiring = d.wiring; registers = d.registers }) };
 }
 
 impl Device {
@@ -59,7 +60,7 @@ impl Device {
     pub fn config_read(&self, peer: u32, offset: u16, width: u16) -> Result<u32, BadAccess>
         requires { peer < peer_count self.now }
         ensures allowed { IsOk result ↔ IsTrue (is_access 256 offset width) }
-        ensures value { (w : World) (events : List Event) → Stands w events self.now →
+        ensures value { (w : Devices) (events : List Event) → Stands w events self.now →
             IfOk result (λ v. v ≡ number_from (bytes_after w events peer Config) offset width) }
         ensures refused { IfErr result (λ e. e ≡ record { offset = offset; width = width }) }
     {
@@ -76,7 +77,7 @@ impl Device {
     ) -> Result<(), BadAccess>
         requires { peer < peer_count self.old }
         ensures allowed { IsOk result ↔ IsTrue (is_access 256 offset width) }
-        ensures written { (w : World) (events : List Event) → Stands w events self.old →
+        ensures written { (w : Devices) (events : List Event) → Stands w events self.old →
             OnOk result (Stands w (ConfigWritten peer offset width value ∷ events) self.new) }
         ensures refused { IfErr result (λ e. (e ≡ record { offset = offset; width = width }) × (self.new ≡ self.old)) }
         ensures peers { peer_count self.new ≡ peer_count self.old }
@@ -87,7 +88,7 @@ impl Device {
     /// Reads a register of a peer: an aligned 32-bit word of its register page, and 0 at every other offset.
     pub fn register_read(&self, peer: u32, offset: u32) -> u32
         requires { peer < peer_count self.now }
-        ensures { (w : World) (events : List Event) → Stands w events self.now → result ≡ register_at (bytes_after w events peer) offset }
+        ensures { (w : Devices) (events : List Event) → Stands w events self.now → result ≡ register_at (bytes_after w events peer) offset }
     {
         self.registers[peer as usize].read_register(offset)
     }
@@ -96,13 +97,13 @@ impl Device {
     /// other offset ignores it.
     pub fn register_write(&mut self, peer: u32, offset: u32, value: u32) -> Effect
         requires { peer < peer_count self.old }
-        ensures effect { (w : World) (events : List Event) → Stands w events self.old → result ≡ effect_of w events (RegisterWritten peer offset value) }
-        ensures stands { (w : World) (events : List Event) → Stands w events self.old → Stands w (RegisterWritten peer offset value ∷ events) self.new }
+        ensures effect { (w : Devices) (events : List Event) → Stands w events self.old → result ≡ effect_of w events (RegisterWritten peer offset value) }
+        ensures stands { (w : Devices) (events : List Event) → Stands w events self.old → Stands w (RegisterWritten peer offset value ∷ events) self.new }
         ensures peers { peer_count self.new ≡ peer_count self.old }
     {
         let trigger = self.registers[peer as usize].write_register(peer, offset, value);
         Effect {
-            state: (offset == 0x10).then_some(value),
+            state: (offset == REGISTER_STATE).then_some(value),
             deliveries: deliver(&mut self.registers[..], self.peers, self.wiring, trigger),
         }
     }
@@ -110,7 +111,7 @@ impl Device {
     /// Reads the MSI-X region of a peer: an aligned 32-bit word of an entry of its table, and 0 at every other offset.
     pub fn msix_read(&self, peer: u32, offset: u32) -> u32
         requires { peer < peer_count self.now }
-        ensures { (w : World) (events : List Event) → Stands w events self.now → result ≡ msix_at w.wiring (bytes_after w events peer) offset }
+        ensures { (w : Devices) (events : List Event) → Stands w events self.now → result ≡ msix_at w.wiring (bytes_after w events peer) offset }
     {
         self.registers[peer as usize].read_entry(self.wiring, offset)
     }
@@ -118,7 +119,7 @@ impl Device {
     /// Writes the MSI-X region of a peer. Every offset but an aligned word of an entry ignores it.
     pub fn msix_write(&mut self, peer: u32, offset: u32, value: u32)
         requires { peer < peer_count self.old }
-        ensures stands { (w : World) (events : List Event) → Stands w events self.old → Stands w (MsixWritten peer offset value ∷ events) self.new }
+        ensures stands { (w : Devices) (events : List Event) → Stands w events self.old → Stands w (MsixWritten peer offset value ∷ events) self.new }
         ensures peers { peer_count self.new ≡ peer_count self.old }
     {
         self.registers[peer as usize].write_entry(self.wiring, offset, value);
@@ -127,25 +128,31 @@ impl Device {
     /// Gives all registers of a peer their reset values. Its State is 0 then, and the others are triggered where it was another.
     pub fn reset(&mut self, peer: u32) -> Effect
         requires { peer < peer_count self.old }
-        ensures effect { (w : World) (events : List Event) → Stands w events self.old → result ≡ effect_of w events (WasReset peer) }
-        ensures stands { (w : World) (events : List Event) → Stands w events self.old → Stands w (WasReset peer ∷ events) self.new }
+        ensures effect { (w : Devices) (events : List Event) → Stands w events self.old → result ≡ effect_of w events (WasReset peer) }
+        ensures stands { (w : Devices) (events : List Event) → Stands w events self.old → Stands w (WasReset peer ∷ events) self.new }
         ensures peers { peer_count self.new ≡ peer_count self.old }
     {
-        let trigger = self.registers[peer as usize].reset(peer);
-        Effect {
-            state: Some(0),
-            deliveries: deliver(&mut self.registers[..], self.peers, self.wiring, trigger),
-        }
+        self.reset_by(peer, false)
     }
 
     /// Resets a peer and disconnects it: nothing is delivered to it until it is connected again.
     pub fn disconnect(&mut self, peer: u32) -> Effect
         requires { peer < peer_count self.old }
-        ensures effect { (w : World) (events : List Event) → Stands w events self.old → result ≡ effect_of w events (WasDisconnected peer) }
-        ensures stands { (w : World) (events : List Event) → Stands w events self.old → Stands w (WasDisconnected peer ∷ events) self.new }
+        ensures effect { (w : Devices) (events : List Event) → Stands w events self.old → result ≡ effect_of w events (WasDisconnected peer) }
+        ensures stands { (w : Devices) (events : List Event) → Stands w events self.old → Stands w (WasDisconnected peer ∷ events) self.new }
         ensures peers { peer_count self.new ≡ peer_count self.old }
     {
-        let trigger = self.registers[peer as usize].disconnect(peer);
+        self.reset_by(peer, true)
+    }
+
+    /// Resets a peer, which may disconnect it.
+    fn reset_by(&mut self, peer: u32, disconnects: bool) -> Effect
+        requires { peer < peer_count self.old }
+        ensures effect { (w : Devices) (events : List Event) → Stands w events self.old → result ≡ effect_of w events (reset_event disconnects peer) }
+        ensures stands { (w : Devices) (events : List Event) → Stands w events self.old → Stands w (reset_event disconnects peer ∷ events) self.new }
+        ensures peers { peer_count self.new ≡ peer_count self.old }
+    {
+        let trigger = self.registers[peer as usize].reset(peer, disconnects);
         Effect {
             state: Some(0),
             deliveries: deliver(&mut self.registers[..], self.peers, self.wiring, trigger),
@@ -155,7 +162,7 @@ impl Device {
     /// Connects a peer again, at reset. Nobody is triggered: a peer that was disconnected has State 0 already.
     pub fn connect(&mut self, peer: u32)
         requires { peer < peer_count self.old }
-        ensures stands { (w : World) (events : List Event) → Stands w events self.old → Stands w (WasConnected peer ∷ events) self.new }
+        ensures stands { (w : Devices) (events : List Event) → Stands w events self.old → Stands w (WasConnected peer ∷ events) self.new }
         ensures peers { peer_count self.new ≡ peer_count self.old }
     {
         self.registers[peer as usize].connect();

@@ -1,3 +1,4 @@
+//! What a call of a device does besides changing registers.
 use arrayvec::ArrayVec;
 
 /// An interrupt that came to a peer.

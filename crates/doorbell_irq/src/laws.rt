@@ -1,19 +1,26 @@
 //! The rules in plain words, as laws of the definitions.
 ghost use Rattle.std.specs.Prelude.{◌≡◌, ◌<◌, ◌^◌, ℕ, Bool, true, false, List, ◌∷◌, Some, is_some};
-ghost use Rattle.doorbell_irq.specs.Events.{World, Event, RegisterWritten, WasReset};
+ghost use Rattle.doorbell_irq.specs.Events.{Devices, Event, RegisterWritten, WasReset, state_register, doorbell_word, doorbell_target, doorbell_vector};
 ghost use Rattle.doorbell_irq.specs.DeviceRules.{state_in, is_enabled, is_one_shot, delivery_of, is_connected, bytes_after};
 
 /// A State that was written reads back, and a reset makes it 0. This function is that law.
 pub fn state_is_what_was_written()
-    ensures written { (w : World) (events : List Event) (peer value : ℕ) → value < 2 ^ 32 →
-        state_in (bytes_after w (RegisterWritten peer 0x10 value ∷ events) peer) ≡ value }
-    ensures reset { (w : World) (events : List Event) (peer : ℕ) → state_in (bytes_after w (WasReset peer ∷ events) peer) ≡ 0 }
+    ensures written { (w : Devices) (events : List Event) (peer value : ℕ) → value < 2 ^ 32 →
+        state_in (bytes_after w (RegisterWritten peer state_register value ∷ events) peer) ≡ value }
+    ensures reset { (w : Devices) (events : List Event) (peer : ℕ) → state_in (bytes_after w (WasReset peer ∷ events) peer) ≡ 0 }
 {}
 
 /// An interrupt that comes to a peer in one-shot mode turns its interrupts off. This function is that law.
 pub fn one_shot_turns_interrupts_off()
-    ensures { (w : World) (events : List Event) (event : Event) (peer : ℕ) →
+    ensures { (w : Devices) (events : List Event) (event : Event) (peer : ℕ) →
         is_some (delivery_of w.wiring (is_connected events) (bytes_after w events) event peer) ≡ true →
         is_one_shot (bytes_after w events peer) ≡ true →
         is_enabled (bytes_after w (event ∷ events) peer) ≡ false }
+{}
+
+/// A word of the Doorbell has the target and the vector that it was made of, and is made of those that it has. This function is that law.
+pub fn doorbell_words_have_two_halves()
+    ensures target { (target vector : ℕ) → vector < 2 ^ 16 → doorbell_target (doorbell_word target vector) ≡ target }
+    ensures vector { (target vector : ℕ) → vector < 2 ^ 16 → doorbell_vector (doorbell_word target vector) ≡ vector }
+    ensures word { (word : ℕ) → doorbell_word (doorbell_target word) (doorbell_vector word) ≡ word }
 {}

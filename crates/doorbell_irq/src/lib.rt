@@ -4,14 +4,20 @@
 #![tactic(auto)]
 
 mod device;
+mod doorbell;
 mod effect;
 mod laws;
 mod registers;
 mod trigger;
 
 pub use device::Device;
+pub use doorbell::{
+    REGISTER_DOORBELL, REGISTER_STATE, doorbell_target, doorbell_vector, doorbell_word,
+};
 pub use effect::{Delivery, Effect};
-pub use laws::{one_shot_turns_interrupts_off, state_is_what_was_written};
+pub use laws::{
+    doorbell_words_have_two_halves, one_shot_turns_interrupts_off, state_is_what_was_written,
+};
 
 #[cfg(test)]
 mod tests;

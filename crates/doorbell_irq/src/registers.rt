@@ -1,5 +1,5 @@
 //! The registers of one peer.
-ghost use Rattle.std.specs.Prelude.{◌≡◌, ◌<◌, ◌≤◌, ◌^◌, ◌↔◌, ℕ, true, false, [], None, Some, slice_index, IsOk, IsTrue, OnOk, IfErr};
+ghost use Rattle.std.specs.Prelude.{◌≡◌, ◌<◌, ◌≤◌, ◌^◌, ◌↔◌, if◌then◌else◌, ℕ, true, false, [], None, Some, slice_index, IsOk, IsTrue, OnOk, IfErr};
 ghost use Rattle.pci_space.specs.Fields.{is_access, reset_byte, table_fault};
 ghost use Rattle.pci_space.specs.Wiring.{IsWiring};
 ghost use Rattle.pci_space.specs.Device.{row};
@@ -8,6 +8,7 @@ ghost use Rattle.doorbell_irq.specs.DeviceRules.{bit, state_in, is_enabled, is_o
 ghost use Rattle.doorbell_irq.specs.Registers.{register_bytes, delivery_at, Writes, Takes, IsPeer, IsReset};
 ghost use Rattle.doorbell_irq.specs.Triggers.{vector_at};
 
+use crate::doorbell::{REGISTER_DOORBELL, REGISTER_STATE};
 use crate::trigger::Trigger;
 use pci_space::{BadAccess, ConfigSpace, Field, FieldTable, Space, Wiring, device_space};
 use section_map::Geometry;
@@ -23,11 +24,13 @@ const PRIVILEGED_CONTROL: u16 = 0x43;
 const MESSAGE_CONTROL: u16 = 0x62;
 
 /// Offsets in the register page.
-const INTERRUPT_CONTROL: u16 = 0x08;
+const REGISTER_INTERRUPT_CONTROL: u32 = 0x08;
 
-const DOORBELL: u16 = 0x0C;
+const INTERRUPT_CONTROL: u16 = REGISTER_INTERRUPT_CONTROL as u16;
 
-const STATE: u16 = 0x10;
+const DOORBELL: u16 = REGISTER_DOORBELL as u16;
+
+const STATE: u16 = REGISTER_STATE as u16;
 
 /// Offset of Vector Control in an entry of the MSI-X table.
 const VECTOR_CONTROL: u16 = 0x0C;
@@ -55,24 +58,17 @@ impl Registers {
         }
     }
 
-    /// Resets this peer, and answers whom its new State triggers.
-    pub(crate) fn reset(&mut self, peer: u32) -> Trigger
-        ensures reset { IsReset self.old self.old.connected self.new }
+    /// Resets this peer, which disconnects it or leaves its connection as it is. The result is whom its new State triggers.
+    pub(crate) fn reset(&mut self, peer: u32, disconnects: bool) -> Trigger
+        ensures reset { IsReset self.old (if disconnects then false else self.old.connected) self.new }
         ensures triggers { (other : ℕ) → vector_at result other ≡ vector_by (state_in (register_bytes self.old)) peer 0 other }
     {
         let old = self.state();
         self.clear();
+        if disconnects {
+            self.connected = false;
+        }
         Trigger::by_state(peer, old, 0)
-    }
-
-    /// Resets this peer and disconnects it, and answers whom its new State triggers.
-    pub(crate) fn disconnect(&mut self, peer: u32) -> Trigger
-        ensures reset { IsReset self.old false self.new }
-        ensures triggers { (other : ℕ) → vector_at result other ≡ vector_by (state_in (register_bytes self.old)) peer 0 other }
-    {
-        let trigger = self.reset(peer);
-        self.connected = false;
-        trigger
     }
 
     /// Connects this peer, at reset.
@@ -139,18 +135,18 @@ impl Registers {
         self.config.write(offset, width, value)
     }
 
-    /// Writes a register of this peer, and answers whom that triggers.
+    /// Writes a register of this peer. The result is whom that triggers.
     pub(crate) fn write_register(&mut self, peer: u32, offset: u32, value: u32) -> Trigger
         ensures written { Writes None (page_write offset value) (λ n. None) self.old self.new }
         ensures triggers { (other : ℕ) → vector_at result other ≡ register_vector (state_in (register_bytes self.old)) peer offset value other }
     {
         match offset {
-            0x08 => {
+            REGISTER_INTERRUPT_CONTROL => {
                 let _ = self.page.write(INTERRUPT_CONTROL, 4, value);
                 Trigger::Nobody
             }
-            0x0C => Trigger::by_doorbell(value),
-            0x10 => {
+            REGISTER_DOORBELL => Trigger::by_doorbell(value),
+            REGISTER_STATE => {
                 let old = self.state();
                 let _ = self.page.write(STATE, 4, value);
                 Trigger::by_state(peer, old, value)
@@ -170,7 +166,7 @@ impl Registers {
         }
     }
 
-    /// Takes a trigger, if there is one, and answers the vector that came with it. A trigger that the registers don't let
+    /// Takes a trigger, if there is one. The result is the vector that came with it; a trigger that the registers don't let
     /// through is dropped.
     pub(crate) fn take(&mut self, wiring: Wiring, trigger: Option<u32>) -> Option<u32>
         requires { vector_count wiring ≤ 64 }

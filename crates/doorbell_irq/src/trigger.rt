@@ -1,11 +1,12 @@
 //! Who is triggered by a call, and the interrupts that come of it.
-ghost use Rattle.std.specs.Prelude.{◌≡◌, ◌<◌, ◌≤◌, ◌/◌, ◌%◌, ℕ, not, ◌&&◌, ◌==◌, if◌then◌else◌, Some, None, length, slice_get};
+ghost use Rattle.std.specs.Prelude.{◌≡◌, ◌<◌, ◌≤◌, ℕ, not, ◌&&◌, ◌==◌, if◌then◌else◌, Some, None, length, slice_get};
 ghost use Rattle.doorbell_irq.specs.declared.registers.Registers.{Registers};
-ghost use Rattle.doorbell_irq.specs.Events.{vector_count};
+ghost use Rattle.doorbell_irq.specs.Events.{doorbell_target, doorbell_vector, vector_count};
 ghost use Rattle.doorbell_irq.specs.DeviceRules.{deliveries_below};
 ghost use Rattle.doorbell_irq.specs.Registers.{Takes};
 ghost use Rattle.doorbell_irq.specs.Triggers.{vector_at, delivery_among};
 
+use crate::doorbell::{doorbell_target, doorbell_vector};
 use crate::effect::Delivery;
 use crate::registers::Registers;
 use arrayvec::ArrayVec;
@@ -23,13 +24,13 @@ pub(crate) enum Trigger {
 }
 
 impl Trigger {
-    /// What a word that is written to a Doorbell triggers: the vector stands in the low 16 bits, the target in the high ones.
+    /// What a word that is written to a Doorbell triggers.
     pub(crate) fn by_doorbell(word: u32) -> Trigger
-        ensures { (peer : ℕ) → vector_at result peer ≡ (if word / 65536 == peer then Some (word % 65536) else None) }
+        ensures { (peer : ℕ) → vector_at result peer ≡ (if doorbell_target word == peer then Some (doorbell_vector word) else None) }
     {
         Trigger::At {
-            target: word / 65536,
-            vector: word % 65536,
+            target: doorbell_target(word),
+            vector: doorbell_vector(word),
         }
     }
 

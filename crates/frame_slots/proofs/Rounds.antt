@@ -71,12 +71,12 @@ leaves t descriptor is some_there (turns, some, within, same) =
     ((turns, some, omega arith, same), λ oldest. back_apart t.next (limit_of t.sizes) turns t.in_flight is.next (omega arith) is.in_flight some (sym same ∙ oldest))
 
 stays : (t : Turn) (descriptor : ℕ) → IsTurn t → 0 < t.in_flight → IsInFlight t descriptor × (descriptor ≢ oldest_of t) → IsInFlight (with_freed t) descriptor
-stays t descriptor is some_there ((turns, some, within, same), other) =
+stays t descriptor is some_there ((turns, some, within, same), not_oldest) =
     elim (cases_lt turns t.in_flight) [
       | inl fewer ↦ (turns, some, omega arith, same)
       | inr all ↦
           let at_oldest : turns ≡ t.in_flight = omega arith in
-          absurd (other (same ∙ ap (back t.next (limit_of t.sizes)) at_oldest))
+          absurd (not_oldest (same ∙ ap (back t.next (limit_of t.sizes)) at_oldest))
     ]
 
 pub goes_round : FlightGoesRound

@@ -5,7 +5,7 @@
 
 mod slots;
 
-pub use slots::{Place, Slots, flight_goes_round, slots_are_apart};
+pub use slots::{Place, Slot, Slots, flight_goes_round, slots_are_apart};
 
 #[cfg(test)]
 mod tests;

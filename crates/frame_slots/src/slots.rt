@@ -6,12 +6,17 @@ ghost use Rattle.frame_slots.specs.Turns.{IsTurn, IsInFlight, oldest_of, slot_at
 use split_ring::{Queue, queues_are_laid_out};
 use std::marker::Model;
 
-/// Where a frame is put: its descriptor, and the byte of the section at which the slot of that descriptor begins.
+/// Where a frame is put: a descriptor and its slot.
 #[derive(Clone, Copy, Debug, PartialEq, Eq)]
-pub struct Place {
+pub struct Slot {
+    /// The number of the descriptor.
     pub descriptor: u32,
+    /// The byte of the section at which its slot begins.
     pub address: u32,
 }
+
+/// The name of a slot in the fixed public surface.
+pub type Place = Slot;
 
 /// The descriptors of a section, with their slots. Frames are freed in the order in which they were placed.
 #[derive(Clone, Copy, Debug)]
@@ -47,13 +52,13 @@ impl Slots {
     }
 
     /// Takes the next descriptor for a frame of `len` bytes. None where as many frames as may be are in flight.
-    pub fn place(&mut self, len: u32) -> Option<Place>
+    pub fn place(&mut self, len: u32) -> Option<Slot>
         requires least { 14 ≤ len }
         requires most { len ≤ self.old.sizes.mtu + 18 }
         ensures taken { MatchOption result ((self.old.in_flight ≡ limit_of self.old.sizes) × (self.new ≡ self.old))
-            (λ p. (self.old.in_flight < limit_of self.old.sizes) × (p ≡ slot_at self.old.sizes self.old.next) × (self.new ≡ with_placed self.old)) }
-        ensures alone { IfSome result (λ p. ¬ IsInFlight self.old p.descriptor) }
-        ensures room { IfSome result (λ p. p.address + len ≤ self.old.sizes.out) }
+            (λ slot. (self.old.in_flight < limit_of self.old.sizes) × (slot ≡ slot_at self.old.sizes self.old.next) × (self.new ≡ with_placed self.old)) }
+        ensures alone { IfSome result (λ slot. ¬ IsInFlight self.old slot.descriptor) }
+        ensures room { IfSome result (λ slot. slot.address + len ≤ self.old.sizes.out) }
     {
         let limit = self.queue.limit();
         if self.in_flight == limit {
@@ -63,7 +68,7 @@ impl Slots {
         let address = self.queue.payload() + self.queue.slot() * descriptor;
         self.next = (descriptor + 1) % limit;
         self.in_flight += 1;
-        Some(Place {
+        Some(Slot {
             descriptor,
             address,
         })

@@ -1,13 +1,14 @@
+//! Descriptors and slots as they go round.
 ghost use Rattle.std.specs.Prelude.{◌<◌};
 
-use crate::{Place, Slots, flight_goes_round, slots_are_apart};
+use crate::{Slot, Slots, flight_goes_round, slots_are_apart};
 use split_ring::Queue;
 
-/// The place of descriptor `i` in a section of 16,384 bytes for an MTU of 256: slots of 320 bytes stand from byte 1,792 on.
-fn slot(i: u32) -> Option<Place>
+/// The slot of descriptor `i` in a section of 16,384 bytes for an MTU of 256: slots of 320 bytes stand from byte 1,792 on.
+fn slot(i: u32) -> Option<Slot>
     requires { i < 45 }
 {
-    Some(Place {
+    Some(Slot {
         descriptor: i,
         address: 1_792 + 320 * i,
     })

@@ -12,11 +12,11 @@ use Rattle.call_grammar.specs.Places.{Place, Closed, remaining}
 use Rattle.link_machine.specs.LinkMachine.{fresh_side}
 use Rattle.call_grammar.proofs.OfferLists.{decide}
 use Rattle.call_grammar.proofs.Reaching.{reaching}
-use Rattle.pair_calls.specs.Ground as pair
-use Rattle.pair_calls.specs.Both.{OnlyComes}
-use Rattle.pair_calls.specs.Sides.{SideIs}
-use Rattle.pair_calls.proofs.Kept.{kept}
-use Rattle.pair_calls.proofs.AllRows.{follow_lem}
+use Rattle.ends_pair.specs.Ground as pair
+use Rattle.ends_pair.specs.Steps.{OnlyComes}
+use Rattle.ends_pair.specs.Sides.{SideIs}
+use Rattle.ends_pair.proofs.WholeKept.{whole_kept}
+use Rattle.ends_pair.proofs.RowsKept.{follow_lem}
 use Rattle.lawful_history.specs.declared.line.Line.{Line}
 use Rattle.lawful_history.specs.declared.line.Line.TheVariants as line
 use Rattle.lawful_history.specs.Schedule.{Event, Asked, Automated, Stormed, Turned, Acted, WasReset, Reached, Loses, Repeated, event_peer, schedule}
@@ -196,10 +196,10 @@ ran_at_first world = record {
   good = good_at_first world;
   places = λ p. Closed;
   stands = record {
-    holds = kept.starts (ground_of world) (is_link world) (λ at. 0) (ends_of (beginning world)) (λ p. Closed) (λ w. refl) (λ p. ap (λ (x : Peer). x.end) (start p)) (λ p. refl);
+    holds = whole_kept.starts (ground_of world) (is_link world) (λ at. 0) (ends_of (beginning world)) (λ p. Closed) (λ w. refl) (λ p. ap (λ (x : Peer). x.end) (start p)) (λ p. refl);
     sides = λ p below honest. subst (λ (x : Peer). SideIs x.end Closed fresh_side) (sym (start p)) follow_lem.starts;
     states = λ p below. refl;
-    calls = λ p below honest. record { written = tt; reads = tt };
+    reads = λ p below honest. tt;
     settled = tt;
     fine = tt;
   };

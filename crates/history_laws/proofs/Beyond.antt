@@ -1,5 +1,5 @@
 -- A read out of range is refused on its step.
-use Rattle.std.proofs.Common.{◌≡◌, ◌≢◌, ℕ, suc, ◌+◌, ◌-◌, ◌/◌, ◌%◌, ◌<◌, ◌≤◌, false, List, [], ◌∷◌, ◌++◌, length, refl, sym, ◌∙◌, ap, subst, arith}
+use Rattle.std.proofs.Common.{◌≡◌, ◌≢◌, ℕ, ◌+◌, ◌-◌, ◌/◌, ◌%◌, ◌<◌, ◌≤◌, false, List, [], ◌∷◌, ◌++◌, length, refl, sym, ◌∙◌, ap, subst, arith}
 use mathlib.Core.Logic.{dite}
 use native.Mathlib.Decide.{dec_lt}
 use Rattle.std.specs.Prelude.{◌==◌, nat_le, if◌then◌else◌}
@@ -21,17 +21,13 @@ use Rattle.call_grammar.specs.Places.{Place, Closed, AtState, Clearing, Setting,
 use Rattle.link_machine.specs.LinkMachine.{Side}
 use Rattle.call_grammar.proofs.OfferLists.{no}
 use Rattle.call_grammar.proofs.PollLists.{entry_fails, address_fails, length_fails}
-use Rattle.link_pair.specs.Standing as pair_place
-use Rattle.link_pair.specs.Standing.{Standing, delivered_count, accepted_count}
-use Rattle.link_pair.specs.Alone.{Alone}
-use Rattle.link_pair.proofs.Words.{ring_apart}
-use Rattle.link_pair.proofs.AloneKept.{within_at}
-use Rattle.pair_calls.specs.Ground.{Ground, IsGround, who_of, layout_of, StandsAs}
-use Rattle.pair_calls.specs.Sides.{SideIs}
-use Rattle.pair_calls.proofs.Grounds.{numbers}
+use Rattle.ends_pair.specs.Ground.{Ground, IsGround, who_of}
+use Rattle.ends_pair.specs.Alone.{Alone}
+use Rattle.ends_pair.specs.Sides.{SideIs}
+use Rattle.ends_pair.proofs.Fields.{numbers, ring_apart}
 use Rattle.history_laws.specs.Reads.{Got, got, entry_read, low_read, high_read, length_read, flags_read, IsReadBeyond}
 use Rattle.history_laws.proofs.ReadPlaces.{ReadsAre}
-use Rattle.history_laws.proofs.MarkFacts.{accepted_number, delivered_number, unmarked}
+use Rattle.history_laws.proofs.MarkFacts.{accepted_number, delivered_number}
 
 -- The last of some reads
 
@@ -246,19 +242,18 @@ refused_as : (marks : List Mark) (field : FieldName) (value refused : ℕ) → m
 refused_as marks field value refused is e = is ∙ ap (refusal field) (sym e)
 
 -- what is known of the end and its call
-record Facts (ground : Ground) (p : ℕ) (memory : ℕ → ℕ) (end : End) (s : Standing) (side : Side) (reads : List Got) (place : Place) : Type 0 where
-  stands : StandsAs ground p memory end place s
-  alone : Alone (layout_of ground) memory p s
+record Facts (ground : Ground) (p : ℕ) (memory : ℕ → ℕ) (end : End) (side : Side) (reads : List Got) (place : Place) : Type 0 where
+  alone : Alone ground memory p end place
   si : SideIs end place side
   reads_are : ReadsAre (who_of ground p) place reads
 
-module _ (ground : Ground) (p : ℕ) (memory : ℕ → ℕ) (end : End) (s : Standing) (side : Side) (reads : List Got) (value : ℕ) (word : ℕ) (field : FieldName) (refused : ℕ) (is : IsGround ground) where
+module _ (ground : Ground) (p : ℕ) (memory : ℕ → ℕ) (end : End) (side : Side) (reads : List Got) (value : ℕ) (word : ℕ) (field : FieldName) (refused : ℕ) (is : IsGround ground) where
   Refuses : Place → Type 0
-  Refuses place = Facts ground p memory end s side reads place → access_at (who_of ground p) place ≡ access.Read word → Last (who_of ground p) side reads word value field refused → FieldWord (who_of ground p) field word →
+  Refuses place = Facts ground p memory end side reads place → access_at (who_of ground p) place ≡ access.Read word → Last (who_of ground p) side reads word value field refused → FieldWord (who_of ground p) field word →
       marks_at (who_of ground p) place value ≡ refusal field refused
 
-  number_of : (place : Place) (number : ℕ) → StandsAs ground p memory end place s → SideIs end place side → number ≡ delivered_count s → number ≡ length side.delivered
-  number_of place number stands si e = e ∙ delivered_number ground p memory end place s side side stands si refl
+  number_of : (place : Place) (number : ℕ) → SideIs end place side → number ≡ length end.delivered → number ≡ length side.delivered
+  number_of place number si e = e ∙ delivered_number end place side side si refl
 
   avail_index_beyond : (taken : ℕ) → Refuses (AtAvailIndex taken)
   unfolding Refuses Last
@@ -267,7 +262,7 @@ module _ (ground : Ground) (p : ℕ) (memory : ℕ → ℕ) (end : End) (s : Sta
       let count = published_by taken value in
       let only = only_avail_index who field (subst (FieldWord who field) (read_word _ word at) there) in
       at_field who side reads word value field field_name.AvailIndex refused (marks_at who (AtAvailIndex taken) value) only
-      (λ l. let n = number_of (AtAvailIndex taken) taken f.stands f.si f.stands.at.2 in
+      (λ l. let n = number_of (AtAvailIndex taken) taken f.si f.alone.holds.1 in
       let beyond : ¬ IsAvailIndex ground.sizes (taken % 65536) (high_half value) = subst (λ (k : ℕ). ¬ IsAvailIndex ground.sizes (k % 65536) (high_half value)) (sym n) (subst (λ (r : ℕ). ¬ IsAvailIndex ground.sizes (length side.delivered % 65536) r) l.1 l.2) in
       refused_as _ field_name.AvailIndex (high_half value) refused (no (nat_le count (size_of ground.sizes)) (look_marks count) (refusal field_name.AvailIndex (high_half value)) (test_fails count (size_of ground.sizes) beyond)) l.1) last
 
@@ -277,12 +272,8 @@ module _ (ground : Ground) (p : ℕ) (memory : ℕ → ℕ) (end : End) (s : Sta
       let who = who_of ground p in
       let count = returned_by freed value in
       let only = only_used_index who field (subst (FieldWord who field) (read_word _ word at) there) in
-      let run = f.stands.at.1.0.run in
-      let two : 2 ≤ s.phase = omega arith in
-      let mark = sym f.stands.mark ∙ unmarked ground p memory s f.alone run in
-      let counted = f.stands.freed two mark in
-      let freed_is : freed ≡ side.freed = let e = f.stands.at.2 in let g = f.si.freed in omega arith in
-      let number : job.number ≡ length side.accepted = f.stands.at.1.0.number ∙ accepted_number ground p memory end (AtUsedIndex job freed) s side side f.stands f.si refl in
+      let freed_is : freed ≡ side.freed = f.alone.holds.2 ∙ sym f.si.freed in
+      let number : job.number ≡ length side.accepted = f.alone.holds.1.number ∙ accepted_number end (AtUsedIndex job freed) side side f.si refl in
       at_field who side reads word value field field_name.UsedIndex refused (marks_at who (AtUsedIndex job freed) value) only
       (λ l. let beyond : ¬ IsUsedIndex (side.freed % 65536) (high_half value) (length side.accepted - side.freed) = subst (λ (r : ℕ). ¬ IsUsedIndex (side.freed % 65536) r (length side.accepted - side.freed)) l.1 l.2 in
       let mine : ¬ IsUsedIndex (freed % 65536) (high_half value) (job.number - freed) =
@@ -301,13 +292,7 @@ module _ (ground : Ground) (p : ℕ) (memory : ℕ → ℕ) (end : End) (s : Sta
       let who = who_of ground p in
       let b = numbers ground is in let least = b.size_least in
       let only = only_id who (entry_of who freed) (mod_below freed (size_of ground.sizes) (omega arith)) field (subst (FieldWord who field) (read_word _ word at) there) in
-      let run = f.stands.at.1.0.run in
-      let two : 2 ≤ s.phase = omega arith in
-      let mark = sym f.stands.mark ∙ unmarked ground p memory s f.alone run in
-      let counted = f.stands.freed two mark in
-      let within = within_at (pair_place.Reclaiming (suc more)) f.stands.at.0 f.alone in
-      let room = f.alone.room in
-      let e = f.stands.at.2 in let g = f.si.freed in
+      let all = f.alone.holds.2 in let within = f.alone.holds.3 in let below = f.alone.freed in let g = f.si.freed in
       at_field who side reads word value field field_name.UsedId refused (marks_at who (AtUsedId job freed more) value) only
       (λ l. let words : who.theirs + word_place ground.sizes (Id (entry_of who freed)) ≡ who.theirs + word_place ground.sizes (Id (entry_of who l.0)) = sym (read_word _ word at) ∙ l.3 in
       let place : entry_of who l.0 ≡ entry_of who freed = omega arith in
@@ -323,7 +308,7 @@ module _ (ground : Ground) (p : ℕ) (memory : ℕ → ℕ) (end : End) (s : Sta
       let b = numbers ground is in let least = b.size_least in
       let only = only_entry who (entry_of who number) (mod_below number (size_of ground.sizes) (omega arith)) field (subst (FieldWord who field) (read_word _ word at) there) in
       at_field who side reads word value field field_name.AvailEntry refused (marks_at who (AtEntry number more) value) only
-      (λ l. let n = number_of (AtEntry number more) number f.stands f.si f.stands.at.2 in
+      (λ l. let n = number_of (AtEntry number more) number f.si f.alone.holds.1 in
       let entry = entry_half (entry_of who number) value in
       let same : refused ≡ entry = l.1 ∙ ap (λ (k : ℕ). entry_half (entry_of who k) value) (sym n) in
       refused_as _ field_name.AvailEntry entry refused (no (is_entry ground.sizes entry) [] (refusal field_name.AvailEntry entry) (entry_fails ground.sizes entry (subst (λ (r : ℕ). ¬ IsAvailEntry ground.sizes r) same l.2))) same) last
@@ -409,10 +394,10 @@ module _ (ground : Ground) (p : ℕ) (memory : ℕ → ℕ) (end : End) (s : Sta
   by_place (GivingIndex number more) f e l there = absurd (cc)
   by_place RingingPoll f e l there = absurd (cc)
 
-  pub refuses : (place : Place) → StandsAs ground p memory end place s → Alone (layout_of ground) memory p s → SideIs end place side → ReadsAre (who_of ground p) place reads → access_at (who_of ground p) place ≡ access.Read word →
+  pub refuses : (place : Place) → Alone ground memory p end place → SideIs end place side → ReadsAre (who_of ground p) place reads → access_at (who_of ground p) place ≡ access.Read word →
       IsReadBeyond (who_of ground p) side (reads ++ got word value ∷ []) field refused → marks_at (who_of ground p) place value ≡ refusal field refused
   unfolding Refuses
-  refuses place stands alone si reads_are at beyond = by_place place record { stands = stands; alone = alone; si = si; reads_are = reads_are } at last (word_of_last (who_of ground p) side reads word value field refused some last)
+  refuses place alone si reads_are at beyond = by_place place record { alone = alone; si = si; reads_are = reads_are } at last (word_of_last (who_of ground p) side reads word value field refused some last)
     where
       some : 0 < size_of ground.sizes
       some = let least = (numbers ground is).size_least in omega arith

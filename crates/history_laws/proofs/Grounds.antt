@@ -3,7 +3,7 @@ use Rattle.std.proofs.Common.{◌≡◌, ℕ, zero, suc, ◌-◌, ◌<◌, refl,
 use Rattle.section_map.specs.Geometry.{section_start}
 use Rattle.scenario_text.specs.Scenario.{World}
 use Rattle.call_grammar.specs.Calls.{Who}
-use Rattle.pair_calls.specs.Ground as pair
+use Rattle.ends_pair.specs.Ground as pair
 use Rattle.lawful_history.specs.Sides.{partner, traffic_vector, who_of}
 use Rattle.history_laws.proofs.Proper.{ground_of}
 use Rattle.history_laws.proofs.Outside.{section_is}

@@ -1,9 +1,8 @@
 -- What stands where the marks of a step do: an accepted frame is spelled, a delivered one was read, and a refused value too.
-use Rattle.std.proofs.Common.{◌≡◌, ℕ, ◌+◌, ◌-◌, ◌%◌, ◌<◌, Bool, true, false, List, [], ◌∷◌, ◌++◌, length, refl, sym, ◌∙◌, ap, subst, arith, length-append, ◌≢◌, ◌≤◌, suc}
+use Rattle.std.proofs.Common.{◌≡◌, ℕ, ◌+◌, ◌-◌, ◌%◌, ◌<◌, Bool, true, false, List, [], ◌∷◌, ◌++◌, length, refl, sym, ◌∙◌, ap, subst, arith, length-append, ◌≢◌, ◌≤◌}
 use Rattle.std.specs.Prelude.{◌==◌, nat_le, if◌then◌else◌, reverse}
 use Rattle.std.specs.List.{AllByRecursion}
 use Rattle.std.proofs.lemmas.Bool.Decides.{nat_tests}
-use Rattle.std.proofs.lemmas.List.{length-map}
 use Rattle.split_ring.specs.declared.ranges.FieldName.{FieldName}
 use Rattle.split_ring.specs.declared.ranges.FieldName.TheVariants as field_name
 use Rattle.split_ring.specs.declared.steps.Access.{Access}
@@ -25,15 +24,12 @@ use Rattle.call_grammar.specs.Polls.{Item, is_entry, is_address, is_length, publ
 use Rattle.call_grammar.specs.Places.{Place, Closed, AtState, Clearing, Setting, Refusing, Downed, AtUsedIndex, AtUsedId, Filling, WritingLow, WritingHigh, WritingLength, WritingFlags, WritingEntry, WritingIndex, RingingOffer, AtAvailIndex, AtEntry, AtLow, AtHigh, AtLength, AtFlags, AtWord, GivingId, GivingLength, GivingIndex, RingingPoll, access_at, marks_at}
 use Rattle.link_machine.specs.LinkMachine.{Side}
 use Rattle.call_grammar.proofs.PollLists.{entry_denies, address_denies, length_denies}
-use Rattle.link_pair.specs.Standing as pair_place
-use Rattle.link_pair.specs.Standing.{Standing, accepted_count, delivered_count}
-use Rattle.link_pair.specs.Alone.{Alone}
-use Rattle.link_pair.proofs.AloneKept.{within_at}
-use Rattle.pair_calls.specs.Ground.{Ground, layout_of, StandsAs, Leaves, offered_frame, delivered_frame}
-use Rattle.pair_calls.specs.Ground as pair
-use Rattle.pair_calls.specs.Written.{words_of}
-use Rattle.pair_calls.specs.Sides.{SideIs}
-use Rattle.pair_calls.proofs.Spelling.{spelling}
+use Rattle.ends_pair.specs.Ground.{section_of}
+use Rattle.ends_pair.specs.Steps.{Leaves}
+use Rattle.ends_pair.specs.Alone.{Alone}
+use Rattle.ends_pair.specs.Ground as pair
+use Rattle.ends_pair.specs.Sides.{SideIs}
+use Rattle.ends_pair.proofs.WholeKept.{spelled_lem}
 use Rattle.lawful_history.specs.declared.line.Line.{Line}
 use Rattle.lawful_history.specs.declared.line.Line.TheVariants as line
 use Rattle.lawful_history.specs.Memory.{last_write}
@@ -41,8 +37,8 @@ use Rattle.history_laws.specs.Told.{side_of}
 use Rattle.history_laws.specs.Reads.{Got, got, reads_of, IsReadFrame, IsReadBeyond, entry_read}
 use Rattle.history_laws.specs.Spelled.{section_words}
 use Rattle.history_laws.proofs.Proper.{ground_of, is_ground}
-use Rattle.history_laws.proofs.ReadPlaces.{reads_taken, with_entry_word, high_taken, length_taken, flags_taken, word_taken}
-use Rattle.history_laws.proofs.Stands.{IsOpen, IsQuiet, quiet_lines}
+use Rattle.history_laws.proofs.ReadPlaces.{ReadsAre, reads_taken, with_entry_word, high_taken, length_taken, flags_taken, word_taken}
+use Rattle.history_laws.proofs.Stands.{IsQuiet, quiet_lines}
 use Rattle.history_laws.proofs.Outside.{here_is, section_is}
 use Rattle.history_laws.proofs.StepLines.{MarksRest, after_access, broken_here, stored_at}
 use Rattle.history_laws.proofs.Grounds.{who_is}
@@ -56,11 +52,10 @@ SideStays (access.Ring target vector) new old = new ≡ old
 SideStays access.Nothing new old = new ≡ old
 
 -- what is known after the access of a step, where its marks stand
-pub record AtMarks (world : World) (p : ℕ) (past older : List Line) (place : Place) (value : ℕ) (end : End) (s : Standing) : Type 0 where
-  pub stands : StandsAs (ground_of world) p (last_write past) end place s
-  pub alone : Alone (layout_of (ground_of world)) (last_write past) p s
+pub record AtMarks (world : World) (p : ℕ) (past older : List Line) (place : Place) (value : ℕ) (end : End) : Type 0 where
+  pub alone : Alone (ground_of world) (last_write past) p end place
   pub side : SideIs end place (side_of past p)
-  pub calls : IsOpen world past p place
+  pub were : ReadsAre (pair.who_of (ground_of world) p) place (reads_of past p)
   pub left : Leaves p (last_write past) (access_at (pair.who_of (ground_of world) p) place) (last_write older)
   pub stays : SideStays (access_at (pair.who_of (ground_of world) p) place) (side_of older p) (side_of past p)
   pub reads : reads_of older p ≡ reads_taken (access_at (pair.who_of (ground_of world) p) place) value (reads_of past p)
@@ -113,13 +108,11 @@ full_rest : (world : World) (older : List Line) (p : ℕ) (who : Who) (job : Job
 full_rest world older p who job freed = by_test world older p (job.number == freed + limit_of who.sizes) (Full ∷ []) [] (λ _. (tt, tt)) (λ _. tt)
 
 -- the numbers of the lists
-pub accepted_number : (ground : Ground) (p : ℕ) (memory : ℕ → ℕ) (end : End) (place : Place) (s : Standing) (side new : Side) → StandsAs ground p memory end place s → SideIs end place side → new ≡ side → accepted_count s ≡ length new.accepted
-accepted_number ground p memory end place s side new stands si e =
-    ap length stands.accepted ∙ (length-map end.accepted offered_frame ∙ (ap length (sym si.accepted) ∙ ap (λ (x : Side). length x.accepted) (sym e)))
+pub accepted_number : (end : End) (place : Place) (side new : Side) → SideIs end place side → new ≡ side → length end.accepted ≡ length new.accepted
+accepted_number end place side new si e = ap length (sym si.accepted) ∙ ap (λ (x : Side). length x.accepted) (sym e)
 
-pub delivered_number : (ground : Ground) (p : ℕ) (memory : ℕ → ℕ) (end : End) (place : Place) (s : Standing) (side new : Side) → StandsAs ground p memory end place s → SideIs end place side → new ≡ side → delivered_count s ≡ length new.delivered
-delivered_number ground p memory end place s side new stands si e =
-    sym (length-map s.delivered delivered_frame) ∙ (ap length (sym stands.delivered) ∙ (ap length (sym si.delivered) ∙ ap (λ (x : Side). length x.delivered) (sym e)))
+pub delivered_number : (end : End) (place : Place) (side new : Side) → SideIs end place side → new ≡ side → length end.delivered ≡ length new.delivered
+delivered_number end place side new si e = ap length (sym si.delivered) ∙ ap (λ (x : Side). length x.delivered) (sym e)
 
 zero_tells : (n : ℕ) → (n == 0) ≡ true → n ≡ 0
 zero_tells n test = grind (arith, nat_tests)
@@ -133,38 +126,26 @@ same_denies a b test = grind (arith, nat_tests)
 within_denies : (a b : ℕ) → nat_le a b ≡ false → ¬ (a ≤ b)
 within_denies a b test = λ within. grind (arith, nat_tests)
 
--- an end in RUN bears no mark, but where it is refusing
-sound : (b : Bool) → (b ≡ true → ⊥) → b ≡ false
-sound true wrong = absurd (wrong refl)
-sound false wrong = refl
-
-pub unmarked : (ground : Ground) (p : ℕ) (memory : ℕ → ℕ) (s : Standing) → Alone (layout_of ground) memory p s → s.phase ≡ 3 → s.refused ≡ false
-unmarked ground p memory s alone run = sound s.refused (λ refused. let rest = (alone.rests refused).0 in omega arith)
-
-module _ (world : World) (p : ℕ) (past older : List Line) (value : ℕ) (end : End) (s : Standing) (is : IsWorld world) (below : p < 2) where
+module _ (world : World) (p : ℕ) (past older : List Line) (value : ℕ) (end : End) (is : IsWorld world) (below : p < 2) where
   -- a refused value as the scenario has its peer
   refused_rest : (field : FieldName) (refused : ℕ) → IsReadBeyond (pair.who_of (ground_of world) p) (side_of older p) (reads_of older p) field refused → MarksRest world older p (refusal field refused)
   refused_rest field refused read = (subst (λ (w : Who). IsReadBeyond w (side_of older p) (reads_of older p) field refused) (sym (who_is world p below)) read, tt)
 
-  number_is : (place : Place) (number : ℕ) → number ≡ delivered_count s → AtMarks world p past older place value end s → side_of older p ≡ side_of past p → number ≡ length (side_of older p).delivered
-  number_is place number is_count a stays = is_count ∙ delivered_number (ground_of world) p (last_write past) end place s (side_of past p) (side_of older p) a.stands a.side stays
+  number_is : (place : Place) (number : ℕ) → number ≡ length end.delivered → AtMarks world p past older place value end → side_of older p ≡ side_of past p → number ≡ length (side_of older p).delivered
+  number_is place number is_count a stays = is_count ∙ delivered_number end place (side_of past p) (side_of older p) a.side stays
 
   -- the item of a poll has the number of the frames delivered
   by_number : (make : ℕ → Place) (number : ℕ) → number ≡ length (side_of older p).delivered →
-      (AtMarks world p past older (make (length (side_of older p).delivered)) value end s → MarksRest world older p (marks_at (pair.who_of (ground_of world) p) (make (length (side_of older p).delivered)) value)) →
-      AtMarks world p past older (make number) value end s → MarksRest world older p (marks_at (pair.who_of (ground_of world) p) (make number) value)
+      (AtMarks world p past older (make (length (side_of older p).delivered)) value end → MarksRest world older p (marks_at (pair.who_of (ground_of world) p) (make (length (side_of older p).delivered)) value)) →
+      AtMarks world p past older (make number) value end → MarksRest world older p (marks_at (pair.who_of (ground_of world) p) (make number) value)
   by_number make number e here =
-      subst (λ (k : ℕ). AtMarks world p past older (make k) value end s → MarksRest world older p (marks_at (pair.who_of (ground_of world) p) (make k) value)) (sym e) here
+      subst (λ (k : ℕ). AtMarks world p past older (make k) value end → MarksRest world older p (marks_at (pair.who_of (ground_of world) p) (make k) value)) (sym e) here
 
-  used_index_rest : (job : Job) (freed : ℕ) → AtMarks world p past older (AtUsedIndex job freed) value end s → nat_le (returned_by freed value) (job.number - freed) ≡ false → MarksRest world older p (refusal field_name.UsedIndex (high_half value))
+  used_index_rest : (job : Job) (freed : ℕ) → AtMarks world p past older (AtUsedIndex job freed) value end → nat_le (returned_by freed value) (job.number - freed) ≡ false → MarksRest world older p (refusal field_name.UsedIndex (high_half value))
   used_index_rest job freed a test =
-      let stands = a.stands in
-      let run = stands.at.1.0.run in
-      let two : 2 ≤ s.phase = omega arith in
-      let mark = sym stands.mark ∙ unmarked (ground_of world) p (last_write past) s a.alone run in
-      let counted = stands.freed two mark in
-      let freed_is : freed ≡ (side_of older p).freed = let e = stands.at.2 in let f = a.side.freed in let g = ap (λ (x : Side). x.freed) a.stays in omega arith in
-      let number : job.number ≡ length (side_of older p).accepted = stands.at.1.0.number ∙ accepted_number (ground_of world) p (last_write past) end (AtUsedIndex job freed) s (side_of past p) (side_of older p) stands a.side a.stays in
+      let h = a.alone.holds in
+      let freed_is : freed ≡ (side_of older p).freed = h.2 ∙ (sym a.side.freed ∙ ap (λ (x : Side). x.freed) (sym a.stays)) in
+      let number : job.number ≡ length (side_of older p).accepted = h.1.number ∙ accepted_number end (AtUsedIndex job freed) (side_of past p) (side_of older p) a.side a.stays in
       let beyond = within_denies (returned_by freed value) (job.number - freed) test in
       let beyond_here : ¬ IsUsedIndex (freed % 65536) (high_half value) (length (side_of older p).accepted - freed) = subst (λ (n : ℕ). ¬ IsUsedIndex (freed % 65536) (high_half value) (n - freed)) number beyond in
       refused_rest field_name.UsedIndex (high_half value) (
@@ -175,36 +156,30 @@ module _ (world : World) (p : ℕ) (past older : List Line) (value : ℕ) (end :
         subst (λ (k : ℕ). ¬ IsUsedIndex (k % 65536) (high_half value) (length (side_of older p).accepted - k)) freed_is beyond_here,
       )
 
-  used_id_rest : (job : Job) (freed more : ℕ) → AtMarks world p past older (AtUsedId job freed more) value end s → (value == descriptor_of (pair.who_of (ground_of world) p) freed) ≡ false → MarksRest world older p (refusal field_name.UsedId value)
+  used_id_rest : (job : Job) (freed more : ℕ) → AtMarks world p past older (AtUsedId job freed more) value end → (value == descriptor_of (pair.who_of (ground_of world) p) freed) ≡ false → MarksRest world older p (refusal field_name.UsedId value)
   used_id_rest job freed more a test =
-      let stands = a.stands in
-      let run = stands.at.1.0.run in
-      let two : 2 ≤ s.phase = omega arith in
-      let mark = sym stands.mark ∙ unmarked (ground_of world) p (last_write past) s a.alone run in
-      let counted = stands.freed two mark in
-      let within = within_at (pair_place.Reclaiming (suc more)) stands.at.0 a.alone in
-      let room = a.alone.room in
-      let e = stands.at.2 in let f = a.side.freed in let g = ap (λ (x : Side). x.freed) a.stays in
+      let all = a.alone.holds.2 in let within = a.alone.holds.3 in let low = a.alone.freed in let f = a.side.freed in let g = ap (λ (x : Side). x.freed) a.stays in
       refused_rest field_name.UsedId value (reads_of past p, freed, omega arith, omega arith, a.reads, same_denies value (freed % limit_of world.queue) test)
 
-  accept_rest : (job : Job) → AtMarks world p past older (WritingIndex job) value end s → MarksRest world older p (marks_at (pair.who_of (ground_of world) p) (WritingIndex job) value)
+  accept_rest : (job : Job) → AtMarks world p past older (WritingIndex job) value end → MarksRest world older p (marks_at (pair.who_of (ground_of world) p) (WritingIndex job) value)
   accept_rest job a =
       let ground = ground_of world in
-      let spelled = spelling.accepts ground p (last_write past) (last_write older) end job s (is_ground world is) a.stands a.left a.calls.written in
-      let number : job.number ≡ length (side_of older p).accepted = a.stands.at.1.number ∙ accepted_number ground p (last_write past) end (WritingIndex job) s (side_of past p) (side_of older p) a.stands a.side a.stays in
-      let words : words_of ground p (last_write older) ≡ section_words world older p = ap (λ (start : ℕ). λ (word : ℕ). last_write older (start + word)) (section_is world p) in (
+      let spelled = spelled_lem.accepted ground (last_write past) (last_write older) p end job (is_ground world is) below a.alone a.left in
+      let number : job.number ≡ length (side_of older p).accepted = a.alone.holds.1 ∙ accepted_number end (WritingIndex job) (side_of past p) (side_of older p) a.side a.stays in
+      let at : ℕ → ℕ → ℕ = λ start word. last_write older (start + word) in
+      let words : at (section_of ground p) ≡ section_words world older p = ap at (section_is world p) in (
         subst (λ (n : ℕ). Spells world.queue (section_words world older p) n (n % limit_of world.queue) job.frame) number
             (subst (λ (w : ℕ → ℕ). Spells world.queue w job.number (job.number % limit_of world.queue) job.frame) words spelled),
         tt,
       )
 
-  word_rest : (number more entry address bytes : ℕ) (words : List ℕ) (left : ℕ) → AtMarks world p past older (AtWord number more entry address bytes words left) value end s → (left == 0) ≡ true → MarksRest world older p (Deliver (frame_in bytes (words ++ value ∷ [])) ∷ [])
+  word_rest : (number more entry address bytes : ℕ) (words : List ℕ) (left : ℕ) → AtMarks world p past older (AtWord number more entry address bytes words left) value end → (left == 0) ≡ true → MarksRest world older p (Deliver (frame_in bytes (words ++ value ∷ [])) ∷ [])
   word_rest number more entry address bytes words left a test =
       let who = pair.who_of (ground_of world) p in
-      let r = a.calls.reads in
+      let r = a.were in
       let read : Item = record (r.0) { words = words ++ value ∷ [] } in
       let none = zero_tells left test in
-      let total = a.stands.at.3 in
+      let total = a.alone.holds.5 in
       let one = length-append words (value ∷ []) in
       let size : words_for bytes ≡ words_for read.bytes = ap words_for r.6 in
       let frame : IsReadFrame who number (reads_of older p) (frame_in bytes (words ++ value ∷ [])) = record {
@@ -213,61 +188,61 @@ module _ (world : World) (p : ℕ) (past older : List Line) (value : ℕ) (end :
         good = record { entry = r.3; address = r.5; bytes = r.7; flags = r.8; words = omega arith };
         frame_is = ap (λ (b : ℕ). frame_in b (words ++ value ∷ [])) r.6;
       } in
-      let n = number_is (AtWord number more entry address bytes words left) number a.stands.at.2 a a.stays in (
+      let n = number_is (AtWord number more entry address bytes words left) number a.alone.holds.1 a a.stays in (
         subst (λ (w : Who). IsReadFrame w (length (side_of older p).delivered) (reads_of older p) (frame_in bytes (words ++ value ∷ []))) (sym (who_is world p below))
             (subst (λ (k : ℕ). IsReadFrame who k (reads_of older p) (frame_in bytes (words ++ value ∷ []))) n frame),
         tt,
       )
 
-  avail_index_rest : (taken : ℕ) → AtMarks world p past older (AtAvailIndex taken) value end s → MarksRest world older p (marks_at (pair.who_of (ground_of world) p) (AtAvailIndex taken) value)
+  avail_index_rest : (taken : ℕ) → AtMarks world p past older (AtAvailIndex taken) value end → MarksRest world older p (marks_at (pair.who_of (ground_of world) p) (AtAvailIndex taken) value)
   avail_index_rest taken a =
       let count = published_by taken value in
-      let n = number_is (AtAvailIndex taken) taken a.stands.at.2 a a.stays in
+      let n = number_is (AtAvailIndex taken) taken a.alone.holds.1 a a.stays in
       by_test world older p (nat_le count (size_of world.queue)) (look_marks count) (refusal field_name.AvailIndex (high_half value))
       (λ _. by_test world older p (count == 0) (Look 0 ∷ Done ∷ []) (Look count ∷ []) (λ _. (tt, (tt, tt))) (λ _. (tt, tt)))
       (λ test. let beyond : ¬ IsAvailIndex world.queue (taken % 65536) (high_half value) = within_denies count (size_of world.queue) test in
       refused_rest field_name.AvailIndex (high_half value) (reads_of past p, value, a.reads, refl, subst (λ (k : ℕ). ¬ IsAvailIndex world.queue (k % 65536) (high_half value)) n beyond))
 
-  entry_rest : (more : ℕ) → AtMarks world p past older (AtEntry (length (side_of older p).delivered) more) value end s → MarksRest world older p (marks_at (pair.who_of (ground_of world) p) (AtEntry (length (side_of older p).delivered) more) value)
+  entry_rest : (more : ℕ) → AtMarks world p past older (AtEntry (length (side_of older p).delivered) more) value end → MarksRest world older p (marks_at (pair.who_of (ground_of world) p) (AtEntry (length (side_of older p).delivered) more) value)
   entry_rest more a =
       let who = pair.who_of (ground_of world) p in
       let number = length (side_of older p).delivered in
       let entry = entry_half (entry_of who number) value in
       by_test world older p (is_entry world.queue entry) [] (refusal field_name.AvailEntry entry) (λ _. tt)
-      (λ test. refused_rest field_name.AvailEntry entry (with_entry_word value, a.reads ∙ ap (λ (r : List Got). r ++ entry_read who number (with_entry_word value) ∷ []) a.calls.reads, refl, entry_denies world.queue entry test))
+      (λ test. refused_rest field_name.AvailEntry entry (with_entry_word value, a.reads ∙ ap (λ (r : List Got). r ++ entry_read who number (with_entry_word value) ∷ []) a.were, refl, entry_denies world.queue entry test))
 
-  high_rest : (more entry low : ℕ) → AtMarks world p past older (AtHigh (length (side_of older p).delivered) more entry low) value end s → MarksRest world older p (marks_at (pair.who_of (ground_of world) p) (AtHigh (length (side_of older p).delivered) more entry low) value)
+  high_rest : (more entry low : ℕ) → AtMarks world p past older (AtHigh (length (side_of older p).delivered) more entry low) value end → MarksRest world older p (marks_at (pair.who_of (ground_of world) p) (AtHigh (length (side_of older p).delivered) more entry low) value)
   high_rest more entry low a =
       let who = pair.who_of (ground_of world) p in
       let number = length (side_of older p).delivered in
       let address = address_of low value in
-      let r = a.calls.reads in
+      let r = a.were in
       by_test world older p (is_address world.queue address) [] (refusal field_name.DescAddress address) (λ _. tt)
       (λ test. refused_rest field_name.DescAddress address
       (record (r.0) { high = value }, a.reads ∙ high_taken who number value (reads_of past p) r.0 entry r.1 r.2, r.3, ap (λ (l : ℕ). address_of l value) r.4, address_denies world.queue address test))
 
-  length_rest : (more entry address : ℕ) → AtMarks world p past older (AtLength (length (side_of older p).delivered) more entry address) value end s →
+  length_rest : (more entry address : ℕ) → AtMarks world p past older (AtLength (length (side_of older p).delivered) more entry address) value end →
       MarksRest world older p (marks_at (pair.who_of (ground_of world) p) (AtLength (length (side_of older p).delivered) more entry address) value)
   length_rest more entry address a =
       let who = pair.who_of (ground_of world) p in
       let number = length (side_of older p).delivered in
-      let r = a.calls.reads in
+      let r = a.were in
       by_test world older p (is_length world.queue address value) [] (refusal field_name.DescLength value) (λ _. tt)
       (λ test. refused_rest field_name.DescLength value
       (record (r.0) { bytes = value }, a.reads ∙ length_taken who number value (reads_of past p) r.0 entry r.1 r.2, r.3, r.5, refl, subst (λ (x : ℕ). ¬ IsDescLength world.queue x value) r.4 (length_denies world.queue address value test)))
 
-  flags_rest : (more entry address bytes : ℕ) → AtMarks world p past older (AtFlags (length (side_of older p).delivered) more entry address bytes) value end s →
+  flags_rest : (more entry address bytes : ℕ) → AtMarks world p past older (AtFlags (length (side_of older p).delivered) more entry address bytes) value end →
       MarksRest world older p (marks_at (pair.who_of (ground_of world) p) (AtFlags (length (side_of older p).delivered) more entry address bytes) value)
   flags_rest more entry address bytes a =
       let who = pair.who_of (ground_of world) p in
       let number = length (side_of older p).delivered in
-      let r = a.calls.reads in
+      let r = a.were in
       by_test world older p (low_half value == 0) [] (refusal field_name.DescFlags (low_half value)) (λ _. tt)
       (λ test. refused_rest field_name.DescFlags (low_half value)
       (record (r.0) { flags_word = value }, a.reads ∙ flags_taken who number value (reads_of past p) r.0 entry r.1 r.2, r.3, r.5, r.7, refl, nonzero_tells (low_half value) test))
 
   -- the marks of the step at each place
-  pub marks_rest : (place : Place) → AtMarks world p past older place value end s → MarksRest world older p (marks_at (pair.who_of (ground_of world) p) place value)
+  pub marks_rest : (place : Place) → AtMarks world p past older place value end → MarksRest world older p (marks_at (pair.who_of (ground_of world) p) place value)
   marks_rest Closed a = tt
   marks_rest (AtState handshake) a = tick_rest world older p value (move_of handshake value)
   marks_rest (Clearing at more state) a = tt
@@ -294,11 +269,11 @@ module _ (world : World) (p : ℕ) (past older : List Line) (value : ℕ) (end :
   marks_rest (WritingIndex job) a = accept_rest job a
   marks_rest RingingOffer a = (tt, tt)
   marks_rest (AtAvailIndex taken) a = avail_index_rest taken a
-  marks_rest (AtEntry number more) a = by_number (λ k. AtEntry k more) number (number_is (AtEntry number more) number a.stands.at.2 a a.stays) (λ b. entry_rest more b) a
+  marks_rest (AtEntry number more) a = by_number (λ k. AtEntry k more) number (number_is (AtEntry number more) number a.alone.holds.1 a a.stays) (λ b. entry_rest more b) a
   marks_rest (AtLow number more entry) a = tt
-  marks_rest (AtHigh number more entry low) a = by_number (λ k. AtHigh k more entry low) number (number_is (AtHigh number more entry low) number a.stands.at.2 a a.stays) (λ b. high_rest more entry low b) a
-  marks_rest (AtLength number more entry address) a = by_number (λ k. AtLength k more entry address) number (number_is (AtLength number more entry address) number a.stands.at.2 a a.stays) (λ b. length_rest more entry address b) a
-  marks_rest (AtFlags number more entry address bytes) a = by_number (λ k. AtFlags k more entry address bytes) number (number_is (AtFlags number more entry address bytes) number a.stands.at.2 a a.stays) (λ b. flags_rest more entry address bytes b) a
+  marks_rest (AtHigh number more entry low) a = by_number (λ k. AtHigh k more entry low) number (number_is (AtHigh number more entry low) number a.alone.holds.1 a a.stays) (λ b. high_rest more entry low b) a
+  marks_rest (AtLength number more entry address) a = by_number (λ k. AtLength k more entry address) number (number_is (AtLength number more entry address) number a.alone.holds.1 a a.stays) (λ b. length_rest more entry address b) a
+  marks_rest (AtFlags number more entry address bytes) a = by_number (λ k. AtFlags k more entry address bytes) number (number_is (AtFlags number more entry address bytes) number a.alone.holds.1 a a.stays) (λ b. flags_rest more entry address bytes b) a
   marks_rest (AtWord number more entry address bytes words left) a =
       by_test world older p (left == 0) (Deliver (frame_in bytes (words ++ value ∷ [])) ∷ []) [] (λ test. word_rest number more entry address bytes words left a test) (λ _. tt)
   marks_rest (GivingId number more entry) a = tt

@@ -13,12 +13,11 @@ use Rattle.call_grammar.specs.Places.{Place}
 use Rattle.link_machine.specs.LinkMachine.{Side, MayWriteState}
 use Rattle.link_machine.specs.LinkMachine as told
 use Rattle.call_grammar.proofs.OfferLists.{yes, no}
-use Rattle.link_pair.specs.Laws.{IsUntouched}
-use Rattle.pair_calls.specs.Ground.{section_of, layout_of}
-use Rattle.pair_calls.specs.Sides.{SideIs}
-use Rattle.pair_calls.proofs.Kept.{kept}
-use Rattle.pair_calls.proofs.Spelling.{spelling}
-use Rattle.pair_calls.specs.Ground as pair
+use Rattle.ends_pair.specs.Steps.{IsUntouched}
+use Rattle.ends_pair.specs.Ground.{section_of}
+use Rattle.ends_pair.specs.Sides.{SideIs}
+use Rattle.ends_pair.proofs.WholeKept.{whole_kept}
+use Rattle.ends_pair.specs.Ground as pair
 use Rattle.history_laws.specs.Reads.{Got, got, reads_of}
 use Rattle.history_laws.proofs.ReadPlaces.{ReadsAre}
 use Rattle.lawful_history.specs.declared.line.Line.{Line}
@@ -30,7 +29,7 @@ use Rattle.history_laws.proofs.Stands.{Stands, Settled, Rests, answers}
 use Rattle.history_laws.specs.Rows.{HasRow}
 
 record Outside (world : World) (past : List Line) (line : Line) : Type 0 where
-  untouched : (q : ℕ) → q < 2 → is_link world q ≡ true → IsUntouched (layout_of (ground_of world)) (last_write past) (last_write (line ∷ past)) q
+  untouched : (q : ℕ) → q < 2 → is_link world q ≡ true → IsUntouched (ground_of world) (last_write past) (last_write (line ∷ past)) q
   sides : (q : ℕ) → q < 2 → is_link world q ≡ true → side_of (line ∷ past) q ≡ side_of past q
   states : (q : ℕ) → q < 2 → last_write past q ≡ (side_of past q).state → last_write (line ∷ past) q ≡ (side_of (line ∷ past) q).state
   reads : (q : ℕ) → q < 2 → is_link world q ≡ true → reads_of (line ∷ past) q ≡ reads_of past q
@@ -39,13 +38,10 @@ record Outside (world : World) (past : List Line) (line : Line) : Type 0 where
 
 outside_stands : (world : World) (past : List Line) (line : Line) (ends : ℕ → End) (places : ℕ → Place) → IsWorld world → Outside world past line → Stands world past ends places → Stands world (line ∷ past) ends places
 outside_stands world past line ends places is o s = record {
-  holds = kept.others (ground_of world) (is_link world) (last_write past) (last_write (line ∷ past)) ends places (is_ground world is) o.untouched s.holds;
+  holds = whole_kept.others (ground_of world) (is_link world) (last_write past) (last_write (line ∷ past)) ends places (is_ground world is) o.untouched s.holds;
   sides = λ p below honest. subst (λ (x : Side). SideIs (ends p) (places p) x) (sym (o.sides p below honest)) (s.sides p below honest);
   states = λ p below. o.states p below (s.states p below);
-  calls = λ p below honest. record {
-    written = spelling.others (ground_of world) p (last_write past) (last_write (line ∷ past)) (ends p) (places p) (s.holds.0 p) (is_ground world is) (s.holds.1.stands p below honest) (o.untouched p below honest) (s.calls p below honest).written;
-    reads = subst (λ (r : List Got). ReadsAre (pair.who_of (ground_of world) p) (places p) r) (sym (o.reads p below honest)) (s.calls p below honest).reads;
-  };
+  reads = λ p below honest. subst (λ (r : List Got). ReadsAre (pair.who_of (ground_of world) p) (places p) r) (sym (o.reads p below honest)) (s.reads p below honest);
   settled = o.settles;
   fine = ((o.fine.0, o.fine.1, answers world past line s.settled), s.fine);
 }
@@ -106,7 +102,7 @@ write_stands world past p word value ends places is no_link may = outside_stands
 
 -- a line that sets the state of such a peer
 state_untouched : (world : World) (past : List Line) (p value : ℕ) → IsWorld world → p < world.geometry.peers → is_link world p ≡ false → (q : ℕ) → q < 2 → is_link world q ≡ true →
-    IsUntouched (layout_of (ground_of world)) (last_write past) (λ at. (if p == at then value else last_write past at)) q
+    IsUntouched (ground_of world) (last_write past) (λ at. (if p == at then value else last_write past at)) q
 state_untouched world past p value is few no_link q below honest = record {
   state = there_is p q value (last_write past q) (differ world p q no_link honest);
   section = λ j small. there_is p (section_of (ground_of world) q + j) value (last_write past (section_of (ground_of world) q + j)) (λ e. let theirs = in_section world q j small in let table = is.geometry.states in absurd (omega arith));

@@ -1,5 +1,5 @@
 -- What an honest link peer does itself: it begins a call, takes the step at its place, or is reset.
-use Rattle.std.proofs.Common.{◌≡◌, ◌≢◌, ℕ, ◌-◌, ◌<◌, true, List, ◌∷◌, ◌++◌, refl, sym, ◌∙◌, ap, subst, arith, inl, inr, ◌⊎◌, ◌+◌, ◌≤◌, zero, suc, []}
+use Rattle.std.proofs.Common.{◌≡◌, ◌≢◌, ℕ, ◌-◌, ◌<◌, true, false, List, ◌∷◌, ◌++◌, refl, sym, ◌∙◌, ap, subst, arith, inl, inr, ◌⊎◌, zero, suc, []}
 use mathlib.Core.Logic.{dite}
 use native.Mathlib.Decide.{ℕ_discrete}
 use Rattle.std.specs.Prelude.{reverse}
@@ -10,23 +10,18 @@ use Rattle.link_handshake.specs.PhaseTable.{state_of}
 use Rattle.scenario_text.specs.Scenario.{World, IsWorld, is_link}
 use Rattle.call_grammar.specs.Ends.{End, after_reset, end_after}
 use Rattle.call_grammar.specs.Calls.{Call, Who}
-use Rattle.call_grammar.specs.Reach.{InReach}
 use Rattle.call_grammar.specs.Places.{Place, Closed, Setting, Refusing, first_place, access_at, marks_at, next_place, step_at, is_open}
 use Rattle.link_machine.specs.LinkMachine.{Side}
 use Rattle.link_machine.specs.LinkMachine as told
-use Rattle.link_pair.specs.Layout.{Stored}
-use Rattle.link_pair.specs.Standing as pair
-use Rattle.link_pair.specs.Standing.{Standing}
-use Rattle.link_pair.specs.Alone.{Alone}
-use Rattle.link_pair.specs.Laws.{IsUntouched}
-use Rattle.pair_calls.specs.Written.{words_of}
-use Rattle.pair_calls.proofs.Spelling.{spelling}
-use Rattle.pair_calls.specs.Ground.{Ground, IsGround, section_of, who_of, layout_of, PlaceIs, MarkIs, Meets, Leaves, StandsAs}
-use Rattle.pair_calls.specs.Laws.{IsGivenTo}
-use Rattle.pair_calls.specs.Both.{OnlyComes, Holds}
-use Rattle.pair_calls.specs.Sides.{SideIs}
-use Rattle.pair_calls.proofs.Kept.{kept}
-use Rattle.pair_calls.proofs.AllRows.{follow_lem}
+use Rattle.ends_pair.specs.Ground.{Ground, who_of, IsGivenTo}
+use Rattle.ends_pair.specs.Steps.{Stored, IsUntouched, OnlyComes, Meets}
+use Rattle.ends_pair.specs.Alone.{Rests, Alone}
+use Rattle.ends_pair.specs.Whole.{Whole}
+use Rattle.ends_pair.proofs.Fields.{theirs_stay}
+use Rattle.ends_pair.proofs.AloneKept.{alone_kept}
+use Rattle.ends_pair.specs.Sides.{SideIs}
+use Rattle.ends_pair.proofs.WholeKept.{whole_kept}
+use Rattle.ends_pair.proofs.RowsKept.{follow_lem}
 use Rattle.lawful_history.specs.declared.line.Line.{Line}
 use Rattle.lawful_history.specs.declared.line.Line.TheVariants as line
 use Rattle.lawful_history.specs.Memory.{last_write}
@@ -38,7 +33,7 @@ use Rattle.history_laws.specs.Reads.{Got, reads_of, IsReadBeyond, got}
 use Rattle.history_laws.proofs.ReadPlaces.{ReadsAre, first_reads, reads_on}
 use Rattle.history_laws.proofs.MarkFacts.{AtMarks, at_access, marks_rest}
 use Rattle.history_laws.proofs.Proper.{ground_of, is_ground}
-use Rattle.history_laws.proofs.Stands.{Fine, IsOpen, Stands, IsQuiet, Settled, BringsNone, answers}
+use Rattle.history_laws.proofs.Stands.{Fine, Stands, IsQuiet, Settled, BringsNone, answers}
 use Rattle.history_laws.proofs.Outside.{here_is}
 use Rattle.history_laws.proofs.StepLines.{RestsAt, StepWent, after_access, step_went, stored_at, one_told, broken_beside, AnswersMarks, ReadsAlone}
 use Rattle.history_laws.proofs.Beyond.{refuses}
@@ -61,7 +56,7 @@ side_like end end' place place' side side' e f g h = subst (λ (x : End). SideIs
 pub record Keeps (world : World) (past after : List Line) (p : ℕ) (new : Side) : Type 0 where
   pub here : side_of after p ≡ new
   pub beside : side_of after (1 - p) ≡ side_of past (1 - p)
-  pub untouched : IsUntouched (layout_of (ground_of world)) (last_write past) (last_write after) (1 - p)
+  pub untouched : IsUntouched (ground_of world) (last_write past) (last_write after) (1 - p)
   pub reads_beside : reads_of after (1 - p) ≡ reads_of past (1 - p)
   pub settled : Settled world after
   pub fine : EachLine (Fine world) after
@@ -69,13 +64,13 @@ pub record Keeps (world : World) (past after : List Line) (p : ℕ) (new : Side)
 -- The ends after lines by which end p comes to be this end at this place, and the other side stays
 
 come_stands : (world : World) (past after : List Line) (ends after_ends : ℕ → End) (places after_places : ℕ → Place) (p : ℕ) (end : End) (place : Place) (new : Side) → IsWorld world → p < 2 → is_link world p ≡ true →
-    OnlyComes ends after_ends places after_places p end place → Holds (ground_of world) (is_link world) (last_write after) after_ends after_places → SideIs end place new → IsOpen world after p place → Keeps world past after p new → Stands world past ends places →
+    OnlyComes ends after_ends places after_places p end place → Whole (ground_of world) (is_link world) (last_write after) after_ends after_places → SideIs end place new → ReadsAre (who_of (ground_of world) p) place (reads_of after p) → Keeps world past after p new → Stands world past ends places →
     Stands world after after_ends after_places
-come_stands world past after ends after_ends places after_places p end place new is below honest only holds si calls keeps s = record {
+come_stands world past after ends after_ends places after_places p end place new is below honest only holds si reads keeps s = record {
   holds = holds;
   sides = λ q below' honest'. sides q below' honest' (one_or_other p q below below');
   states = λ q below'. state q (one_or_other p q below below');
-  calls = λ q below' honest'. open_at q below' honest' (one_or_other p q below below');
+  reads = λ q below' honest'. reads_at q below' honest' (one_or_other p q below below');
   settled = keeps.settled;
   fine = keeps.fine;
 }
@@ -89,8 +84,7 @@ come_stands world past after ends after_ends places after_places p end place new
         side_like (ends q) (after_ends q) (places q) (after_places q) (side_of past q) (side_of after q) (only.ends_stay q ne) (only.places_stay q ne) (ap (side_of after) e ∙ (keeps.beside ∙ ap (side_of past) (sym e))) (s.sides q below' honest')
 
     mine : last_write after p ≡ (side_of after p).state
-    mine = let alone = holds.1.whole.alone p below honest in let stands = holds.1.stands p below honest in let is_end = ap (λ (x : End). state_of x.handshake.phase) only.end_is in
-        alone.state ∙ (stands.phase ∙ (is_end ∙ (sym si.state ∙ ap (λ (x : Side). x.state) (sym keeps.here))))
+    mine = let is_end = ap (λ (x : End). state_of x.handshake.phase) only.end_is in (holds.alone p below honest).state ∙ (is_end ∙ (sym si.state ∙ ap (λ (x : Side). x.state) (sym keeps.here)))
 
     theirs : last_write after (1 - p) ≡ (side_of after (1 - p)).state
     theirs = let o2 : 1 - p < 2 = omega arith in keeps.untouched.state ∙ (s.states (1 - p) o2 ∙ ap (λ (x : Side). x.state) (sym keeps.beside))
@@ -99,17 +93,11 @@ come_stands world past after ends after_ends places after_places p end place new
     state q (inl e) = subst (λ (k : ℕ). last_write after k ≡ (side_of after k).state) (sym e) mine
     state q (inr e) = subst (λ (k : ℕ). last_write after k ≡ (side_of after k).state) (sym e) theirs
 
-    open_at : (q : ℕ) → q < 2 → is_link world q ≡ true → (q ≡ p) ⊎ (q ≡ 1 - p) → IsOpen world after q (after_places q)
-    open_at q below' honest' (inl e) = subst (λ (k : ℕ). IsOpen world after k (after_places k)) (sym e) (subst (λ (x : Place). IsOpen world after p x) (sym only.place_is) calls)
-    open_at q below' honest' (inr e) =
-        let ground = ground_of world in
-        let old = s.calls q below' honest' in
-        let stays : IsUntouched (layout_of ground) (last_write past) (last_write after) q = subst (λ (k : ℕ). IsUntouched (layout_of ground) (last_write past) (last_write after) k) (sym e) keeps.untouched in
-        let reads : reads_of after q ≡ reads_of past q = subst (λ (k : ℕ). reads_of after k ≡ reads_of past k) (sym e) keeps.reads_beside in
-        subst (λ (x : Place). IsOpen world after q x) (sym (only.places_stay q (apart_of q e))) record {
-          written = spelling.others ground q (last_write past) (last_write after) (ends q) (places q) (s.holds.0 q) (is_ground world is) (s.holds.1.stands q below' honest') stays old.written;
-          reads = subst (λ (r : List Got). ReadsAre (who_of ground q) (places q) r) (sym reads) old.reads;
-        }
+    reads_at : (q : ℕ) → q < 2 → is_link world q ≡ true → (q ≡ p) ⊎ (q ≡ 1 - p) → ReadsAre (who_of (ground_of world) q) (after_places q) (reads_of after q)
+    reads_at q below' honest' (inl e) = subst (λ (k : ℕ). ReadsAre (who_of (ground_of world) k) (after_places k) (reads_of after k)) (sym e) (subst (λ (x : Place). ReadsAre (who_of (ground_of world) p) x (reads_of after p)) (sym only.place_is) reads)
+    reads_at q below' honest' (inr e) =
+        let same : reads_of after q ≡ reads_of past q = subst (λ (k : ℕ). reads_of after k ≡ reads_of past k) (sym e) keeps.reads_beside in
+        subst (λ (x : Place). ReadsAre (who_of (ground_of world) q) x (reads_of after q)) (sym (only.places_stay q (apart_of q e))) (subst (λ (r : List Got). ReadsAre (who_of (ground_of world) q) (places q) r) (sym same) (s.reads q below' honest'))
 
 -- A call begins
 
@@ -119,9 +107,9 @@ begins_stands world past ends after_ends places after_places p call is below hon
     let ground = ground_of world in
     let who = who_of ground p in
     come_stands world past past ends after_ends places after_places p (ends p) (first_place who (ends p) call) (side_of past p) is below honest only
-    (kept.begins ground (is_link world) (last_write past) ends after_ends places after_places p call (is_ground world is) below honest given closed only s.holds)
+    (whole_kept.begins ground (is_link world) (last_write past) ends after_ends places after_places p call (is_ground world is) below honest record { given = given; closed = closed; comes = only } s.holds)
     (follow_lem.begins who (ends p) call (side_of past p) (subst (λ (x : Place). SideIs (ends p) x (side_of past p)) closed (s.sides p below honest)))
-    (record { written = spelling.begins ground (words_of ground p (last_write past)) who (ends p) call; reads = first_reads who (reads_of past p) (ends p) call })
+    (first_reads who (reads_of past p) (ends p) call)
     (record { here = refl; beside = refl; untouched = record { state = refl; section = λ j small. refl }; reads_beside = refl; settled = s.settled; fine = s.fine }) s
 
 -- A step
@@ -134,15 +122,11 @@ IsZero (access.State state) = state ≡ 0
 IsZero (access.Ring target vector) = Unit {0}
 IsZero access.Nothing = Unit {0}
 
-setting_zero : (ground : Ground) (p : ℕ) (memory : ℕ → ℕ) (end : End) (n : ℕ) (s : Standing) → Alone (layout_of ground) memory p s → s.refused ≡ true → PlaceIs ground p memory end s (Setting n) → n ≡ 0
-setting_zero ground p memory end n s alone refused (inl at) = at.0
-setting_zero ground p memory end n s alone refused (inr at) = let closed = (alone.rests refused).1 in let open_tick : pair.Ticking at.0 at.1 ≡ pair.Closed = sym at.2 ∙ closed in absurd (cc)
-
-zero_at : (ground : Ground) (p : ℕ) (memory : ℕ → ℕ) (end : End) (place : Place) (s : Standing) → Alone (layout_of ground) memory p s → end.handshake.mark ≡ true → MarkIs place s.refused end.handshake.mark → PlaceIs ground p memory end s place →
-    IsZero (access_at (who_of ground p) place)
-zero_at ground p memory end (Setting n) s alone marked mark at = setting_zero ground p memory end n s alone (mark ∙ marked) at
-zero_at ground p memory end Refusing s alone marked mark at = refl
-zero_at ground p memory end place s alone marked mark at = tt
+zero_at : (ground : Ground) (p : ℕ) (end : End) (place : Place) → Rests end place → end.handshake.mark ≡ true → IsZero (access_at (who_of ground p) place)
+zero_at ground p end (Setting zero) rests marked = refl
+zero_at ground p end (Setting (suc n)) rests marked = let f : true ≡ false = sym marked ∙ rests in absurd (cc)
+zero_at ground p end Refusing rests marked = refl
+zero_at ground p end place rests marked = tt
 
 rests_at : (world : World) (past : List Line) (p : ℕ) (a : Access) → (is_link world p ≡ true → (side_of past p).refused ≡ true → IsZero a) → RestsAt world past p a
 rests_at world past p (access.Read word) none = tt
@@ -150,26 +134,6 @@ rests_at world past p (access.Write word written) none = tt
 rests_at world past p (access.State state) none = none
 rests_at world past p (access.Ring target vector) none = tt
 rests_at world past p access.Nothing none = tt
-
--- a step of p leaves the words of the other
-apart_sections : (ground : Ground) (p word j : ℕ) → p < 2 → section_of ground p ≤ word → word < section_of ground p + ground.words → j < ground.words → section_of ground (1 - p) + j ≢ word
-apart_sections ground zero word j below low high small e = absurd (omega arith)
-apart_sections ground (suc zero) word j below low high small e = absurd (omega arith)
-apart_sections ground (suc (suc p)) word j below low high small e = absurd (omega arith)
-
-stored_untouched : (ground : Ground) (p value : ℕ) (memory after : ℕ → ℕ) → IsGround ground → p < 2 → Stored memory after p value → IsUntouched (layout_of ground) memory after (1 - p)
-stored_untouched ground p value memory after is below stored = let first = is.first in record { state = stored.beside (1 - p) (other_is p below); section = λ j small. stored.beside (section_of ground (1 - p) + j) (λ e. absurd (omega arith)) }
-
-untouched_by : (ground : Ground) (p : ℕ) (a : Access) (memory after : ℕ → ℕ) → IsGround ground → p < 2 → InReach (who_of ground p) a → Leaves p memory a after → IsUntouched (layout_of ground) memory after (1 - p)
-untouched_by ground p (access.Read word) memory after is below reach left = record { state = ap (λ (m : ℕ → ℕ). m (1 - p)) left; section = λ j small. ap (λ (m : ℕ → ℕ). m (section_of ground (1 - p) + j)) left }
-untouched_by ground p (access.Write word written) memory after is below reach left =
-    let first = is.first in let low = reach.0 in record {
-      state = left.beside (1 - p) (λ e. absurd (omega arith));
-      section = λ j small. left.beside (section_of ground (1 - p) + j) (apart_sections ground p word j below reach.0 reach.1 small);
-    }
-untouched_by ground p (access.State state) memory after is below reach left = stored_untouched ground p state memory after is below left
-untouched_by ground p (access.Ring target vector) memory after is below reach left = record { state = ap (λ (m : ℕ → ℕ). m (1 - p)) left; section = λ j small. ap (λ (m : ℕ → ℕ). m (section_of ground (1 - p) + j)) left }
-untouched_by ground p access.Nothing memory after is below reach left = record { state = ap (λ (m : ℕ → ℕ). m (1 - p)) left; section = λ j small. ap (λ (m : ℕ → ℕ). m (section_of ground (1 - p) + j)) left }
 
 -- the marks of a read answer it: where it is out of range they are its refusal
 answered_by : (world : World) (past : List Line) (p word value : ℕ) (marks : List Mark) →
@@ -181,24 +145,24 @@ answered_by world past p word value (mark ∷ marks) all = λ refused honest bey
     first_mark : (a b : Mark) (xs ys : List Mark) → a ∷ xs ≡ b ∷ ys → a ≡ b
     first_mark a b xs ys e = cc
 
-reads_alone : (world : World) (past device : List Line) (p value : ℕ) (end : End) (place : Place) (s : Standing) → IsWorld world → p < 2 → is_link world p ≡ true → (a : Access) → access_at (who_of (ground_of world) p) place ≡ a → BringsNone a device →
-    StandsAs (ground_of world) p (last_write past) end place s → Alone (layout_of (ground_of world)) (last_write past) p s → SideIs end place (side_of past p) → IsOpen world past p place →
+reads_alone : (world : World) (past device : List Line) (p value : ℕ) (end : End) (place : Place) → IsWorld world → p < 2 → is_link world p ≡ true → (a : Access) → access_at (who_of (ground_of world) p) place ≡ a → BringsNone a device →
+    Alone (ground_of world) (last_write past) p end place → SideIs end place (side_of past p) → ReadsAre (who_of (ground_of world) p) place (reads_of past p) →
     ReadsAlone world p a value device (marks_at (who_of (ground_of world) p) place value) past
-reads_alone world past device p value end place s is below honest (access.Read word) at none stands alone si calls = (
+reads_alone world past device p value end place is below honest (access.Read word) at none alone si reads = (
   none,
-  answered_by world past p word value (marks_at (who_of (ground_of world) p) place value) (λ refused _ beyond. refuses (ground_of world) p (last_write past) end s (side_of past p) (reads_of past p) value word refused.field refused.value (is_ground world is) place stands alone si calls.reads at
+  answered_by world past p word value (marks_at (who_of (ground_of world) p) place value) (λ refused _ beyond. refuses (ground_of world) p (last_write past) end (side_of past p) (reads_of past p) value word refused.field refused.value (is_ground world is) place alone si reads at
       (subst (λ (w : Who). IsReadBeyond w (side_of past p) (reads_of past p ++ got word value ∷ []) refused.field refused.value) (who_is world p below) beyond)),
 )
-reads_alone world past device p value end place s is below honest (access.Write word written) at none stands alone si calls = tt
-reads_alone world past device p value end place s is below honest (access.State state) at none stands alone si calls = tt
-reads_alone world past device p value end place s is below honest (access.Ring target vector) at none stands alone si calls = tt
-reads_alone world past device p value end place s is below honest access.Nothing at none stands alone si calls = tt
+reads_alone world past device p value end place is below honest (access.Write word written) at none alone si reads = tt
+reads_alone world past device p value end place is below honest (access.State state) at none alone si reads = tt
+reads_alone world past device p value end place is below honest (access.Ring target vector) at none alone si reads = tt
+reads_alone world past device p value end place is below honest access.Nothing at none alone si reads = tt
 
 pub step_stands : (world : World) (past device : List Line) (ends after_ends : ℕ → End) (places after_places : ℕ → Place) (p value : ℕ) → IsWorld world → p < 2 → is_link world p ≡ true → AllByRecursion IsQuiet device → BringsNone (access_at (who_of (ground_of world) p) (places p)) device → is_open (places p) ≡ true →
-    Meets (last_write past) (access_at (who_of (ground_of world) p) (places p)) value → InReach (who_of (ground_of world) p) (access_at (who_of (ground_of world) p) (places p)) →
+    Meets (last_write past) (access_at (who_of (ground_of world) p) (places p)) value →
     OnlyComes ends after_ends places after_places p (end_after (ends p) (step_at (who_of (ground_of world) p) (places p) value)) (next_place (who_of (ground_of world) p) (places p) value) →
     Stands world past ends places → Stands world (reverse (step_lines p (step_at (who_of (ground_of world) p) (places p) value) device) ++ past) after_ends after_places
-step_stands world past device ends after_ends places after_places p value is below honest quiet none opened met reach only s =
+step_stands world past device ends after_ends places after_places p value is below honest quiet none opened met only s =
     let ground = ground_of world in
     let who = who_of ground p in
     let place = places p in
@@ -206,24 +170,20 @@ step_stands world past device ends after_ends places after_places p value is bel
     let a = access_at who place in
     let marks = marks_at who place value in
     let o2 : 1 - p < 2 = omega arith in
-    let both = s.holds.1 in
     let si = s.sides p below honest in
-    let calls = s.calls p below honest in
-    let f = follow_lem.steps ground (is_link world) (last_write past) ends places s.holds.0 p value (side_of past p) (side_of past (1 - p)) (is_ground world is) below honest both si (sym (s.states (1 - p) o2)) (s.sides (1 - p) o2) opened met in
-    let stands = both.stands p below honest in
-    let rests = rests_at world past p a (λ _ refused. zero_at ground p (last_write past) (ends p) place (s.holds.0 p) (both.whole.alone p below honest) (sym si.refused ∙ refused) stands.mark stands.at) in
+    let reads = s.reads p below honest in
+    let alone = s.holds.alone p below honest in
+    let f = follow_lem.steps ground (is_link world) (last_write past) ends places p value (side_of past p) (side_of past (1 - p)) (is_ground world is) below honest s.holds si (sym (s.states (1 - p) o2)) (s.sides (1 - p) o2) opened met in
+    let rests = rests_at world past p a (λ _ refused. zero_at ground p (ends p) place alone.rests (sym si.refused ∙ refused)) in
     let older = reverse device ++ after_access p a value past in
     let there = at_access world p a value device past quiet in
-    let at_marks : AtMarks world p past older place value (ends p) (s.holds.0 p) = record { stands = stands; alone = both.whole.alone p below honest; side = si; calls = calls; left = there.left; stays = there.stays; reads = there.reads } in
+    let at_marks : AtMarks world p past older place value (ends p) = record { alone = alone; side = si; were = reads; left = there.left; stays = there.stays; reads = there.reads } in
     let after = reverse (step_lines p step device) ++ past in
-    let went : StepWent world p past a value marks after f.0 = step_went world p a value device marks past f.0 below honest quiet f.1 rests (marks_rest world p past older value (ends p) (s.holds.0 p) is below place at_marks) (reads_alone world past device p value (ends p) place (s.holds.0 p) is below honest a refl none stands at_marks.alone si calls) s.settled s.fine in
+    let went : StepWent world p past a value marks after f.0 = step_went world p a value device marks past f.0 below honest quiet f.1 rests (marks_rest world p past older value (ends p) is below place at_marks) (reads_alone world past device p value (ends p) place is below honest a refl none alone si reads) s.settled s.fine in
     come_stands world past after ends after_ends places after_places p (end_after (ends p) step) (next_place who place value) f.0 is below honest only
-    (kept.steps ground (is_link world) (last_write past) (last_write after) ends after_ends places after_places p value (is_ground world is) below honest opened met went.left only s.holds) f.2
-    (record {
-      written = spelling.steps ground p (last_write past) (last_write after) (ends p) place value (s.holds.0 p) (is_ground world is) stands went.left calls.written;
-      reads = subst (λ (r : List Got). ReadsAre who (next_place who place value) r) (sym went.reads_here) (reads_on who place value (reads_of past p) calls.reads);
-    })
-    (record { here = went.here; beside = went.beside; untouched = untouched_by ground p a (last_write past) (last_write after) (is_ground world is) below reach went.left; reads_beside = went.reads_beside; settled = went.settled; fine = went.fine }) s
+    (whole_kept.steps ground (is_link world) (last_write past) (last_write after) ends after_ends places after_places p value (is_ground world is) below honest record { opened = opened; meets = met; leaves = went.left; comes = only } s.holds) f.2
+    (subst (λ (r : List Got). ReadsAre who (next_place who place value) r) (sym went.reads_here) (reads_on who place value (reads_of past p) reads))
+    (record { here = went.here; beside = went.beside; untouched = theirs_stay ground (last_write past) (last_write after) p (is_ground world is) below (alone_kept.own ground p (last_write past) (last_write after) (ends p) place (is_ground world is) below went.left alone); reads_beside = went.reads_beside; settled = went.settled; fine = went.fine }) s
 
 -- A device reset
 
@@ -236,5 +196,5 @@ own_reset_stands world past ends after_ends places after_places p is below hones
     let f = follow_lem.resets world.queue (is_link world (1 - p)) (ends p) (places p) (side_of past p) (side_of past (1 - p)) (s.sides p below honest) in
     let one = one_told world past (line.Reset p) p told.WasReset f.0 below honest refl f.1 tt (answers world past (line.Reset p) s.settled) in
     come_stands world past after ends after_ends places after_places p (after_reset (ends p)) Closed f.0 is below honest only
-    (kept.resets ground (is_link world) (last_write past) (last_write after) ends after_ends places after_places p (is_ground world is) below honest stored only s.holds) f.2 (record { written = tt; reads = tt })
-    (record { here = one.here; beside = one.beside; untouched = stored_untouched ground p 0 (last_write past) (last_write after) (is_ground world is) below stored; reads_beside = broken_beside (line.Reset p) past p below refl; settled = tt; fine = (one.fine, s.fine) }) s
+    (whole_kept.resets ground (is_link world) (last_write past) (last_write after) ends after_ends places after_places p (is_ground world is) below honest record { stored = stored; comes = only } s.holds) f.2 tt
+    (record { here = one.here; beside = one.beside; untouched = theirs_stay ground (last_write past) (last_write after) p (is_ground world is) below (λ w ne apart. stored.beside w ne); reads_beside = broken_beside (line.Reset p) past p below refl; settled = tt; fine = (one.fine, s.fine) }) s

@@ -14,8 +14,7 @@ use Rattle.scenario_text.specs.declared.acts.Act.TheVariants.{Tick, Offer, Poll,
 use Rattle.scenario_text.specs.Scenario.{World, IsWorld, is_link, is_its_peer, is_frame_size}
 use Rattle.scenario_text.specs.Table.{pieces_of}
 use Rattle.scenario_text.specs.ActRows.{row_of_act}
-use Rattle.pair_calls.specs.Ground.{Ground, IsGround}
-use Rattle.pair_calls.specs.Laws.{IsGivenTo}
+use Rattle.ends_pair.specs.Ground.{Ground, IsGround, IsGivenTo}
 use Rattle.lawful_history.specs.Sides.{traffic_vector}
 use Rattle.lawful_history.specs.Schedule.{Event, Asked, Automated, Stormed, Turned, Acted, WasReset, Reached, Loses, Repeated, register_event, events_of, schedule}
 

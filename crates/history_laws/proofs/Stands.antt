@@ -11,11 +11,10 @@ use Rattle.call_grammar.specs.Steps.{Mark, Saw, Reclaim, Full, Accept, Look, Del
 use Rattle.call_grammar.specs.Ends.{End}
 use Rattle.call_grammar.specs.Places.{Place}
 use Rattle.link_machine.specs.LinkMachine.{Side, Wrote, Marked, WasReset}
-use Rattle.pair_calls.specs.Ground as pair
-use Rattle.pair_calls.specs.Written.{words_of, HasWritten}
-use Rattle.pair_calls.specs.Ground.{StandsAs}
-use Rattle.pair_calls.specs.Both.{Holds}
-use Rattle.pair_calls.specs.Sides.{SideIs}
+use Rattle.ends_pair.specs.Ground as pair
+use Rattle.ends_pair.specs.Whole.{Whole}
+use Rattle.ends_pair.proofs.WholeKept.{whole_like}
+use Rattle.ends_pair.specs.Sides.{SideIs}
 use Rattle.lawful_history.specs.declared.line.Line.{Line}
 use Rattle.lawful_history.specs.declared.line.Line.TheVariants as line
 use Rattle.lawful_history.specs.Memory.{Touch, touch_of, value_after, last_write}
@@ -91,17 +90,12 @@ answers world (first ∷ older) line settled = settled_by world (reading_of firs
 abbrev pub Fine : World → List Line → Line → Type 0
 Fine world older line = HasRow world older line (telling_of line) × Rests world older (telling_of line) × AnswersTo world older line
 
--- the open call of an honest link peer at its place: what it has written stands in its section, and what it has read is among the lines
-pub record IsOpen (world : World) (past : List Line) (p : ℕ) (place : Place) : Type 0 where
-  pub written : HasWritten (ground_of world) (words_of (ground_of world) p (last_write past)) place
-  pub reads : ReadsAre (pair.who_of (ground_of world) p) place (reads_of past p)
-
--- after these lines the ends stand at these places, each honest one is the side of the lines, and the state words are those of the sides
+-- after these lines the ends stand at these places, each honest one is the side of the lines and has read what is among them, and the state words are those of the sides
 pub record Stands (world : World) (past : List Line) (ends : ℕ → End) (places : ℕ → Place) : Type 0 where
-  pub holds : Holds (ground_of world) (is_link world) (last_write past) ends places
+  pub holds : Whole (ground_of world) (is_link world) (last_write past) ends places
   pub sides : (p : ℕ) → p < 2 → is_link world p ≡ true → SideIs (ends p) (places p) (side_of past p)
   pub states : (p : ℕ) → p < 2 → last_write past p ≡ (side_of past p).state
-  pub calls : (p : ℕ) → p < 2 → is_link world p ≡ true → IsOpen world past p (places p)
+  pub reads : (p : ℕ) → p < 2 → is_link world p ≡ true → ReadsAre (pair.who_of (ground_of world) p) (places p) (reads_of past p)
   pub settled : Settled world past
   pub fine : EachLine (Fine world) past
 
@@ -116,13 +110,10 @@ pub record Alike (world : World) (old new : List Line) : Type 0 where
 
 pub stands_alike : (world : World) (old new : List Line) (ends : ℕ → End) (places : ℕ → Place) → Alike world old new → Stands world old ends places → Stands world new ends places
 stands_alike world old new ends places a s = record {
-  holds = subst (λ (m : ℕ → ℕ). Holds (ground_of world) (is_link world) m ends places) (sym a.memory) s.holds;
+  holds = subst (λ (m : ℕ → ℕ). Whole (ground_of world) (is_link world) m ends places) (sym a.memory) s.holds;
   sides = λ p below honest. subst (λ (x : ℕ → Side). SideIs (ends p) (places p) (x p)) (sym a.sides) (s.sides p below honest);
   states = λ p below. ap (λ (m : ℕ → ℕ). m p) a.memory ∙ (s.states p below ∙ ap (λ (x : ℕ → Side). (x p).state) (sym a.sides));
-  calls = λ p below honest. record {
-    written = subst (λ (m : ℕ → ℕ). HasWritten (ground_of world) (words_of (ground_of world) p m) (places p)) (sym a.memory) (s.calls p below honest).written;
-    reads = subst (λ (r : ℕ → List Got). ReadsAre (pair.who_of (ground_of world) p) (places p) (r p)) (sym a.reads) (s.calls p below honest).reads;
-  };
+  reads = λ p below honest. subst (λ (r : ℕ → List Got). ReadsAre (pair.who_of (ground_of world) p) (places p) (r p)) (sym a.reads) (s.reads p below honest);
   settled = a.settled s.settled;
   fine = a.fine s.settled s.fine;
 }
@@ -130,16 +121,10 @@ stands_alike world old new ends places a s = record {
 -- the same ends at the same places
 pub ends_alike : (world : World) (past : List Line) (ends after_ends : ℕ → End) (places : ℕ → Place) → ((p : ℕ) → p < 2 → is_link world p ≡ true → after_ends p ≡ ends p) → Stands world past ends places → Stands world past after_ends places
 ends_alike world past ends after_ends places same s = record {
-  holds = (
-    s.holds.0,
-    record {
-      whole = s.holds.1.whole;
-      stands = λ p below honest. subst (λ (x : End). StandsAs (ground_of world) p (last_write past) x (places p) (s.holds.0 p)) (sym (same p below honest)) (s.holds.1.stands p below honest);
-    },
-  );
+  holds = whole_like (ground_of world) (is_link world) (last_write past) ends after_ends places same s.holds;
   sides = λ p below honest. subst (λ (x : End). SideIs x (places p) (side_of past p)) (sym (same p below honest)) (s.sides p below honest);
   states = s.states;
-  calls = s.calls;
+  reads = s.reads;
   settled = s.settled;
   fine = s.fine;
 }

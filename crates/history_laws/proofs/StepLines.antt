@@ -9,8 +9,8 @@ use Rattle.split_ring.specs.Layout.{Sizes}
 use Rattle.scenario_text.specs.Scenario.{World, is_link}
 use Rattle.call_grammar.specs.Steps.{Mark, Saw, Reclaim, Full, Accept, Look, Deliver, Return, Done, Down, Refuse, Over, step_of}
 use Rattle.link_machine.specs.LinkMachine.{Side, Told, Wrote, Marked, WasReset, MarkRow, Row}
-use Rattle.pair_calls.specs.Ground.{Leaves}
-use Rattle.pair_calls.specs.Sides.{told_of, RowsAlong}
+use Rattle.ends_pair.specs.Steps.{Leaves}
+use Rattle.ends_pair.specs.Sides.{told_of, RowsAlong}
 use Rattle.lawful_history.specs.declared.line.Line.{Line}
 use Rattle.lawful_history.specs.declared.line.Line.TheVariants as line
 use Rattle.lawful_history.specs.Memory.{last_write}

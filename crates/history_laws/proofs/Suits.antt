@@ -9,8 +9,7 @@ use Rattle.call_grammar.specs.Steps.{Mark, Saw, Reclaim, Full, Accept, Look, Del
 use Rattle.call_grammar.specs.Trees.{CallTree, Ended, Does, Reads}
 use Rattle.call_grammar.specs.Calls.{Who, Call, Tick, Stop, Offer, Poll}
 use Rattle.call_grammar.specs.Automatic.{Round, Anew, AfterOffer, AfterPoll, Choice, ChoosesTick, ChoosesOffer, ChoosesPoll, IsFinished, in_phase, choice_of}
-use Rattle.pair_calls.specs.Ground.{IsOffered, AreOffered}
-use Rattle.pair_calls.specs.Laws.{IsGivenTo}
+use Rattle.ends_pair.specs.Ground.{IsOffered, IsGivenTo}
 use Rattle.lawful_history.specs.declared.line.Line.{Line}
 use Rattle.lawful_history.specs.Schedule.{Event, Asked, Automated, Stormed, Turned, Acted, WasReset, Reached, Loses, Repeated, event_peer}
 use Rattle.lawful_history.specs.Memory.{last_write}
@@ -22,7 +21,7 @@ use Rattle.history_laws.proofs.Proper.{ground_of, IsProper}
 -- an honest peer isn't a storm, and no other is automatic; the frames of an automatic peer may be offered
 abbrev pub DriverSuits : World → Bool → Driver → Type 0
 DriverSuits world honest Waits = Unit {0}
-DriverSuits world honest (Chooses auto) = (honest ≡ true) × AreOffered (ground_of world) auto.frames
+DriverSuits world honest (Chooses auto) = (honest ≡ true) × AllByRecursion (IsOffered (ground_of world)) auto.frames
 DriverSuits world honest (Storms x) = honest ≡ false
 
 pub record Suits (world : World) (honest : Bool) (peer : Peer) : Type 0 where
@@ -41,7 +40,7 @@ ChoiceSuits world (ChoosesOffer frame) = IsOffered (ground_of world) frame
 ChoiceSuits world ChoosesPoll = Unit {0}
 ChoiceSuits world IsFinished = Unit {0}
 
-phase_suits : (world : World) (phase : Phase) (round : Round) (frames : List (List ℕ)) → AreOffered (ground_of world) frames → ChoiceSuits world (in_phase phase round frames)
+phase_suits : (world : World) (phase : Phase) (round : Round) (frames : List (List ℕ)) → AllByRecursion (IsOffered (ground_of world)) frames → ChoiceSuits world (in_phase phase round frames)
 phase_suits world Reset round frames given = tt
 phase_suits world Init round frames given = tt
 phase_suits world Ready round frames given = tt
@@ -54,13 +53,13 @@ finished_suits : (world : World) (b : Bool) (choice : Choice) → ChoiceSuits wo
 finished_suits world true choice suits = tt
 finished_suits world false choice suits = suits
 
-pub choice_suits : (world : World) (phase : Phase) (round : Round) (frames : List (List ℕ)) (delivered expected : ℕ) → AreOffered (ground_of world) frames → ChoiceSuits world (choice_of phase round frames delivered expected)
+pub choice_suits : (world : World) (phase : Phase) (round : Round) (frames : List (List ℕ)) (delivered expected : ℕ) → AllByRecursion (IsOffered (ground_of world)) frames → ChoiceSuits world (choice_of phase round frames delivered expected)
 choice_suits world phase round [] delivered expected given = finished_suits world (nat_le expected delivered) _ (phase_suits world phase round [] given)
 choice_suits world phase round (frame ∷ frames) delivered expected given = phase_suits world phase round (frame ∷ frames) given
 
 -- A peer is opened
 
-with_choice_suits : (world : World) (who : Who) (peer : Peer) (honest : Bool) (auto : Auto) (choice : Choice) → honest ≡ true → AreOffered (ground_of world) auto.frames → Suits world honest peer → Suits world honest (with_choice who peer auto choice)
+with_choice_suits : (world : World) (who : Who) (peer : Peer) (honest : Bool) (auto : Auto) (choice : Choice) → honest ≡ true → AllByRecursion (IsOffered (ground_of world)) auto.frames → Suits world honest peer → Suits world honest (with_choice who peer auto choice)
 with_choice_suits world who peer honest auto ChoosesTick is_one given s = record { waiting = s.waiting; driver = (is_one, given); idle = never honest is_one }
 with_choice_suits world who peer honest auto (ChoosesOffer frame) is_one given s = record { waiting = s.waiting; driver = (is_one, given); idle = never honest is_one }
 with_choice_suits world who peer honest auto ChoosesPoll is_one given s = record { waiting = s.waiting; driver = (is_one, given); idle = never honest is_one }
@@ -82,11 +81,11 @@ opened_suits world who peer honest s = opened_by_suits world who peer honest pee
 
 -- It moves
 
-tail_offered : (world : World) (frames : List (List ℕ)) → AreOffered (ground_of world) frames → AreOffered (ground_of world) (drop 1 frames)
+tail_offered : (world : World) (frames : List (List ℕ)) → AllByRecursion (IsOffered (ground_of world)) frames → AllByRecursion (IsOffered (ground_of world)) (drop 1 frames)
 tail_offered world [] given = tt
 tail_offered world (frame ∷ frames) given = given.1
 
-counted_offered : (world : World) (auto : Auto) (marks : List Mark) → AreOffered (ground_of world) auto.frames → AreOffered (ground_of world) (counted_all auto marks).frames
+counted_offered : (world : World) (auto : Auto) (marks : List Mark) → AllByRecursion (IsOffered (ground_of world)) auto.frames → AllByRecursion (IsOffered (ground_of world)) (counted_all auto marks).frames
 counted_offered world auto [] given = given
 counted_offered world auto (Saw value ∷ marks) given = counted_offered world auto marks given
 counted_offered world auto (Reclaim count ∷ marks) given = counted_offered world auto marks given
@@ -121,7 +120,7 @@ waiting_given : (P : Call → Type 0) (waiting : List Call) (call : Call) → Al
 waiting_given P [] call given this = (this, tt)
 waiting_given P (other ∷ waiting) call given this = (given.0, waiting_given P waiting call given.1 this)
 
-frames_offered : (world : World) (frames : List (List ℕ)) (frame : List ℕ) → AreOffered (ground_of world) frames → IsOffered (ground_of world) frame → AreOffered (ground_of world) (frames ++ frame ∷ [])
+frames_offered : (world : World) (frames : List (List ℕ)) (frame : List ℕ) → AllByRecursion (IsOffered (ground_of world)) frames → IsOffered (ground_of world) frame → AllByRecursion (IsOffered (ground_of world)) (frames ++ frame ∷ [])
 frames_offered world [] frame given this = (this, tt)
 frames_offered world (other ∷ frames) frame given this = (given.0, frames_offered world frames frame given.1 this)
 

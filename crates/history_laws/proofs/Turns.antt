@@ -11,16 +11,16 @@ use Rattle.call_grammar.specs.Steps.{Step, step_of, value_given}
 use Rattle.call_grammar.specs.Trees.{CallTree, Ended, Does, Reads, Goes}
 use Rattle.call_grammar.specs.Ends.{End, end_after}
 use Rattle.call_grammar.specs.Calls.{Who, Call, Tick, Offer, Poll, tree_of}
-use Rattle.call_grammar.specs.Reach.{MayDo, InReach, StaysInReach}
+use Rattle.call_grammar.specs.Reach.{MayDo, StaysInReach}
 use Rattle.call_grammar.specs.Automatic.{Choice, ChoosesTick, ChoosesOffer, ChoosesPoll, IsFinished, choice_of}
 use Rattle.call_grammar.specs.Places.{Place, Closed, first_place, access_at, next_place, step_at, is_open, remaining}
 use Rattle.call_grammar.proofs.OfferLists.{yes, no}
 use Rattle.call_grammar.proofs.Following.{following}
-use Rattle.call_grammar.proofs.Reaching.{reaching}
-use Rattle.pair_calls.specs.Ground.{Ground, Meets}
-use Rattle.pair_calls.specs.Ground as pair
-use Rattle.pair_calls.specs.Laws.{IsGivenTo}
-use Rattle.pair_calls.specs.Both.{OnlyComes}
+use Rattle.ends_pair.specs.Ground.{Ground}
+use Rattle.ends_pair.specs.Steps.{Meets}
+use Rattle.ends_pair.specs.Ground as pair
+use Rattle.ends_pair.specs.Ground.{IsGivenTo}
+use Rattle.ends_pair.specs.Steps.{OnlyComes}
 use Rattle.lawful_history.specs.declared.line.Line.{Line}
 use Rattle.lawful_history.specs.declared.line.Line.TheVariants as line
 use Rattle.lawful_history.specs.Memory.{last_write}
@@ -143,9 +143,9 @@ meets_like memory (access.Ring target vector) value met is m = tt
 meets_like memory access.Nothing value met is m = tt
 
 going : (world : World) (past device : List Line) (ends after_ends : ℕ → End) (places : ℕ → Place) (p : ℕ) (step : Step) (left : CallTree) → IsWorld world → p < 2 → is_link world p ≡ true → AllByRecursion IsQuiet device → BringsNone step.access device →
-    Goes (remaining (pair.who_of (ground_of world) p) (places p)) step left → Meets (last_write past) step.access step.value → InReach (pair.who_of (ground_of world) p) step.access →
+    Goes (remaining (pair.who_of (ground_of world) p) (places p)) step left → Meets (last_write past) step.access step.value →
     after_ends p ≡ end_after (ends p) step → ((q : ℕ) → q ≢ p → after_ends q ≡ ends q) → Stands world past ends places → Came world (reverse (step_lines p step device) ++ past) after_ends places p left
-going world past device ends after_ends places p step left is below honest quiet none goes met reach end_is ends_stay s =
+going world past device ends after_ends places p step left is below honest quiet none goes met end_is ends_stay s =
     let who = pair.who_of (ground_of world) p in
     let place = places p in
     let g = following.goes who place step left goes in
@@ -156,7 +156,7 @@ going world past device ends after_ends places p step left is below honest quiet
     let met_here : Meets (last_write past) (access_at who place) value = meets_like (last_write past) (access_at who place) step.value value value_is (subst (λ (a : Access). Meets (last_write past) a step.value) access_is met) in
     let only : OnlyComes ends after_ends places (placed places p next) p (end_after (ends p) (step_at who place value)) next =
     record { end_is = end_is ∙ ap (end_after (ends p)) g.1; place_is = placed_here places p next; ends_stay = ends_stay; places_stay = λ q ne. placed_beside places p q next ne } in
-    let stands = step_stands world past device ends after_ends places (placed places p next) p value is below honest quiet (subst (λ (a : Access). BringsNone a device) access_is none) (goes_is_open who place step left goes) met_here (subst (λ (a : Access). InReach who a) access_is reach) only s in
+    let stands = step_stands world past device ends after_ends places (placed places p next) p value is below honest quiet (subst (λ (a : Access). BringsNone a device) access_is none) (goes_is_open who place step left goes) met_here only s in
     record {
       after_places = placed places p next;
       stands = subst (λ (x : Step). Stands world (reverse (step_lines p x device) ++ past) after_ends (placed places p next)) (sym g.1) stands;
@@ -201,13 +201,12 @@ moves_stands world past device ends after_ends places p peer Ended is below hone
 moves_stands world past device ends after_ends places p peer (Does a marks rest) is below honest quiet brought stays at left_is end_is suits after_is ends_stay s =
     let who = pair.who_of (ground_of world) p in
     let step = step_of a 0 marks in
-    let reach = (reaching.step who (Does a marks rest) rest step stays (refl, refl)).0 in
-    going world past (device (Some step)) ends after_ends places p step rest is below honest (quiet (Some step)) (brought step) (subst (λ (t : CallTree). Goes t step rest) (sym at) (refl, refl)) (does_meet who (last_write past) a stays.0) reach (after_is ∙ ap (λ (e : End). end_after e step) end_is) ends_stay s
+    going world past (device (Some step)) ends after_ends places p step rest is below honest (quiet (Some step)) (brought step) (subst (λ (t : CallTree). Goes t step rest) (sym at) (refl, refl)) (does_meet who (last_write past) a stays.0) (after_is ∙ ap (λ (e : End). end_after e step) end_is) ends_stay s
 moves_stands world past device ends after_ends places p peer (Reads word marks rest) is below honest quiet brought stays at left_is end_is suits after_is ends_stay s =
     let who = pair.who_of (ground_of world) p in
     let value = last_write past word in
     let step = step_of (access.Read word) value (marks value) in
-    going world past (device (Some step)) ends after_ends places p step (rest value) is below honest (quiet (Some step)) (brought step) (subst (λ (t : CallTree). Goes t step (rest value)) (sym at) (value, refl, refl)) refl stays.0 (after_is ∙ ap (λ (e : End). end_after e step) end_is) ends_stay s
+    going world past (device (Some step)) ends after_ends places p step (rest value) is below honest (quiet (Some step)) (brought step) (subst (λ (t : CallTree). Goes t step (rest value)) (sym at) (value, refl, refl)) refl (after_is ∙ ap (λ (e : End). end_after e step) end_is) ends_stay s
 
 -- the turn of an honest link peer that is opened as the ground has it
 turn_as : (world : World) (past : List Line) (device : Option Step → List Line) (ends after_ends : ℕ → End) (places : ℕ → Place) (p : ℕ) (peer : Peer) (who : Who) → who ≡ pair.who_of (ground_of world) p → IsWorld world → p < 2 → is_link world p ≡ true → ((went : Option Step) → AllByRecursion IsQuiet (device went)) → ((step : Step) → BringsNone step.access (device (Some step))) →

@@ -1,4 +1,4 @@
-//! What holds of every lawful history of a scenario. It stands on `lawful_history` for the histories and on `pair_calls` for what two ends
+//! What holds of every lawful history of a scenario. It stands on `lawful_history` for the histories and on `ends_pair` for what two ends
 //! keep. It holds no code: each law is the contract of a function that does nothing.
 #![tactic(auto)]
 

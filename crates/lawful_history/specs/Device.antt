@@ -13,14 +13,14 @@ use Rattle.lawful_history.specs.Schedule.{Event, Asked, Automated, Stormed, Turn
 use Rattle.lawful_history.specs.Entries.{Entry, access_lines, lines_of}
 
 -- the scenario's world, as its devices are
-abbrev pub devices_of : World → device.World
+abbrev pub devices_of : World → device.Devices
 devices_of world = record { shape = world.geometry; wiring = world.wiring }
 
--- what a line tells the devices: a write of State or of the Doorbell (its vector in the low 16 bits, its target in the high ones), of another
--- register, of the configuration space or of the MSI-X region, or a reset
+-- what a line tells the devices: a write of State, of the Doorbell or of another register, of the configuration space or of the MSI-X region,
+-- or a reset
 abbrev pub told_by : Line → Option device.Event
-told_by (line.State peer value) = Some (device.RegisterWritten peer 0x10 value)
-told_by (line.Doorbell peer target vector) = Some (device.RegisterWritten peer 0x0C (65536 * target + vector))
+told_by (line.State peer value) = Some (device.RegisterWritten peer device.state_register value)
+told_by (line.Doorbell peer target vector) = Some (device.RegisterWritten peer device.doorbell_register (device.doorbell_word target vector))
 told_by (line.Reset peer) = Some (device.WasReset peer)
 told_by (line.ConfigWrite peer offset width value) = Some (device.ConfigWritten peer offset width value)
 told_by (line.RegisterWrite peer offset value) = Some (device.RegisterWritten peer offset value)
@@ -52,7 +52,7 @@ arrival older losses delivery =
     if nat_lt (lost_count older delivery.peer) (losses delivery.peer) then line.Lost delivery.peer delivery.vector
     else line.Interrupt delivery.peer delivery.vector
 
--- the lines of these deliveries, one after the other
+-- the lines of these deliveries, in their order
 abbrev pub arrived : List Line → (ℕ → ℕ) → List Delivery → List Line
 arrived older losses [] = []
 arrived older losses (delivery ∷ deliveries) = arrival older losses delivery ∷ arrived (arrival older losses delivery ∷ older) losses deliveries

@@ -1,8 +1,9 @@
 -- The schedule: each act is a list of events, and each event is one peer's.
-use Rattle.std.specs.Prelude.{ℕ, ◌==◌, ◌/◌, ◌%◌, if◌then◌else◌, List, [], ◌∷◌, replicate}
+use Rattle.std.specs.Prelude.{ℕ, ◌==◌, if◌then◌else◌, List, [], ◌∷◌, replicate}
 use Rattle.std.specs.List.{flat_map}
 use Rattle.split_ring.specs.declared.steps.Access.{Access}
 use Rattle.split_ring.specs.declared.steps.Access.TheVariants as access
+use Rattle.doorbell_irq.specs.Events as device
 use Rattle.scenario_text.specs.declared.acts.Act.{Act}
 use Rattle.scenario_text.specs.declared.acts.Act.TheVariants as act
 use Rattle.call_grammar.specs.Calls.{Call, Tick, Stop, Offer, Poll}
@@ -43,12 +44,11 @@ event_peer (Reached peer a) = peer
 event_peer (Loses peer) = peer
 event_peer (Repeated peer vector) = peer
 
--- a write of the register page: State stands at byte 16, and the Doorbell at byte 12, with the vector in its low 16 bits and the target
--- in its high ones
+-- a write of the register page: one of State or of the Doorbell is the access that writes it
 abbrev pub register_event : (peer offset value : ℕ) → Event
 register_event peer offset value =
-    if offset == 0x10 then Acted peer (access.State value)
-    else if offset == 0x0C then Acted peer (access.Ring (value / 65536) (value % 65536))
+    if offset == device.state_register then Acted peer (access.State value)
+    else if offset == device.doorbell_register then Acted peer (access.Ring (device.doorbell_target value) (device.doorbell_vector value))
     else Reached peer (WritesRegister offset value)
 
 -- the events of an act, as a scenario's table of acts has it; `turn P K` is K turns of P

@@ -176,10 +176,8 @@ impl Lines {
     pub fn reserve(&mut self, more: usize) -> Result<(), NoMemory>
         ensures { self.new ≡ self.old }
     {
-        match self.lines.try_reserve(more) {
-            Ok(()) => Ok(()),
-            Err(_) => Err(NoMemory),
-        }
+        self.lines.try_reserve(more)?;
+        Ok(())
     }
 
     /// Puts a line last. At NoMemory, which comes only where memory ran out, the history is unchanged and the line is dropped.

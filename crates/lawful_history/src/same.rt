@@ -1,76 +1,76 @@
-//! Lines that are the same.
+//! Whether two lines are the same; `its_` names a field of the other one.
 ghost use Rattle.std.specs.Prelude.{◌≡◌, ◌↔◌, IsTrue};
 
 use crate::line::Line;
 
 impl Line {
     /// Is it the same line?
-    pub fn same(&self, other: &Line) -> bool
-        ensures { IsTrue result ↔ self.now ≡ other.now }
+    pub fn same(&self, found: &Line) -> bool
+        ensures { IsTrue result ↔ self.now ≡ found.now }
     {
         match self {
-            Line::Read { peer, word, value } => match other {
+            Line::Read { peer, word, value } => match found {
                 Line::Read {
-                    peer: other_peer,
-                    word: other_word,
-                    value: other_value,
-                } => peer == other_peer && word == other_word && value == other_value,
+                    peer: its_peer,
+                    word: its_word,
+                    value: its_value,
+                } => peer == its_peer && word == its_word && value == its_value,
                 _ => false,
             },
-            Line::Write { peer, word, value } => match other {
+            Line::Write { peer, word, value } => match found {
                 Line::Write {
-                    peer: other_peer,
-                    word: other_word,
-                    value: other_value,
-                } => peer == other_peer && word == other_word && value == other_value,
+                    peer: its_peer,
+                    word: its_word,
+                    value: its_value,
+                } => peer == its_peer && word == its_word && value == its_value,
                 _ => false,
             },
-            Line::Denied { peer, word } => match other {
+            Line::Denied { peer, word } => match found {
                 Line::Denied {
-                    peer: other_peer,
-                    word: other_word,
-                } => peer == other_peer && word == other_word,
+                    peer: its_peer,
+                    word: its_word,
+                } => peer == its_peer && word == its_word,
                 _ => false,
             },
-            Line::State { peer, value } => match other {
+            Line::State { peer, value } => match found {
                 Line::State {
-                    peer: other_peer,
-                    value: other_value,
-                } => peer == other_peer && value == other_value,
+                    peer: its_peer,
+                    value: its_value,
+                } => peer == its_peer && value == its_value,
                 _ => false,
             },
             Line::Doorbell {
                 peer,
                 target,
                 vector,
-            } => match other {
+            } => match found {
                 Line::Doorbell {
-                    peer: other_peer,
-                    target: other_target,
-                    vector: other_vector,
-                } => peer == other_peer && target == other_target && vector == other_vector,
+                    peer: its_peer,
+                    target: its_target,
+                    vector: its_vector,
+                } => peer == its_peer && target == its_target && vector == its_vector,
                 _ => false,
             },
-            Line::Interrupt { peer, vector } => match other {
+            Line::Interrupt { peer, vector } => match found {
                 Line::Interrupt {
-                    peer: other_peer,
-                    vector: other_vector,
-                } => peer == other_peer && vector == other_vector,
+                    peer: its_peer,
+                    vector: its_vector,
+                } => peer == its_peer && vector == its_vector,
                 _ => false,
             },
-            Line::Lost { peer, vector } => match other {
+            Line::Lost { peer, vector } => match found {
                 Line::Lost {
-                    peer: other_peer,
-                    vector: other_vector,
-                } => peer == other_peer && vector == other_vector,
+                    peer: its_peer,
+                    vector: its_vector,
+                } => peer == its_peer && vector == its_vector,
                 _ => false,
             },
-            Line::Reset { peer } => match other {
-                Line::Reset { peer: other_peer } => peer == other_peer,
+            Line::Reset { peer } => match found {
+                Line::Reset { peer: its_peer } => peer == its_peer,
                 _ => false,
             },
-            Line::Idle { peer } => match other {
-                Line::Idle { peer: other_peer } => peer == other_peer,
+            Line::Idle { peer } => match found {
+                Line::Idle { peer: its_peer } => peer == its_peer,
                 _ => false,
             },
             Line::ConfigRead {
@@ -78,16 +78,16 @@ impl Line {
                 offset,
                 width,
                 value,
-            } => match other {
+            } => match found {
                 Line::ConfigRead {
-                    peer: other_peer,
-                    offset: other_offset,
-                    width: other_width,
-                    value: other_value,
-                } => peer == other_peer
-                    && offset == other_offset
-                    && width == other_width
-                    && value == other_value,
+                    peer: its_peer,
+                    offset: its_offset,
+                    width: its_width,
+                    value: its_value,
+                } => peer == its_peer
+                    && offset == its_offset
+                    && width == its_width
+                    && value == its_value,
                 _ => false,
             },
             Line::ConfigWrite {
@@ -95,128 +95,128 @@ impl Line {
                 offset,
                 width,
                 value,
-            } => match other {
+            } => match found {
                 Line::ConfigWrite {
-                    peer: other_peer,
-                    offset: other_offset,
-                    width: other_width,
-                    value: other_value,
-                } => peer == other_peer
-                    && offset == other_offset
-                    && width == other_width
-                    && value == other_value,
+                    peer: its_peer,
+                    offset: its_offset,
+                    width: its_width,
+                    value: its_value,
+                } => peer == its_peer
+                    && offset == its_offset
+                    && width == its_width
+                    && value == its_value,
                 _ => false,
             },
             Line::RegisterRead {
                 peer,
                 offset,
                 value,
-            } => match other {
+            } => match found {
                 Line::RegisterRead {
-                    peer: other_peer,
-                    offset: other_offset,
-                    value: other_value,
-                } => peer == other_peer && offset == other_offset && value == other_value,
+                    peer: its_peer,
+                    offset: its_offset,
+                    value: its_value,
+                } => peer == its_peer && offset == its_offset && value == its_value,
                 _ => false,
             },
             Line::RegisterWrite {
                 peer,
                 offset,
                 value,
-            } => match other {
+            } => match found {
                 Line::RegisterWrite {
-                    peer: other_peer,
-                    offset: other_offset,
-                    value: other_value,
-                } => peer == other_peer && offset == other_offset && value == other_value,
+                    peer: its_peer,
+                    offset: its_offset,
+                    value: its_value,
+                } => peer == its_peer && offset == its_offset && value == its_value,
                 _ => false,
             },
             Line::MsixRead {
                 peer,
                 offset,
                 value,
-            } => match other {
+            } => match found {
                 Line::MsixRead {
-                    peer: other_peer,
-                    offset: other_offset,
-                    value: other_value,
-                } => peer == other_peer && offset == other_offset && value == other_value,
+                    peer: its_peer,
+                    offset: its_offset,
+                    value: its_value,
+                } => peer == its_peer && offset == its_offset && value == its_value,
                 _ => false,
             },
             Line::MsixWrite {
                 peer,
                 offset,
                 value,
-            } => match other {
+            } => match found {
                 Line::MsixWrite {
-                    peer: other_peer,
-                    offset: other_offset,
-                    value: other_value,
-                } => peer == other_peer && offset == other_offset && value == other_value,
+                    peer: its_peer,
+                    offset: its_offset,
+                    value: its_value,
+                } => peer == its_peer && offset == its_offset && value == its_value,
                 _ => false,
             },
-            Line::Saw { peer, value } => match other {
+            Line::Saw { peer, value } => match found {
                 Line::Saw {
-                    peer: other_peer,
-                    value: other_value,
-                } => peer == other_peer && value == other_value,
+                    peer: its_peer,
+                    value: its_value,
+                } => peer == its_peer && value == its_value,
                 _ => false,
             },
-            Line::Reclaim { peer, count } => match other {
+            Line::Reclaim { peer, count } => match found {
                 Line::Reclaim {
-                    peer: other_peer,
-                    count: other_count,
-                } => peer == other_peer && count == other_count,
+                    peer: its_peer,
+                    count: its_count,
+                } => peer == its_peer && count == its_count,
                 _ => false,
             },
-            Line::Look { peer, count } => match other {
+            Line::Look { peer, count } => match found {
                 Line::Look {
-                    peer: other_peer,
-                    count: other_count,
-                } => peer == other_peer && count == other_count,
+                    peer: its_peer,
+                    count: its_count,
+                } => peer == its_peer && count == its_count,
                 _ => false,
             },
-            Line::Full { peer } => match other {
-                Line::Full { peer: other_peer } => peer == other_peer,
+            Line::Full { peer } => match found {
+                Line::Full { peer: its_peer } => peer == its_peer,
                 _ => false,
             },
-            Line::Done { peer } => match other {
-                Line::Done { peer: other_peer } => peer == other_peer,
+            Line::Done { peer } => match found {
+                Line::Done { peer: its_peer } => peer == its_peer,
                 _ => false,
             },
-            Line::Over { peer } => match other {
-                Line::Over { peer: other_peer } => peer == other_peer,
+            Line::Over { peer } => match found {
+                Line::Over { peer: its_peer } => peer == its_peer,
                 _ => false,
             },
-            Line::Down { peer } => match other {
-                Line::Down { peer: other_peer } => peer == other_peer,
+            Line::Down { peer } => match found {
+                Line::Down { peer: its_peer } => peer == its_peer,
                 _ => false,
             },
-            Line::Accept { peer, frame } => match other {
+            Line::Accept { peer, frame } => match found {
                 Line::Accept {
-                    peer: other_peer,
-                    frame: other_frame,
-                } => peer == other_peer && frame == other_frame,
+                    peer: its_peer,
+                    frame: its_frame,
+                } => peer == its_peer && frame == its_frame,
                 _ => false,
             },
-            Line::Deliver { peer, frame } => match other {
+            Line::Deliver { peer, frame } => match found {
                 Line::Deliver {
-                    peer: other_peer,
-                    frame: other_frame,
-                } => peer == other_peer && frame == other_frame,
+                    peer: its_peer,
+                    frame: its_frame,
+                } => peer == its_peer && frame == its_frame,
                 _ => false,
             },
-            Line::Return { peer } => match other {
-                Line::Return { peer: other_peer } => peer == other_peer,
+            Line::Return { peer } => match found {
+                Line::Return { peer: its_peer } => peer == its_peer,
                 _ => false,
             },
-            Line::Refuse { peer, refused } => match other {
+            Line::Refuse { peer, refused } => match found {
                 Line::Refuse {
-                    peer: other_peer,
-                    refused: other_refused,
-                } => peer == other_peer
-                    && refused.field == other_refused.field
-                    && refused.value == other_refused.value,
+                    peer: its_peer,
+                    refused: its_refused,
+                } => peer == its_peer
+                    && refused.field == its_refused.field
+                    && refused.value == its_refused.value,
                 _ => false,
             },
         }

@@ -1,12 +1,13 @@
 -- The steps of an offer and of a poll.
-use Rattle.std.proofs.Common.{◌≡◌, ℕ, ◌+◌, ◌/◌, ◌<◌, Bool, true, false, List, refl, All, arith}
+use Rattle.std.proofs.Common.{◌≡◌, ℕ, ◌+◌, ◌/◌, ◌<◌, Bool, true, false, List, refl, subst, ap, All, arith}
 use Rattle.std.specs.Prelude.{if◌then◌else◌}
 use Rattle.std.proofs.lemmas.Grind.{common_steps}
-use Rattle.split_ring.specs.Layout.{size_of, used_place, word_place, Entry}
+use Rattle.split_ring.specs.Layout.{size_of, limit_of, used_place, word_place, Entry}
 use Rattle.call_grammar.specs.Ends.{End, end_after}
 use Rattle.call_grammar.specs.Calls.{Who}
 use Rattle.call_grammar.specs.Places as places
-use Rattle.tx_engine.specs.Sender.{Sender}
+use Rattle.call_grammar.specs.StepBounds.{HasFewInFlight}
+use Rattle.tx_engine.specs.Sender.{Sender, IsSender}
 use Rattle.tx_engine.specs.Stands as tx
 use Rattle.tx_engine.specs.declared.place.Place as tx_places
 use Rattle.tx_engine.specs.declared.place.Place.TheVariants as tx_place
@@ -76,6 +77,63 @@ offer_step who end (places.WritingEntry job) value is = grind (arith, common_ste
 offer_step who end (places.WritingIndex job) value is = grind (arith, common_steps)
 offer_step who end places.RingingOffer value is = grind (arith, common_steps)
 offer_step who end _ value is = absurd (cc)
+
+-- the index of an offer is written next
+abbrev pub is_publishing : places.Place → Bool
+is_publishing (places.WritingIndex job) = true
+is_publishing _ = false
+
+-- a step of an offer that accepts nothing leaves no more frames in flight
+pub offer_few : (who : Who) (end : End) (place : places.Place) (value : ℕ) → in_offer place ≡ true → is_publishing place ≡ false → HasFewInFlight who end →
+    HasFewInFlight who (end_after end (places.step_at who place value))
+offer_few who end (places.AtUsedIndex job freed) value is quiet few = grind (arith, common_steps)
+offer_few who end (places.AtUsedId job freed more) value is quiet few = grind (arith, common_steps)
+offer_few who end (places.WritingIndex job) value is quiet few = absurd (cc)
+offer_few who end (places.Filling job at more) value is quiet few = few
+offer_few who end (places.WritingLow job) value is quiet few = few
+offer_few who end (places.WritingHigh job) value is quiet few = few
+offer_few who end (places.WritingLength job) value is quiet few = few
+offer_few who end (places.WritingFlags job) value is quiet few = few
+offer_few who end (places.WritingEntry job) value is quiet few = few
+offer_few who end places.RingingOffer value is quiet few = few
+offer_few who end _ value is quiet few = absurd (cc)
+
+-- a sender before its doorbell counts the frames in flight
+ringing_at : (p : tx_places.Place) (sender : Sender) (who : Who) (end : End) → tx.IsAt p sender who end places.RingingOffer → tx.Counts sender who end end.freed
+ringing_at tx_place.Ringing sender who end at = at.1
+ringing_at _ sender who end at = absurd (grind (arith, common_steps))
+
+ringing_few : (sender : Sender) (who : Who) (end : End) → IsSender sender → tx.StandsAt sender who end places.RingingOffer → HasFewInFlight who end
+ringing_few sender who end is stands =
+    let counts = ringing_at sender.place sender who end stands.at in
+    let few = is.in_flight in
+    let limit = ap limit_of stands.made.sizes in
+    omega (arith, counts.in_flight, few, limit)
+
+publishing_next : (who : Who) (place : places.Place) (value : ℕ) → is_publishing place ≡ true → places.next_place who place value ≡ places.RingingOffer
+publishing_next who (places.WritingIndex job) value is = refl
+publishing_next who _ value is = absurd (cc)
+
+by_publishing : (who : Who) (end : End) (place : places.Place) (value : ℕ) (b : Bool) → is_publishing place ≡ b → in_offer place ≡ true → HasFewInFlight who end → (next : Sender) → IsSender next →
+    tx.StandsAt next who (end_after end (places.step_at who place value)) (places.next_place who place value) → HasFewInFlight who (end_after end (places.step_at who place value))
+by_publishing who end place value false is offers few next sender stands = offer_few who end place value offers is few
+by_publishing who end place value true is offers few next sender stands =
+    ringing_few next who (end_after end (places.step_at who place value)) sender
+    (subst (λ p. tx.StandsAt next who (end_after end (places.step_at who place value)) p) (publishing_next who place value is) stands)
+
+-- no step of an offer leaves more frames in flight than may be
+pub sent_few : (who : Who) (end : End) (place : places.Place) (value : ℕ) (next : Sender) → in_offer place ≡ true → HasFewInFlight who end → IsSender next →
+    tx.StandsAt next who (end_after end (places.step_at who place value)) (places.next_place who place value) → HasFewInFlight who (end_after end (places.step_at who place value))
+sent_few who end place value next offers few sender stands = by_publishing who end place value (is_publishing place) refl offers few next sender stands
+
+-- and so where a value is refused
+publishing_on : (place : places.Place) (who : Who) (value : ℕ) (b : Bool) → is_publishing place ≡ b → places.next_place who place value ≡ places.Refusing → is_publishing place ≡ false
+publishing_on place who value false is refusing = is
+publishing_on place who value true is refusing = let rings = publishing_next who place value is in absurd (cc)
+
+pub refused_few : (who : Who) (end : End) (place : places.Place) (value : ℕ) → in_offer place ≡ true → HasFewInFlight who end → places.next_place who place value ≡ places.Refusing →
+    HasFewInFlight who (end_after end (places.step_at who place value))
+refused_few who end place value offers few refusing = offer_few who end place value offers (publishing_on place who value (is_publishing place) refl refusing) few
 
 -- the used ring stands after the entries
 below_used : (who : Who) (k : ℕ) → k < size_of who.sizes → word_place who.sizes (Entry k) < used_place (size_of who.sizes) / 4

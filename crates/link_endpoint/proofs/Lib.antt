@@ -7,3 +7,5 @@ pub mod Sending
 pub mod Receiving
 pub mod Seen
 pub mod Starting
+pub mod Away
+pub mod Running

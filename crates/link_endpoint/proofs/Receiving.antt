@@ -8,6 +8,7 @@ use Rattle.call_grammar.specs.Steps.{marks_of}
 use Rattle.call_grammar.specs.Ends.{End, end_after}
 use Rattle.call_grammar.specs.Calls.{Who}
 use Rattle.call_grammar.specs.Places as places
+use Rattle.call_grammar.specs.StepBounds.{HasFewInFlight}
 use Rattle.tx_engine.specs.Sender.{Sender}
 use Rattle.tx_engine.specs.Stands as tx
 use Rattle.tx_engine.specs.declared.place.Place as tx_places
@@ -44,6 +45,8 @@ sender_stays_at _ sender who end other at accepted freed entries phase = absurd 
 -- what the receiver's step says of an end for which the endpoint stands
 record Received (old : Engine) (value : ℕ) (notes : List Note) (next : Receiver) (who : Who) (end : End) (place : places.Place) : Type 0 where
   noted : IsNoted next.frame notes who end place value
+  few : HasFewInFlight who end → HasFewInFlight who (end_after end (places.step_at who place value))
+  frame : next.frame ≡ rx.frame_after place value (delivered old)
   frames : All (IsNoteAt Polling) notes
   sender : tx.StandsAt old.sender who (end_after end (places.step_at who place value)) places.Closed
   receiver : rx.StandsAt next who (end_after end (places.step_at who place value)) (places.next_place who place value)
@@ -57,6 +60,8 @@ received old value notes next who end place polls took stands =
     let marks : marks_of next.frame notes ≡ places.marks_at who place value = taken.marks in
     record {
       noted = record { step = step.step; marks = marks };
+      few = λ few. let accepted = ap (λ frames. length frames) step.accepted in let freed = step.freed in omega (arith, few, accepted, freed);
+      frame = taken.frame;
       frames = poll_notes next.frame notes (subst (All IsOfPoll) (sym marks) step.marks);
       sender = record { made = a.1.made; at = sender_stays_at old.sender.place old.sender who end _ a.1.at step.accepted step.freed step.entries step.step.phase };
       receiver = taken.stands;
@@ -77,6 +82,7 @@ takes old new value notes next who end place polls took stands goes same refused
       marked = λ w e p at. poll_marks (offered old) (delivered new) notes frames ∙ ap (λ f. marks_of f notes) frame ∙ (received old value notes next w e p polls took at).noted.marks;
       frames = subst (λ p. All (IsNoteAt p) notes) (sym polls) frames;
       stands = λ w e p at. goes w e p at (received old value notes next w e p polls took at);
+      delivered = λ w e p at. frame ∙ (received old value notes next w e p polls took at).frame;
       who = same;
       refused = refused;
       offered = λ opened. ap (λ s. s.frame) sender;
@@ -92,6 +98,7 @@ takes_refused old value notes next refused who end place polls took stands found
     (λ w e p at s. record {
       made = at.made;
       standing = refused_standing old next.frame notes refused w e p value at s.noted found;
+      few = s.few at.few;
       at = (refused_place next.frame notes refused w e p value s.noted found, refused_mark next.frame notes refused w e p value s.noted found);
     })
     refl (sym (refused_again notes old.refused refused found)) refl refl refl
@@ -108,6 +115,7 @@ takes_end old value notes next busy who end place polls took stands none busy_is
     record {
       made = at.made;
       standing = kept_standing old next.frame notes w e p value at s.noted none;
+      few = s.few at.few;
       at = (closed, record { sender = s.sender; receiver = subst (rx.StandsAt next w (end_after e (places.step_at w p value))) closed s.receiver });
     })
     refl (sym (refused_kept notes old.refused none)) refl refl refl
@@ -124,6 +132,7 @@ takes_on old value notes next busy who end place polls took stands none busy_is 
     record {
       made = at.made;
       standing = kept_standing old next.frame notes w e p value at s.noted none;
+      few = s.few at.few;
       at = subst (λ q. IsAt q (record old { receiver = next }) w (end_after e (places.step_at w p value)) (places.next_place w p value)) (sym polls) (goes, s.sender, s.receiver);
     })
     refl (sym (refused_kept notes old.refused none)) refl refl (ap is_down_at polls)

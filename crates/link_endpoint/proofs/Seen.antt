@@ -1,5 +1,5 @@
 -- An endpoint whose sender or receiver took a step.
-use Rattle.std.proofs.Common.{◌≡◌, ◌≢◌, ℕ, Option, List, refl, subst, ap, sym, ◌∙◌, arith}
+use Rattle.std.proofs.Common.{◌≡◌, ◌≢◌, ℕ, true, Option, List, refl, subst, ap, sym, ◌∙◌, arith}
 use Rattle.std.proofs.lemmas.Grind.{common_steps}
 use Rattle.std.specs.Prelude.{is_some}
 use Rattle.split_ring.specs.declared.ranges.Refused.{Refused}
@@ -18,6 +18,7 @@ use Rattle.link_endpoint.specs.declared.endpoint.Endpoint.TheInside.{Inside}
 use Rattle.link_endpoint.specs.Engine.{Engine}
 use Rattle.link_endpoint.specs.Kept.{seen, IsKept}
 use Rattle.link_endpoint.specs.Stands.{StandsAt, Takes}
+use Rattle.link_endpoint.specs.Leaving.{IsLeft}
 
 -- the sender keeps its numbers
 pub record KeepsNumbers (old new : Sender) : Type 0 where
@@ -36,9 +37,9 @@ seen_sent i next refused place keeps = ap (λ (w : Who). let e : Engine = record
 
 -- it is kept, where the step is one of the grammar
 pub kept_sent : (i : Inside) (next : Sender) (refused : Option Refused) (place : Place) (value : ℕ) (notes : List Note) → IsKept i → KeepsNumbers i.tx next →
-    (place ≢ Refusing → i.handshake.mark ≡ is_some refused) → Takes (seen i) value notes (seen (record i { refused = refused; place = place; tx = next })) →
+    (place ≢ Refusing → i.handshake.mark ≡ is_some refused) → (is_some refused ≡ true → IsLeft place i.handshake.phase) → Takes (seen i) value notes (seen (record i { refused = refused; place = place; tx = next })) →
     IsKept (record i { refused = refused; place = place; tx = next })
-kept_sent i next refused place value notes kept keeps mark takes =
+kept_sent i next refused place value notes kept keeps mark left takes =
     let new : Inside = record i { refused = refused; place = place; tx = next } in
     let end : End = end_after kept.end (places.step_at (seen i).who kept.at value) in
     let at : places.Place = places.next_place (seen i).who kept.at value in
@@ -49,15 +50,16 @@ kept_sent i next refused place value notes kept keeps mark takes =
       sender = record { sizes = refl; own = kept.sender.own ∙ sym keeps.own; theirs = refl; target = kept.sender.target ∙ sym keeps.target; vector = refl };
       receiver = subst (rx.IsMadeFor i.rx) (who_stays i next keeps) kept.receiver;
       mark = mark;
+      left = left;
       end = end;
       at = at;
       stands = subst (λ w. StandsAt (seen new) w end at) (who_stays i next keeps) (takes.stands (seen i).who kept.end kept.at kept.stands);
     }
 
 pub kept_received : (i : Inside) (next : Receiver) (refused : Option Refused) (place : Place) (value : ℕ) (notes : List Note) → IsKept i → receiver.KeepsNumbers i.rx next →
-    (place ≢ Refusing → i.handshake.mark ≡ is_some refused) → Takes (seen i) value notes (seen (record i { refused = refused; place = place; rx = next })) →
+    (place ≢ Refusing → i.handshake.mark ≡ is_some refused) → (is_some refused ≡ true → IsLeft place i.handshake.phase) → Takes (seen i) value notes (seen (record i { refused = refused; place = place; rx = next })) →
     IsKept (record i { refused = refused; place = place; rx = next })
-kept_received i next refused place value notes kept keeps mark takes = record {
+kept_received i next refused place value notes kept keeps mark left takes = record {
   sections = kept.sections;
   own_room = kept.own_room;
   their_room = kept.their_room;
@@ -70,6 +72,7 @@ kept_received i next refused place value notes kept keeps mark takes = record {
     vector = kept.receiver.vector ∙ sym keeps.vector;
   };
   mark = mark;
+  left = left;
   end = end_after kept.end (places.step_at (seen i).who kept.at value);
   at = places.next_place (seen i).who kept.at value;
   stands = takes.stands (seen i).who kept.end kept.at kept.stands;

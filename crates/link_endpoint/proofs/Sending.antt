@@ -7,7 +7,7 @@ use Rattle.call_grammar.specs.Steps.{marks_of}
 use Rattle.call_grammar.specs.Ends.{End, end_after}
 use Rattle.call_grammar.specs.Calls.{Who}
 use Rattle.call_grammar.specs.Places as places
-use Rattle.tx_engine.specs.Sender.{Sender}
+use Rattle.tx_engine.specs.Sender.{Sender, IsSender}
 use Rattle.tx_engine.specs.Stands as tx
 use Rattle.rx_engine.specs.Receiver.{Receiver}
 use Rattle.rx_engine.specs.Stands as rx
@@ -16,7 +16,7 @@ use Rattle.link_endpoint.specs.Engine.{Engine, is_down, is_down_at, refused_afte
 use Rattle.link_endpoint.specs.Stands.{StandsAt, IsAt, Takes, in_hand}
 use Rattle.link_endpoint.proofs.Opening.{at_place}
 use Rattle.link_endpoint.proofs.Notes.{IsOfOffer, offer_notes, offer_marks, refused_again, refused_kept}
-use Rattle.link_endpoint.proofs.Going.{offer_step, offer_at, goes_on_open, closed_is}
+use Rattle.link_endpoint.proofs.Going.{in_offer, offer_step, offer_at, sent_few, refused_few, goes_on_open, closed_is}
 use Rattle.link_endpoint.proofs.Stepping.{IsNoted, refused_place, refused_mark, refused_standing, kept_place, kept_standing}
 
 -- a receiver without an open poll goes on standing for an end whose session goes on
@@ -26,6 +26,7 @@ receiver_stays receiver who end other stands delivered returned phase = grind (a
 
 -- what the sender's step says of an end for which the endpoint stands
 record Sent (old : Engine) (value : ℕ) (notes : List Note) (next : Sender) (who : Who) (end : End) (place : places.Place) : Type 0 where
+  offers : in_offer place ≡ true
   noted : IsNoted (offered old) notes who end place value
   frames : All (IsNoteAt Offering) notes
   sender : tx.StandsAt next who (end_after end (places.step_at who place value)) (places.next_place who place value)
@@ -35,22 +36,29 @@ sent : (old : Engine) (value : ℕ) (notes : List Note) (next : Sender) (who : W
     old.place ≡ Offering → tx.Takes old.sender value notes next → StandsAt old who end place → Sent old value notes next who end place
 sent old value notes next who end place offers took stands =
     let a : IsAt Offering old who end place = at_place Offering old who end place offers stands in
-    let step = offer_step who end place value (offer_at old.sender who end place a.1 a.0) in
+    let offers_at = offer_at old.sender who end place a.1 a.0 in
+    let step = offer_step who end place value offers_at in
     let marks : marks_of (offered old) notes ≡ places.marks_at who place value = took.marks who end place a.1 in
     record {
+      offers = offers_at;
       noted = record { step = step.step; marks = marks };
       frames = offer_notes (offered old) notes (subst (All IsOfOffer) (sym marks) step.marks);
       sender = took.stands who end place a.1;
       receiver = receiver_stays old.receiver who end _ a.2 step.delivered step.returned step.step.phase;
     }
 
+-- a step of an offer delivers nothing
+offer_frame : (place : places.Place) (value : ℕ) (frame : List ℕ) → in_offer place ≡ true → rx.frame_after place value frame ≡ frame
+offer_frame (places.AtWord number more entry address bytes read words) value frame offers = absurd (cc)
+offer_frame _ value frame offers = refl
+
 -- the step of an endpoint, which stands for some end
 takes : (old new : Engine) (value : ℕ) (notes : List Note) (next : Sender) (who : Who) (end : End) (place : places.Place) →
     old.place ≡ Offering → tx.Takes old.sender value notes next → StandsAt old who end place →
     ((w : Who) (e : End) (p : places.Place) → StandsAt old w e p → Sent old value notes next w e p → StandsAt new w (end_after e (places.step_at w p value)) (places.next_place w p value)) →
-    new.who ≡ old.who → new.refused ≡ refused_after notes old.refused → new.sender ≡ next →
+    new.who ≡ old.who → new.refused ≡ refused_after notes old.refused → new.sender ≡ next → new.receiver ≡ old.receiver →
     is_down new ≡ false → Takes old value notes new
-takes old new value notes next who end place offers took stands goes same refused sender down =
+takes old new value notes next who end place offers took stands goes same refused sender receiver down =
     let frames = (sent old value notes next who end place offers took stands).frames in
     let hand = ap (λ p. in_hand p (offered old) (delivered new)) offers in
     record {
@@ -58,6 +66,7 @@ takes old new value notes next who end place offers took stands goes same refuse
       marked = λ w e p at. offer_marks (offered old) (delivered new) notes frames ∙ (sent old value notes next w e p offers took at).noted.marks;
       frames = subst (λ p. All (IsNoteAt p) notes) (sym offers) frames;
       stands = λ w e p at. goes w e p at (sent old value notes next w e p offers took at);
+      delivered = λ w e p at. ap (λ r. r.frame) receiver ∙ sym (offer_frame p value (delivered old) (sent old value notes next w e p offers took at).offers);
       who = same;
       refused = refused;
       offered = λ opened. ap (λ s. s.frame) sender ∙ ap (λ s. s.frame) took.kept;
@@ -73,38 +82,41 @@ takes_refused old value notes next refused who end place offers took stands foun
     (λ w e p at s. record {
       made = at.made;
       standing = refused_standing old (offered old) notes refused w e p value at s.noted found;
+      few = refused_few w e p value s.offers at.few (refused_place (offered old) notes refused w e p value s.noted found);
       at = (refused_place (offered old) notes refused w e p value s.noted found, refused_mark (offered old) notes refused w e p value s.noted found);
     })
-    refl (sym (refused_again notes old.refused refused found)) refl refl
+    refl (sym (refused_again notes old.refused refused found)) refl refl refl
 
 -- the offer is over where the new sender isn't busy
 pub takes_end : (old : Engine) (value : ℕ) (notes : List Note) (next : Sender) (busy : Bool) (who : Who) (end : End) (place : places.Place) →
-    old.place ≡ Offering → tx.Takes old.sender value notes next → StandsAt old who end place → refused_after notes None ≡ None →
+    old.place ≡ Offering → tx.Takes old.sender value notes next → StandsAt old who end place → refused_after notes None ≡ None → IsSender next →
     ((w : Who) (e : End) (p : places.Place) → tx.StandsAt next w e p → busy ≡ places.is_open p) → busy ≡ false →
     Takes old value notes (record old { place = Closed; sender = next })
-takes_end old value notes next busy who end place offers took stands none busy_is over =
+takes_end old value notes next busy who end place offers took stands none sender busy_is over =
     takes old _ value notes next who end place offers took stands
     (λ w e p at s.
     let closed = closed_is (places.next_place w p value) (sym (busy_is w _ _ s.sender) ∙ over) in
     record {
       made = at.made;
       standing = kept_standing old (offered old) notes w e p value at s.noted none;
+      few = sent_few w e p value next s.offers at.few sender s.sender;
       at = (closed, record { sender = subst (tx.StandsAt next w (end_after e (places.step_at w p value))) closed s.sender; receiver = s.receiver });
     })
-    refl (sym (refused_kept notes old.refused none)) refl refl
+    refl (sym (refused_kept notes old.refused none)) refl refl refl
 
 -- else it goes on
 pub takes_on : (old : Engine) (value : ℕ) (notes : List Note) (next : Sender) (busy : Bool) (who : Who) (end : End) (place : places.Place) →
-    old.place ≡ Offering → tx.Takes old.sender value notes next → StandsAt old who end place → refused_after notes None ≡ None →
+    old.place ≡ Offering → tx.Takes old.sender value notes next → StandsAt old who end place → refused_after notes None ≡ None → IsSender next →
     ((w : Who) (e : End) (p : places.Place) → tx.StandsAt next w e p → busy ≡ places.is_open p) → busy ≡ true →
     Takes old value notes (record old { sender = next })
-takes_on old value notes next busy who end place offers took stands none busy_is on =
+takes_on old value notes next busy who end place offers took stands none sender busy_is on =
     takes old _ value notes next who end place offers took stands
     (λ w e p at s.
     let goes = goes_on_open (places.next_place w p value) (sym (busy_is w _ _ s.sender) ∙ on) (kept_place (offered old) notes w e p value s.noted none) in
     record {
       made = at.made;
       standing = kept_standing old (offered old) notes w e p value at s.noted none;
+      few = sent_few w e p value next s.offers at.few sender s.sender;
       at = subst (λ q. IsAt q (record old { sender = next }) w (end_after e (places.step_at w p value)) (places.next_place w p value)) (sym offers) (goes, s.sender, s.receiver);
     })
-    refl (sym (refused_kept notes old.refused none)) refl (ap is_down_at offers)
+    refl (sym (refused_kept notes old.refused none)) refl refl (ap is_down_at offers)

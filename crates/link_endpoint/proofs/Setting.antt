@@ -13,7 +13,7 @@ use Rattle.call_grammar.specs.Reach.{HasSections}
 use Rattle.tx_engine.specs.Stands as tx
 use Rattle.rx_engine.specs.Stands as rx
 use Rattle.link_endpoint.specs.declared.place.Place.TheVariants.{Closed, Setting}
-use Rattle.link_endpoint.specs.Engine.{Engine}
+use Rattle.link_endpoint.specs.Engine.{Engine, delivered}
 use Rattle.link_endpoint.specs.Stands.{StandsAt, IsClearBefore, Rests, Takes}
 use Rattle.link_endpoint.proofs.Opening.{at_place}
 
@@ -48,8 +48,8 @@ pub opens_session : (old new : Engine) (value : ℕ) → HasSections old.who →
     new ≡ record old { phase = Ready; place = Closed; sender = new.sender; receiver = new.receiver } →
     ((who : Who) (end : End) → tx.IsMadeFor old.sender who → tx.IsFreshSession who end → tx.StandsAt new.sender who end places.Closed) →
     ((who : Who) (end : End) → rx.IsMadeFor old.receiver who → rx.IsFreshSession end → rx.StandsAt new.receiver who end places.Closed) →
-    Takes old value (note.Over ∷ []) new
-opens_session old new value has sets new_is sender receiver = record {
+    delivered new ≡ delivered old → Takes old value (note.Over ∷ []) new
+opens_session old new value has sets new_is sender receiver frame = record {
   marks = λ who end place stands. let a = at_place (Setting 2) old who end place sets stands in grind (arith, common_steps);
   marked = λ who end place stands. let a = at_place (Setting 2) old who end place sets stands in grind (arith, common_steps);
   frames = grind (arith, common_steps);
@@ -57,6 +57,7 @@ opens_session old new value has sets new_is sender receiver = record {
       let a = at_place (Setting 2) old who end place sets stands in
       let rests = opened old new value who end place has sets sender receiver stands in
       grind (arith, common_steps);
+  delivered = λ who end place stands. let a = at_place (Setting 2) old who end place sets stands in grind (arith, common_steps);
   who = grind (arith, common_steps);
   refused = grind (arith, common_steps);
   offered = grind (arith, common_steps);

@@ -1,5 +1,5 @@
 -- An endpoint at its start.
-use Rattle.std.proofs.Common.{[], refl}
+use Rattle.std.proofs.Common.{[], refl, arith}
 use Rattle.call_grammar.specs.Ends.{fresh}
 use Rattle.call_grammar.specs.Calls.{Who}
 use Rattle.call_grammar.specs.Places as places
@@ -11,6 +11,7 @@ pub fresh_stands : (who : Who) → StandsAt (fresh_engine who) who fresh places.
 fresh_stands who = record {
   made = refl;
   standing = refl;
+  few = omega arith;
   at = (
     refl,
     record {

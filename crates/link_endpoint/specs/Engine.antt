@@ -1,21 +1,21 @@
 -- An endpoint as contracts see it.
-use Rattle.std.specs.Prelude.{ℕ, ◌==◌, Bool, true, false, if◌then◌else◌, Option, Some, None, is_some, List, [], ◌∷◌}
+use Rattle.std.specs.Prelude.{ℕ, ◌==◌, Bool, true, false, not, if◌then◌else◌, Option, Some, None, is_some, List, [], ◌∷◌}
 use Rattle.section_map.specs.Geometry.{Shape, section_start}
 use Rattle.split_ring.specs.Layout.{Sizes}
 use Rattle.split_ring.specs.declared.ranges.Refused.{Refused}
 use Rattle.split_ring.specs.declared.steps.Note.{Note}
 use Rattle.split_ring.specs.declared.steps.Note.TheVariants as note
 use Rattle.link_handshake.specs.declared.Phase.{Phase}
-use Rattle.link_handshake.specs.declared.Phase.TheVariants.{Reset, Init, Ready, Run}
+use Rattle.link_handshake.specs.declared.Phase.TheVariants.{Reset}
 use Rattle.link_handshake.specs.Standing.{Standing}
 use Rattle.call_grammar.specs.Calls.{Who}
 use Rattle.call_grammar.specs.Calls as calls
 use Rattle.tx_engine.specs.Sender.{Sender, fresh_sender}
-use Rattle.rx_engine.specs.Receiver.{Receiver, fresh_receiver}
+use Rattle.rx_engine.specs.Receiver.{Receiver, fresh_receiver, renewed}
 use Rattle.link_endpoint.specs.declared.place.Call.{Call}
 use Rattle.link_endpoint.specs.declared.place.Call.TheVariants.{Tick, Poll, Stop}
 use Rattle.link_endpoint.specs.declared.place.Place.{Place}
-use Rattle.link_endpoint.specs.declared.place.Place.TheVariants.{Closed, Downed, Offering, Polling}
+use Rattle.link_endpoint.specs.declared.place.Place.TheVariants.{Closed, Looking, Refusing, Downed, Offering, Polling}
 
 -- the two ends of the link are peers 0 and 1 (profile)
 abbrev pub partner : ℕ → ℕ
@@ -53,6 +53,10 @@ fresh_engine who = record {
   receiver = fresh_receiver who.sizes who.own who.theirs who.other who.vector;
 }
 
+-- an endpoint whose device was reset: only the frame delivered last stays
+abbrev pub engine_after_reset : Engine → Engine
+engine_after_reset e = record (fresh_engine e.who) { receiver = renewed e.receiver }
+
 -- a call is open at each place but one
 abbrev pub is_open_at : Place → Bool
 is_open_at Closed = false
@@ -68,6 +72,22 @@ is_down_at _ = false
 
 abbrev pub is_down : Engine → Bool
 is_down e = is_down_at e.place
+
+-- the State step of a refusal is next
+abbrev pub is_leaving_at : Place → Bool
+is_leaving_at Refusing = true
+is_leaving_at _ = false
+
+abbrev pub is_leaving : Engine → Bool
+is_leaving e = is_leaving_at e.place
+
+-- the look of a Tick is next
+abbrev pub is_looking_at : Place → Bool
+is_looking_at Looking = true
+is_looking_at _ = false
+
+abbrev pub is_looking : Engine → Bool
+is_looking e = is_looking_at e.place
 
 -- where its handshake stands: it bears the mark where it refused something
 abbrev pub standing_of : Engine → Standing
@@ -89,12 +109,13 @@ call_of Stop = calls.Stop
 
 -- a call is down where it is a poll outside RUN
 abbrev pub comes_down : Call → Phase → Bool
-comes_down Tick phase = false
-comes_down Poll Reset = true
-comes_down Poll Init = true
-comes_down Poll Ready = true
-comes_down Poll Run = false
-comes_down Stop phase = false
+comes_down Poll phase = not (calls.in_run phase)
+comes_down _ phase = false
+
+-- the call is a Tick
+abbrev pub is_tick : Call → Bool
+is_tick Tick = true
+is_tick _ = false
 
 -- what was refused last after these notes
 abbrev pub refused_after : List Note → Option Refused → Option Refused
@@ -108,4 +129,4 @@ IsNoteAt Offering note.Accept = Unit {0}
 IsNoteAt Polling note.Deliver = Unit {0}
 IsNoteAt place note.Accept = ⊥
 IsNoteAt place note.Deliver = ⊥
-IsNoteAt place other = Unit {0}
+IsNoteAt place _ = Unit {0}

@@ -1,5 +1,5 @@
 -- What the fields of an endpoint are, and those of an automatic peer.
-use Rattle.std.specs.Prelude.{◌≡◌, ◌≢◌, ◌+◌, ◌*◌, ◌^◌, ◌≤◌, is_some}
+use Rattle.std.specs.Prelude.{◌≡◌, ◌≢◌, ◌+◌, ◌*◌, ◌^◌, ◌≤◌, true, is_some}
 use Rattle.call_grammar.specs.Ends.{End}
 use Rattle.call_grammar.specs.Places as places
 use Rattle.call_grammar.specs.Reach.{HasSections}
@@ -9,6 +9,7 @@ use Rattle.link_endpoint.specs.declared.place.Place.TheVariants.{Refusing}
 use Rattle.link_endpoint.specs.declared.endpoint.Endpoint.TheInside as endpoint
 use Rattle.link_endpoint.specs.Engine.{Engine, partner}
 use Rattle.link_endpoint.specs.Stands.{StandsAt}
+use Rattle.link_endpoint.specs.Leaving.{IsLeft}
 
 abbrev pub seen : endpoint.Inside → Engine
 seen i = record {
@@ -21,7 +22,7 @@ seen i = record {
 }
 
 -- the sender and the receiver are this peer's, whose sections end at or before byte 2^24 of the region; the handshake bears the mark where something was
--- refused, but between a refusal and its State step; and the endpoint stands for some end
+-- refused, but between a refusal and its State step, and the end has left the link then; and the endpoint stands for some end
 pub record IsKept (i : endpoint.Inside) : Type 0 where
   pub sections : HasSections (seen i).who
   pub own_room : 4 * i.own + i.tx.sizes.out ≤ 2 ^ 24
@@ -29,6 +30,7 @@ pub record IsKept (i : endpoint.Inside) : Type 0 where
   pub sender : tx.IsMadeFor i.tx (seen i).who
   pub receiver : rx.IsMadeFor i.rx (seen i).who
   pub mark : i.place ≢ Refusing → i.handshake.mark ≡ is_some i.refused
+  pub left : is_some i.refused ≡ true → IsLeft i.place i.handshake.phase
   pub end : End
   pub at : places.Place
   pub stands : StandsAt (seen i) (seen i).who end at

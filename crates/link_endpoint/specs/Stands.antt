@@ -7,6 +7,7 @@ use Rattle.call_grammar.specs.Steps.{Mark, Saw, Accept, Over, mark_of, marks_of}
 use Rattle.call_grammar.specs.Ends.{End, end_after}
 use Rattle.call_grammar.specs.Calls.{Who, Tick}
 use Rattle.call_grammar.specs.Places as places
+use Rattle.call_grammar.specs.StepBounds.{HasFewInFlight}
 use Rattle.tx_engine.specs.Stands as tx
 use Rattle.rx_engine.specs.Stands as rx
 use Rattle.link_endpoint.specs.declared.place.Place.{Place}
@@ -47,17 +48,19 @@ goes_on _ = true
 abbrev pub IsAt : Place → Engine → Who → End → places.Place → Type 0
 IsAt Closed e who end place = (place ≡ places.Closed) × Rests e who end
 IsAt Looking e who end place = (place ≡ places.AtState end.handshake) × Rests e who end
-IsAt (Clearing at state) e who end place = (place ≡ places.Clearing at (who.own + who.words - (at + 1)) state) × IsClearing who end at state × Rests e who end
+IsAt (Clearing at state) e who end place =
+    (place ≡ places.Clearing at (who.own + who.words - (at + 1)) state) × IsClearing who end at state × Rests e who end
 IsAt (Setting state) e who end place = (place ≡ places.Setting state) × MaySet who end state × Rests e who end
 IsAt Refusing e who end place = (place ≡ places.Refusing) × (end.handshake.mark ≡ true)
 IsAt Downed e who end place = (place ≡ places.Downed) × Rests e who end
 IsAt Offering e who end place = (goes_on place ≡ true) × tx.StandsAt e.sender who end place × rx.StandsAt e.receiver who end places.Closed
 IsAt Polling e who end place = (goes_on place ≡ true) × tx.StandsAt e.sender who end places.Closed × rx.StandsAt e.receiver who end place
 
--- the endpoint stands for this end of this peer, at this place of its open call
+-- the endpoint stands for this end of this peer, at this place of its open call; no more of the end's frames are in flight than may be
 pub record StandsAt (e : Engine) (who : Who) (end : End) (place : places.Place) : Type 0 where
   pub made : who ≡ e.who
   pub standing : end.handshake ≡ standing_of e
+  pub few : HasFewInFlight who end
   pub at : IsAt e.place e who end place
 
 -- Its steps
@@ -65,7 +68,7 @@ pub record StandsAt (e : Engine) (who : Who) (end : End) (place : places.Place) 
 -- the mark of a note, where the one is the frame of the open offer and the other the frame delivered last
 abbrev pub mark_between : (offered delivered : List ℕ) → Note → Mark
 mark_between offered delivered note.Accept = Accept offered
-mark_between offered delivered other = mark_of delivered other
+mark_between offered delivered n = mark_of delivered n
 
 abbrev pub marks_between : (offered delivered : List ℕ) → List Note → List Mark
 marks_between offered delivered notes = map (mark_between offered delivered) notes
@@ -77,10 +80,15 @@ in_hand _ offered delivered = offered
 
 -- whatever end it stands for, the endpoint takes the step of its place that meets this value, with these notes, and is the new one then
 pub record Takes (old : Engine) (value : ℕ) (notes : List Note) (new : Engine) : Type 0 where
-  pub marks : (who : Who) (end : End) (place : places.Place) → StandsAt old who end place → marks_of (in_hand old.place (offered old) (delivered new)) notes ≡ places.marks_at who place value
-  pub marked : (who : Who) (end : End) (place : places.Place) → StandsAt old who end place → marks_between (offered old) (delivered new) notes ≡ places.marks_at who place value
+  pub marks : (who : Who) (end : End) (place : places.Place) → StandsAt old who end place →
+      marks_of (in_hand old.place (offered old) (delivered new)) notes ≡ places.marks_at who place value
+  pub marked : (who : Who) (end : End) (place : places.Place) → StandsAt old who end place →
+      marks_between (offered old) (delivered new) notes ≡ places.marks_at who place value
   pub frames : All (IsNoteAt old.place) notes
-  pub stands : (who : Who) (end : End) (place : places.Place) → StandsAt old who end place → StandsAt new who (end_after end (places.step_at who place value)) (places.next_place who place value)
+  pub stands : (who : Who) (end : End) (place : places.Place) → StandsAt old who end place →
+      StandsAt new who (end_after end (places.step_at who place value)) (places.next_place who place value)
+  pub delivered : (who : Who) (end : End) (place : places.Place) → StandsAt old who end place →
+      delivered new ≡ rx.frame_after place value (delivered old)
   pub who : new.who ≡ old.who
   pub refused : new.refused ≡ refused_after notes old.refused
   pub offered : is_busy new ≡ true → offered new ≡ offered old
@@ -96,4 +104,5 @@ pub record Opens (old new : Engine) : Type 0 where
 -- a Tick of an end that refused something looks at the other's state, and that is all
 abbrev pub RefusedEndsStay : Type 0
 RefusedEndsStay = (e : Engine) (who : Who) (end : End) (value : ℕ) → StandsAt e who end places.Closed → is_some e.refused ≡ true →
-    (places.marks_at who (places.first_place who end Tick) value ≡ Saw value ∷ Over ∷ []) × (places.next_place who (places.first_place who end Tick) value ≡ places.Closed)
+    (places.marks_at who (places.first_place who end Tick) value ≡ Saw value ∷ Over ∷ []) ×
+    (places.next_place who (places.first_place who end Tick) value ≡ places.Closed)

@@ -1,20 +1,23 @@
 //! One end of the link, which takes its calls step by step. It makes no access itself.
 ghost use Rattle.std.specs.Prelude.{◌≡◌, ℕ, ◌+◌, ◌*◌, ◌≤◌, ◌↔◌, not, is_some, None, [], ◌∷◌, true, false, IsTrue, IfOk, length};
-ghost use Rattle.link_handshake.specs.PhaseTable.{phase_at};
 ghost use Rattle.link_handshake.specs.declared.Phase.TheVariants.{Run};
 ghost use Rattle.call_grammar.specs.Ends.{End, fresh, after_reset};
 ghost use Rattle.call_grammar.specs.Calls.{Who, Offer, in_run};
 ghost use Rattle.call_grammar.specs.Places as places;
 ghost use Rattle.call_grammar.specs.Reach.{InReach};
-ghost use Rattle.link_endpoint.specs.Engine.{who_of, fresh_engine, is_busy, is_down, offered, delivered, call_of, comes_down, refused_after};
+ghost use Rattle.call_grammar.specs.Ticks.{other_state};
+ghost use Rattle.call_grammar.specs.StepBounds.{HasFewInFlight};
+ghost use Rattle.link_endpoint.specs.Engine.{who_of, fresh_engine, engine_after_reset, is_busy, is_down, is_leaving, is_looking, is_tick, offered, delivered, call_of, comes_down, refused_after};
 ghost use Rattle.link_endpoint.specs.Stands.{StandsAt, Takes, Opens};
+ghost use Rattle.link_endpoint.specs.Leaving.{Refuses, Leaves, KeepsRefused, Stays, KeepsAway};
+ghost use Rattle.link_endpoint.specs.Runs.{EndpointsMakeCalls};
 
 use crate::place::{Call, Place};
 use ivs_base::NoMemory;
-use link_handshake::{Handshake, Move, Phase};
+use link_handshake::{Handshake, Move, Phase, phase_of};
 use rx_engine::Rx;
 use section_map::Geometry;
-use split_ring::steps::{Access, Note, Notes};
+use split_ring::steps::{Access, Note, Notes, leaving, left, noted};
 use split_ring::{Queue, Refused};
 use std::alloc::Global;
 use std::marker::Model;
@@ -45,18 +48,6 @@ impl Model for Endpoint {
     ghost view = { seen };
 
     ghost invariant = { IsKept };
-}
-
-/// The phase that a state stands for.
-fn phase_of(state: u32) -> Phase
-    ensures { result ≡ phase_at state }
-{
-    match state {
-        0 => Phase::Reset,
-        1 => Phase::Init,
-        2 => Phase::Ready,
-        _ => Phase::Run,
-    }
 }
 
 impl Endpoint {
@@ -101,16 +92,18 @@ impl Endpoint {
         !matches!(self.place, Place::Closed)
     }
 
-    /// The phase of the end. It changes at a State step and at a reset.
+    /// The phase of the end. It changes at a State step and at a reset. An end that refused a value is in RESET from the State step of
+    /// the refusal on, until it is reset.
     pub fn phase(&self) -> Phase
         ensures value { result ≡ self.now.phase }
         ensures end { (who : Who) (end : End) (place : places.Place) → StandsAt self.now who end place → result ≡ end.handshake.phase }
+        ensures left { is_some self.now.refused ≡ true → is_leaving self.now ≡ false → result ≡ Phase.Reset }
     {
         self.handshake.phase()
     }
 
-    /// The value that the end refused, from the step that read it until the next reset: a Stop leaves it, and each Tick finds that
-    /// the end stays.
+    /// The value that the end refused, with its field, from the step that read it until the next reset: a Stop leaves it, and each
+    /// Tick finds that the end stays.
     pub fn refused(&self) -> Option<Refused>
         ensures value { result ≡ self.now.refused }
         ensures end { (who : Who) (end : End) (place : places.Place) → StandsAt self.now who end place → is_some result ≡ end.handshake.mark }
@@ -125,8 +118,8 @@ impl Endpoint {
         self.tx.frame()
     }
 
-    /// The frame delivered last. It is empty before the first one, while the words of the next one are read, and after a reset, a
-    /// refusal, or the State step that opens a session.
+    /// The frame delivered last: from the step that delivers it to the one that delivers the next, through refusals, stops and resets.
+    /// It is empty before the first.
     pub fn delivered(&self) -> &[u8]
         ensures { result.now ≡ delivered self.now }
     {
@@ -136,9 +129,11 @@ impl Endpoint {
     /// Opens a call.
     pub fn begin(&mut self, call: Call)
         requires { is_busy self.old ≡ false }
-        ensures stands { (who : Who) (end : End) → StandsAt self.old who end places.Closed → StandsAt self.new who end (places.first_place who end (call_of call)) }
+        ensures stands { (who : Who) (end : End) → StandsAt self.old who end places.Closed →
+            StandsAt self.new who end (places.first_place who end (call_of call)) }
         ensures open { is_busy self.new ≡ true }
         ensures down { is_down self.new ≡ comes_down call self.old.phase }
+        ensures looks { is_looking self.new ≡ is_tick call }
         ensures kept { Opens self.old self.new }
     {
         match call {
@@ -153,10 +148,14 @@ impl Endpoint {
     }
 
     /// Opens an offer of this frame, which is copied.
+    ///
+    /// In each phase no more frames are in flight than may be, and so the offer has no more steps than its bound.
     pub fn offer(&mut self, frame: &[u8])
         requires closed { is_busy self.old ≡ false }
         requires frame { (14 ≤ length frame.now) × (length frame.now ≤ self.old.who.sizes.mtu + 18) }
-        ensures stands { (who : Who) (end : End) → StandsAt self.old who end places.Closed → StandsAt self.new who end (places.first_place who end (Offer frame.now)) }
+        ensures stands { (who : Who) (end : End) → StandsAt self.old who end places.Closed →
+            StandsAt self.new who end (places.first_place who end (Offer frame.now)) }
+        ensures few { (who : Who) (end : End) (place : places.Place) → StandsAt self.old who end place → HasFewInFlight who end }
         ensures open { is_busy self.new ≡ true }
         ensures down { is_down self.new ≡ not (in_run self.old.phase) }
         ensures frame { self.old.phase ≡ Run → offered self.new ≡ frame.now }
@@ -177,12 +176,13 @@ impl Endpoint {
         ensures access { (who : Who) (end : End) (place : places.Place) → StandsAt self.now who end place → result ≡ places.access_at who place }
         ensures reach { InReach self.now.who result }
         ensures nothing { (result ≡ Access.Nothing) ↔ IsTrue (is_down self.now) }
+        ensures leaves { is_leaving self.now ≡ true → result ≡ Access.State 0 }
     {
         match self.place {
-            Place::Looking => Access::Read(self.other),
+            Place::Looking => Access::Read(self.other_state()),
             Place::Clearing { at, .. } => Access::Write(at, 0),
             Place::Setting(state) => Access::State(state),
-            Place::Refusing => Access::State(0),
+            Place::Refusing => leaving(),
             Place::Downed => Access::Nothing,
             Place::Offering => self.tx.next(),
             Place::Polling => self.rx.next(),
@@ -192,10 +192,15 @@ impl Endpoint {
 
     /// Takes the step of the access that `next` told. `value` is what a read gave; a step of another access makes no use of it.
     ///
-    /// The frame of an Accept note is the one offered, and that of a Deliver note is `delivered`.
+    /// The frame of an Accept note is the one offered, and that of a Deliver note is `delivered`. After a step that refuses a value the
+    /// next one is State 0, with which the end is in RESET; it stays there, and keeps what it refused, until it is reset.
     pub fn took(&mut self, value: u32) -> Notes
         requires { is_busy self.old ≡ true }
-        ensures { Takes self.old value result.items self.new }
+        ensures steps { Takes self.old value result.items self.new }
+        ensures refuses { Refuses result.items self.new }
+        ensures leaves { Leaves self.old result.items self.new }
+        ensures keeps { KeepsRefused self.old self.new }
+        ensures stays { Stays self.old value result.items self.new }
     {
         match self.place {
             Place::Looking => self.took_state(value),
@@ -209,10 +214,12 @@ impl Endpoint {
         }
     }
 
-    /// The end's own device was reset: the open call is cut, and what was refused is forgotten.
+    /// The end's own device was reset: the open call is cut, and what was refused is forgotten. The frame delivered last stays.
     pub fn reset(&mut self)
-        ensures value { self.new ≡ fresh_engine self.old.who }
-        ensures stands { (who : Who) (end : End) (place : places.Place) → StandsAt self.old who end place → StandsAt self.new who (after_reset end) places.Closed }
+        ensures value { self.new ≡ engine_after_reset self.old }
+        ensures stands { (who : Who) (end : End) (place : places.Place) → StandsAt self.old who end place →
+            StandsAt self.new who (after_reset end) places.Closed }
+        ensures delivered { delivered self.new ≡ delivered self.old }
     {
         self.handshake.reset();
         self.refused = None;
@@ -224,13 +231,20 @@ impl Endpoint {
 
 /// The steps of `took`, one for each place.
 impl Endpoint {
+    /// The word with the other's State.
+    fn other_state(&self) -> u32
+        ensures { result ≡ other_state self.now.who }
+    {
+        self.other
+    }
+
     /// The read of the other's state.
     fn took_state(&mut self, value: u32) -> Notes
         requires { self.old.place ≡ Place.Looking }
-        ensures { Takes self.old value result.items self.new }
+        ensures steps { Takes self.old value result.items self.new }
+        ensures leaving { KeepsAway self.old value result.items self.new }
     {
-        let mut notes = Notes::new();
-        notes.push(Note::Saw(value));
+        let mut notes = noted(Note::Saw(value));
         self.place = match self.handshake.saw(value) {
             Move::Stay => {
                 notes.push(Note::Over);
@@ -245,7 +259,8 @@ impl Endpoint {
     /// The write of 0 to an own word.
     fn took_clear(&mut self, at: u32, then: u32) -> Notes
         requires { self.old.place ≡ Place.Clearing at then }
-        ensures { (value : ℕ) → Takes self.old value result.items self.new }
+        ensures steps { (value : ℕ) → Takes self.old value result.items self.new }
+        ensures leaving { (value : ℕ) → KeepsAway self.old value result.items self.new }
     {
         let end = self.own + self.words;
         self.place = if at + 1 == end {
@@ -259,7 +274,8 @@ impl Endpoint {
     /// The State step of a Tick or a Stop.
     fn took_set(&mut self, state: u32) -> Notes
         requires { self.old.place ≡ Place.Setting state }
-        ensures { (value : ℕ) → Takes self.old value result.items self.new }
+        ensures steps { (value : ℕ) → Takes self.old value result.items self.new }
+        ensures leaving { (value : ℕ) → KeepsAway self.old value result.items self.new }
     {
         if state == 2 {
             return self.took_opening();
@@ -272,7 +288,8 @@ impl Endpoint {
     /// The State step that opens a session.
     fn took_opening(&mut self) -> Notes
         requires { self.old.place ≡ Place.Setting 2 }
-        ensures { (value : ℕ) → Takes self.old value result.items self.new }
+        ensures steps { (value : ℕ) → Takes self.old value result.items self.new }
+        ensures leaving { (value : ℕ) → KeepsAway self.old value result.items self.new }
     {
         self.tx.reset();
         self.rx.reset();
@@ -284,19 +301,21 @@ impl Endpoint {
     /// The State step of a refusal, with which the session is over.
     fn took_refusal(&mut self) -> Notes
         requires { self.old.place ≡ Place.Refusing }
-        ensures { (value : ℕ) → Takes self.old value result.items self.new }
+        ensures steps { (value : ℕ) → Takes self.old value result.items self.new }
+        ensures leaving { (value : ℕ) → KeepsAway self.old value result.items self.new }
     {
         self.tx.reset();
         self.rx.reset();
         self.handshake.refuse();
         self.place = Place::Closed;
-        noted(Note::Over)
+        left()
     }
 
     /// The one step of a call that is down.
     fn took_down(&mut self) -> Notes
         requires { self.old.place ≡ Place.Downed }
-        ensures { (value : ℕ) → Takes self.old value result.items self.new }
+        ensures steps { (value : ℕ) → Takes self.old value result.items self.new }
+        ensures leaving { (value : ℕ) → KeepsAway self.old value result.items self.new }
     {
         self.place = Place::Closed;
         noted(Note::Down)
@@ -305,7 +324,8 @@ impl Endpoint {
     /// A step of the sender.
     fn took_offer(&mut self, value: u32) -> Notes
         requires { self.old.place ≡ Place.Offering }
-        ensures { Takes self.old value result.items self.new }
+        ensures steps { Takes self.old value result.items self.new }
+        ensures leaving { KeepsAway self.old value result.items self.new }
     {
         let notes = self.tx.took(value);
         if let Some(refused) = refused_in(notes.as_slice()) {
@@ -320,7 +340,8 @@ impl Endpoint {
     /// A step of the receiver.
     fn took_poll(&mut self, value: u32) -> Notes
         requires { self.old.place ≡ Place.Polling }
-        ensures { Takes self.old value result.items self.new }
+        ensures steps { Takes self.old value result.items self.new }
+        ensures leaving { KeepsAway self.old value result.items self.new }
     {
         let notes = self.rx.took(value);
         if let Some(refused) = refused_in(notes.as_slice()) {
@@ -331,15 +352,6 @@ impl Endpoint {
         }
         notes
     }
-}
-
-/// One note.
-fn noted(note: Note) -> Notes
-    ensures { result.items ≡ note ∷ [] }
-{
-    let mut notes = Notes::new();
-    notes.push(note);
-    notes
 }
 
 /// What the last Refuse of these notes refused.
@@ -354,3 +366,8 @@ fn refused_in(notes: &[Note]) -> Option<Refused>
     }
     refused
 }
+
+/// Law: each offer, poll, tick and stop of an endpoint is a call of the grammar, over any values, and a beginning of one where it is cut.
+pub fn endpoints_make_calls()
+    ensures { EndpointsMakeCalls }
+{}

@@ -5,9 +5,9 @@ pub use call_grammar::{
     calls_are_lists, calls_keep_rows, calls_meet_bounds, calls_stay_in_reach, calls_take_a_step,
     cuts_begin, fields_are_read_once, phase_follows_state, places_follow_trees,
 };
-pub use pair_calls::{
-    calls_are_moves, ends_are_kept, frames_come_whole, honest_calls_deliver,
-    honest_calls_never_refuse, honest_runs_deliver, steps_follow_rows,
+pub use ends_pair::{
+    alone_is_kept, frames_are_spelled, frames_come_whole, honest_ends_agree, honest_runs_deliver,
+    pair_is_kept, runs_keep_the_whole, steps_follow_rows, whole_is_kept,
 };
 
 /// An end that refused something stays, whatever its Ticks read, until its device is reset.

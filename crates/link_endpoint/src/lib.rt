@@ -10,7 +10,7 @@ pub mod laws;
 mod place;
 
 pub use auto::{Auto, Choice};
-pub use endpoint::Endpoint;
+pub use endpoint::{Endpoint, endpoints_make_calls};
 pub use place::Call;
 
 #[cfg(test)]

@@ -18,8 +18,13 @@ pub(crate) enum Place {
     Closed,
     /// Before the read of the other's state.
     Looking,
-    /// Before the write of 0 to the own word `at`; after the last one comes the State step with this value.
-    Clearing { at: u32, then: u32 },
+    /// Before the write of 0 to an own word.
+    Clearing {
+        /// The number of that word.
+        at: u32,
+        /// The value of the State step that comes after the last word.
+        then: u32,
+    },
     /// Before the State step with this value, which ends a Tick or a Stop.
     Setting(u32),
     /// Before the State step of a refusal.

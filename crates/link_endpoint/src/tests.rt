@@ -1,3 +1,4 @@
+//! Whole calls of an end, and the choices of an automatic peer.
 ghost use Rattle.std.specs.Prelude.{◌≡◌, ◌≤◌, false, IfOk};
 ghost use Rattle.link_endpoint.specs.Engine.{is_busy};
 

@@ -5,6 +5,7 @@
 
 ghost use Rattle.std.specs.Prelude.{◌≡◌, true, false};
 ghost use Rattle.link_handshake.specs.Laws.{SkipsNone, WaitsForInit, WaitsForReady, FollowsReset, StartsAfresh};
+ghost use Rattle.link_handshake.specs.PhaseTable.{phase_at};
 ghost use Rattle.link_handshake.specs.Standing.{move_of};
 
 use std::marker::Model;
@@ -21,6 +22,18 @@ pub enum Phase {
     Ready,
     /// The other end is ready too: frames go.
     Run,
+}
+
+/// The phase that a state stands for: 3 and above stand for RUN.
+pub fn phase_of(state: u32) -> Phase
+    ensures { result ≡ phase_at state }
+{
+    match state {
+        0 => Phase::Reset,
+        1 => Phase::Init,
+        2 => Phase::Ready,
+        _ => Phase::Run,
+    }
 }
 
 /// What an end does after it read the other's state.

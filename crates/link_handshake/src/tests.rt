@@ -1,3 +1,4 @@
+//! Handshakes, state by state.
 use super::*;
 use std::process::Abort;
 

@@ -14,56 +14,61 @@ use Rattle.call_grammar.specs.Rows.{MovesTo}
 use Rattle.call_grammar.proofs.OfferLists.{yes, no}
 use Rattle.link_machine.specs.LinkMachine.{Side, fresh_side, Told, Wrote, Marked, WasReset, side_with, MarkRow, Row, Ended, Log, no_sessions, accepted_in, ended_with, log_after, MachineRuns, starts, goes, AreBeginnings, CarriedFall, MachineDelivers}
 
-abbrev SawLow : Option ℕ → Type 0
+abbrev pub SawLow : Option ℕ → Type 0
 SawLow None = ⊥
 SawLow (Some v) = v ≤ 1
 
-abbrev SawHigh : Option ℕ → Type 0
+abbrev pub SawSome : Option ℕ → Type 0
+SawSome None = ⊥
+SawSome (Some v) = 1 ≤ v
+
+abbrev pub SawHigh : Option ℕ → Type 0
 SawHigh None = ⊥
 SawHigh (Some v) = 2 ≤ v
 
 -- in RUN, or in READY and on the way there
-abbrev Attends : Side → Type 0
+abbrev pub Attends : Side → Type 0
 Attends p = (p.state ≡ 3) ⊎ ((p.state ≡ 2) × SawHigh p.seen)
 
 -- not in INIT nor on the way there
-abbrev OpensNone : Side → Type 0
+abbrev pub OpensNone : Side → Type 0
 OpensNone q = (q.state ≢ 1) × (q.state ≡ 0 → ¬ SawLow q.seen)
 
 -- on the way to a session in RUN
-abbrev Begins : Side → Type 0
+abbrev pub Begins : Side → Type 0
 Begins p = (p.state ≡ 1) ⊎ ((p.state ≡ 2) ⊎ ((p.state ≡ 0) × SawLow p.seen))
 
-abbrev bound : Side → Log → ℕ
+abbrev pub bound : Side → Log → ℕ
 bound p l = if p.state == 3 then l.carried else l.carried + 1
 
-record Half (p q : Side) (l m : Log) : Type 0 where
-  few : p.state ≤ 3
-  ready : p.state ≡ 2 → (p.accepted ≡ []) × (p.delivered ≡ [])
-  cross : Attends p → OpensNone q
-  prefix : Attends p ⊎ Attends q → (rest : List (List ℕ)) × (q.accepted ≡ p.delivered ++ rest)
-  risen : l.carried ≤ m.opened
-  run : p.state ≡ 3 → l.carried ≡ m.opened
-  begins : Begins p → 2 ≤ q.state → l.carried < m.opened
-  attends : p.state ≡ 2 → SawHigh p.seen → l.carried < m.opened
-  past : AreBeginnings m q l.ended
-  falls : CarriedFall (bound p l) l.ended
+pub record Half (p q : Side) (l m : Log) : Type 0 where
+  pub few : p.state ≤ 3
+  pub ready : p.state ≡ 2 → (p.accepted ≡ []) × (p.delivered ≡ [])
+  pub cross : Attends p → OpensNone q
+  pub prefix : Attends p ⊎ Attends q → (rest : List (List ℕ)) × (q.accepted ≡ p.delivered ++ rest)
+  pub one : 2 ≤ p.state → 1 ≤ l.opened
+  pub risen : l.carried ≤ m.opened
+  pub run : p.state ≡ 3 → l.carried ≡ m.opened
+  pub begins : Begins p → 2 ≤ q.state → l.carried < m.opened
+  pub attends : p.state ≡ 2 → SawHigh p.seen → l.carried < m.opened
+  pub past : AreBeginnings m q l.ended
+  pub falls : CarriedFall (bound p l) l.ended
 
 -- What a step does to a side and its log
 
-record KeepsSessions (l l' : Log) : Type 0 where
-  opened : l'.opened ≡ l.opened
-  carried : l'.carried ≡ l.carried
-  earlier : (k : ℕ) → l'.earlier k ≡ l.earlier k
+pub record KeepsSessions (l l' : Log) : Type 0 where
+  pub opened : l'.opened ≡ l.opened
+  pub carried : l'.carried ≡ l.carried
+  pub earlier : (k : ℕ) → l'.earlier k ≡ l.earlier k
 
-record Keeps (p new : Side) : Type 0 where
-  accepted : new.accepted ≡ p.accepted
-  delivered : new.delivered ≡ p.delivered
+pub record Keeps (p new : Side) : Type 0 where
+  pub accepted : new.accepted ≡ p.accepted
+  pub delivered : new.delivered ≡ p.delivered
 
-data Kind (p q : Side) (l m : Log) (new : Side) (l' : Log) : Type 0 where
+pub data Kind (p q : Side) (l m : Log) (new : Side) (l' : Log) : Type 0 where
   falls_to : new.state ≡ 0 → new.seen ≡ None → Keeps p new → KeepsSessions l l' → l'.ended ≡ ended_with l p → Kind p q l m new l'
   inits : p.state ≡ 0 → SawLow p.seen → new.state ≡ 1 → new.seen ≡ None → Keeps p new → KeepsSessions l l' → l'.ended ≡ l.ended → Kind p q l m new l'
-  opens : p.state ≡ 1 → new.state ≡ 2 → new.seen ≡ None → new.accepted ≡ [] → new.delivered ≡ [] → l'.opened ≡ l.opened + 1 → l'.carried ≡ l.carried → ((k : ℕ) → l'.earlier k ≡ accepted_in l p k) → l'.ended ≡ l.ended → Kind p q l m new l'
+  opens : p.state ≡ 1 → SawSome p.seen → new.state ≡ 2 → new.seen ≡ None → new.accepted ≡ [] → new.delivered ≡ [] → l'.opened ≡ l.opened + 1 → l'.carried ≡ l.carried → ((k : ℕ) → l'.earlier k ≡ accepted_in l p k) → l'.ended ≡ l.ended → Kind p q l m new l'
   runs : p.state ≡ 2 → SawHigh p.seen → new.state ≡ 3 → new.seen ≡ None → Keeps p new → l'.opened ≡ l.opened → l'.carried ≡ m.opened → ((k : ℕ) → l'.earlier k ≡ l.earlier k) → l'.ended ≡ l.ended → Kind p q l m new l'
   sees : new.state ≡ p.state → new.seen ≡ Some q.state → Keeps p new → l' ≡ l → Kind p q l m new l'
   accepts : p.state ≡ 3 → (frame : List ℕ) → new.state ≡ 3 → new.seen ≡ p.seen → new.accepted ≡ p.accepted ++ frame ∷ [] → new.delivered ≡ p.delivered → l' ≡ l → Kind p q l m new l'
@@ -71,7 +76,7 @@ data Kind (p q : Side) (l m : Log) (new : Side) (l' : Log) : Type 0 where
   counts : new.state ≡ p.state → new.seen ≡ p.seen → Keeps p new → l' ≡ l → Kind p q l m new l'
 
 -- the moves of the phase table
-table : (phase : Phase) (v n : ℕ) → MovesTo phase v n → (n ≡ 0) ⊎ (((phase ≡ Reset) × (v ≤ 1) × (n ≡ 1)) ⊎ (((phase ≡ Init) × (n ≡ 2)) ⊎ ((phase ≡ Ready) × (2 ≤ v) × (n ≡ 3))))
+pub table : (phase : Phase) (v n : ℕ) → MovesTo phase v n → (n ≡ 0) ⊎ (((phase ≡ Reset) × (v ≤ 1) × (n ≡ 1)) ⊎ (((phase ≡ Init) × (1 ≤ v) × (n ≡ 2)) ⊎ ((phase ≡ Ready) × (2 ≤ v) × (n ≡ 3))))
 table Reset zero n (inl e) = inr (inl (refl, omega arith, (cc)))
 table Reset (suc zero) n (inl e) = inr (inl (refl, omega arith, (cc)))
 table Reset (suc (suc v)) n (inl e) = absurd (cc)
@@ -81,7 +86,7 @@ table Reset (suc (suc v)) n (inr e) = absurd (cc)
 table Init zero n (inl e) = absurd (cc)
 table Init (suc v) n (inl e) = absurd (cc)
 table Init zero n (inr e) = absurd (cc)
-table Init (suc v) n (inr e) = inr (inr (inl (refl, (cc))))
+table Init (suc v) n (inr e) = inr (inr (inl (refl, omega arith, (cc))))
 table Ready zero n (inl e) = inl (cc)
 table Ready (suc zero) n (inl e) = absurd (cc)
 table Ready (suc (suc v)) n (inl e) = inr (inr (inr (refl, omega arith, (cc))))
@@ -121,12 +126,12 @@ not_run p l ne = no (p.state == 3) _ l.ended (ne_eqb p.state 3 ne)
 wrote_kind : (p q : Side) (l m : Log) (v n : ℕ) → p.seen ≡ Some v → MovesTo (phase_at p.state) v n → Kind p q l m (side_with p n) (log_after l m p (Wrote n))
 wrote_kind p q l m v n seen moves = by_table (table (phase_at p.state) v n moves)
   where
-    by_table : (n ≡ 0) ⊎ (((phase_at p.state ≡ Reset) × (v ≤ 1) × (n ≡ 1)) ⊎ (((phase_at p.state ≡ Init) × (n ≡ 2)) ⊎ ((phase_at p.state ≡ Ready) × (2 ≤ v) × (n ≡ 3)))) → Kind p q l m (side_with p n) (log_after l m p (Wrote n))
+    by_table : (n ≡ 0) ⊎ (((phase_at p.state ≡ Reset) × (v ≤ 1) × (n ≡ 1)) ⊎ (((phase_at p.state ≡ Init) × (1 ≤ v) × (n ≡ 2)) ⊎ ((phase_at p.state ≡ Ready) × (2 ≤ v) × (n ≡ 3)))) → Kind p q l m (side_with p n) (log_after l m p (Wrote n))
     by_table (inl e) = subst (λ k. Kind p q l m (side_with p k) (log_after l m p (Wrote k))) (sym e) (wrote_zero p q l m)
     by_table (inr (inl h)) = let s = is_reset p.state h.0 in subst (λ k. Kind p q l m (side_with p k) (log_after l m p (Wrote k))) (sym h.2)
         (inits s (subst SawLow (sym seen) h.1) refl refl record { accepted = refl; delivered = refl } record { opened = refl; carried = refl; earlier = λ k. refl } (not_run p l (λ e. omega arith)))
-    by_table (inr (inr (inl h))) = let s = is_init p.state h.0 in subst (λ k. Kind p q l m (side_with p k) (log_after l m p (Wrote k))) (sym h.1)
-        (opens s refl refl refl refl refl refl (λ k. refl) (not_run p l (λ e. omega arith)))
+    by_table (inr (inr (inl h))) = let s = is_init p.state h.0 in subst (λ k. Kind p q l m (side_with p k) (log_after l m p (Wrote k))) (sym h.2)
+        (opens s (subst SawSome (sym seen) h.1) refl refl refl refl refl refl (λ k. refl) (not_run p l (λ e. omega arith)))
     by_table (inr (inr (inr h))) = let s = is_ready p.state h.0 in subst (λ k. Kind p q l m (side_with p k) (log_after l m p (Wrote k))) (sym h.2)
         (runs s (subst SawHigh (sym seen) h.1) refl refl record { accepted = refl; delivered = refl } refl refl (λ k. refl) (not_run p l (λ e. omega arith)))
 
@@ -146,7 +151,7 @@ mark_kind sizes p q l m Down new row = subst (λ (s : Side). Kind p q l m s l) (
 mark_kind sizes p q l m (Refuse refused) new row = let f : true ≡ false = row.0 in absurd (cc)
 mark_kind sizes p q l m Over new row = subst (λ (s : Side). Kind p q l m s l) (sym row) (counts refl refl (same_side p) refl)
 
-kind_of : (sizes : Sizes) (p q : Side) (l m : Log) (told : Told) (new : Side) → Row sizes true true p q told new → Kind p q l m new (log_after l m p told)
+pub kind_of : (sizes : Sizes) (p q : Side) (l m : Log) (told : Told) (new : Side) → Row sizes true true p q told new → Kind p q l m new (log_after l m p told)
 kind_of sizes p q l m (Wrote n) new (inl e, is) = subst (λ (s : Side). Kind p q l m s (log_after l m p (Wrote n))) (sym is) (subst (λ k. Kind p q l m (side_with p k) (log_after l m p (Wrote k))) (sym e) (wrote_zero p q l m))
 kind_of sizes p q l m (Wrote n) new (inr h, is) = subst (λ (s : Side). Kind p q l m s (log_after l m p (Wrote n))) (sym is) (wrote_kind p q l m h.0 n h.1 h.2)
 kind_of sizes p q l m (Marked mark) new row = mark_kind sizes p q l m mark new row.1
@@ -220,6 +225,7 @@ mine_lem p q new l m l' (falls_to s n k ks ended) h o = let none : Attends new �
   ready = λ e. absurd (omega arith);
   cross = λ a. absurd (none a);
   prefix = λ a. ⊎_elim (λ x. absurd (none x)) (λ y. let r = h.prefix (inr y) in (r.0, r.1 ∙ ap (λ (d : List (List ℕ)). d ++ r.0) (sym k.delivered))) a;
+  one = λ e. absurd (omega arith);
   risen = let c = ks.carried in let r = h.risen in omega arith;
   run = λ e. absurd (omega arith);
   begins = λ b two. ⊎_elim (λ e. absurd (omega arith)) (λ c. ⊎_elim (λ e. absurd (omega arith)) (λ z. absurd (subst SawLow n z.1)) c) b;
@@ -232,6 +238,7 @@ mine_lem p q new l m l' (inits z low s n k ks ended) h o = let none : Attends ne
   ready = λ e. absurd (omega arith);
   cross = λ a. absurd (none a);
   prefix = λ a. ⊎_elim (λ x. absurd (none x)) (λ y. absurd (steady p q l m o y z low)) a;
+  one = λ e. absurd (omega arith);
   risen = let c = ks.carried in let r = h.risen in omega arith;
   run = λ e. absurd (omega arith);
   begins = λ b two. let lt = h.begins (inr (inr (z, low))) two in let c = ks.carried in omega arith;
@@ -239,11 +246,12 @@ mine_lem p q new l m l' (inits z low s n k ks ended) h o = let none : Attends ne
   past = subst (AreBeginnings m q) (sym ended) h.past;
   falls = subst (CarriedFall (bound new l')) (sym ended) (subst (λ b. CarriedFall b l.ended) (bound_else p l (λ e. omega arith) ∙ (ap (λ c. c + 1) (sym ks.carried) ∙ sym (bound_else new l' (λ e. omega arith)))) h.falls);
 }
-mine_lem p q new l m l' (opens z s n a d opened carried earlier ended) h o = let none : Attends new → ⊥ = idle new (λ e. omega arith) (λ _ high. subst SawHigh n high) in record {
+mine_lem p q new l m l' (opens z some s n a d opened carried earlier ended) h o = let none : Attends new → ⊥ = idle new (λ e. omega arith) (λ _ high. subst SawHigh n high) in record {
   few = omega arith;
   ready = λ e. (a, d);
   cross = λ a. absurd (none a);
   prefix = λ x. ⊎_elim (λ y. absurd (none y)) (λ y. absurd ((o.cross y).0 z)) x;
+  one = λ e. omega arith;
   risen = let r = h.risen in omega arith;
   run = λ e. absurd (omega arith);
   begins = λ b two. let lt = h.begins (inl z) two in omega arith;
@@ -256,6 +264,7 @@ mine_lem p q new l m l' (runs z high s n k opened carried earlier ended) h o = r
   ready = λ e. absurd (omega arith);
   cross = λ _. h.cross (inr (z, high));
   prefix = λ _. let r = h.prefix (inl (inr (z, high))) in (r.0, r.1 ∙ ap (λ (d : List (List ℕ)). d ++ r.0) (sym k.delivered));
+  one = λ e. let k = h.one (omega arith) in omega arith;
   risen = omega arith;
   run = λ e. carried;
   begins = λ b two. ⊎_elim (λ e. absurd (omega arith)) (λ c. ⊎_elim (λ e. absurd (omega arith)) (λ z. absurd (let e = z.0 in omega arith)) c) b;
@@ -271,6 +280,7 @@ mine_lem p q new l m l' (sees s n k same) h o = subst (λ (x : Log). Half new q 
   prefix = λ a. ⊎_elim (λ x. ⊎_elim (λ e. let r = h.prefix (inl (inl (sym s ∙ e))) in (r.0, r.1 ∙ ap (λ (d : List (List ℕ)). d ++ r.0) (sym k.delivered)))
       (λ y. let r = h.ready (sym s ∙ y.0) in (q.accepted, sym (ap (λ (d : List (List ℕ)). d ++ q.accepted) (k.delivered ∙ r.1)))) x)
       (λ y. let r = h.prefix (inr y) in (r.0, r.1 ∙ ap (λ (d : List (List ℕ)). d ++ r.0) (sym k.delivered))) a;
+  one = λ e. h.one (let f = s in omega arith);
   risen = h.risen;
   run = λ e. h.run (sym s ∙ e);
   begins = λ b two. ⊎_elim (λ e. h.begins (inl (sym s ∙ e)) two) (λ c. ⊎_elim (λ e. h.begins (inr (inl (sym s ∙ e))) two) (λ z. absurd (let low : q.state ≤ 1 = subst SawLow n z.1 in omega arith)) c) b;
@@ -283,6 +293,7 @@ mine_lem p q new l m l' (accepts z frame s n a d same) h o = subst (λ (x : Log)
   ready = λ e. absurd (omega arith);
   cross = λ _. h.cross (inl z);
   prefix = λ _. let r = h.prefix (inl (inl z)) in (r.0, r.1 ∙ ap (λ (x : List (List ℕ)). x ++ r.0) (sym d));
+  one = λ e. h.one (omega arith);
   risen = h.risen;
   run = λ e. h.run z;
   begins = λ b two. ⊎_elim (λ e. absurd (omega arith)) (λ c. ⊎_elim (λ e. absurd (omega arith)) (λ x. absurd (let e = x.0 in omega arith)) c) b;
@@ -295,6 +306,7 @@ mine_lem p q new l m l' (delivers z frame s n a d next same) h o = subst (λ (x 
   ready = λ e. absurd (omega arith);
   cross = λ _. h.cross (inl z);
   prefix = λ _. let r = h.prefix (inl (inl z)) in let x = next_is q.accepted p.delivered r.0 frame r.1 next in (x.0, x.1 ∙ ap (λ (y : List (List ℕ)). y ++ x.0) (sym d));
+  one = λ e. h.one (omega arith);
   risen = h.risen;
   run = λ e. h.run z;
   begins = λ b two. ⊎_elim (λ e. absurd (omega arith)) (λ c. ⊎_elim (λ e. absurd (omega arith)) (λ x. absurd (let e = x.0 in omega arith)) c) b;
@@ -307,6 +319,7 @@ mine_lem p q new l m l' (counts s n k same) h o = subst (λ (x : Log). Half new 
   ready = λ e. let r = h.ready (sym s ∙ e) in (k.accepted ∙ r.0, k.delivered ∙ r.1);
   cross = λ a. h.cross (same_attends p new s n a);
   prefix = λ a. let r = h.prefix (⊎_elim (λ x. inl (same_attends p new s n x)) inr a) in (r.0, r.1 ∙ ap (λ (d : List (List ℕ)). d ++ r.0) (sym k.delivered));
+  one = λ e. h.one (let f = s in omega arith);
   risen = h.risen;
   run = λ e. h.run (sym s ∙ e);
   begins = λ b two. h.begins (⊎_elim (λ e. inl (sym s ∙ e)) (λ c. ⊎_elim (λ e. inr (inl (sym s ∙ e))) (λ z. inr (inr (sym s ∙ z.0, subst SawLow n z.1))) c) b) two;
@@ -338,6 +351,7 @@ theirs_lem p q new l m l' (falls_to s n k ks ended) h o = let none : Attends new
   ready = o.ready;
   cross = λ a. ((λ e. omega arith), (λ _ low. subst SawLow n low));
   prefix = λ a. ⊎_elim (λ y. let r = o.prefix (inl y) in (r.0, k.accepted ∙ r.1)) (λ x. absurd (none x)) a;
+  one = o.one;
   risen = let c = ks.opened in let r = o.risen in omega arith;
   run = λ e. o.run e ∙ sym ks.opened;
   begins = λ b two. absurd (omega arith);
@@ -350,6 +364,7 @@ theirs_lem p q new l m l' (inits z low s n k ks ended) h o = let none : Attends 
   ready = o.ready;
   cross = λ a. absurd (steady p q l m o a z low);
   prefix = λ a. ⊎_elim (λ y. absurd (steady p q l m o y z low)) (λ x. absurd (none x)) a;
+  one = o.one;
   risen = let c = ks.opened in let r = o.risen in omega arith;
   run = λ e. o.run e ∙ sym ks.opened;
   begins = λ b two. absurd (omega arith);
@@ -357,11 +372,12 @@ theirs_lem p q new l m l' (inits z low s n k ks ended) h o = let none : Attends 
   past = beginnings_kept l l' p new m.ended (grows l l' p new ks.opened ks.earlier [] (still p new k)) o.past;
   falls = o.falls;
 }
-theirs_lem p q new l m l' (opens z s n a d opened carried earlier ended) h o = let none : Attends new → ⊥ = idle new (λ e. omega arith) (λ _ high. subst SawHigh n high) in record {
+theirs_lem p q new l m l' (opens z some s n a d opened carried earlier ended) h o = let none : Attends new → ⊥ = idle new (λ e. omega arith) (λ _ high. subst SawHigh n high) in record {
   few = o.few;
   ready = o.ready;
   cross = λ x. absurd ((o.cross x).0 z);
   prefix = λ x. ⊎_elim (λ y. absurd ((o.cross y).0 z)) (λ y. absurd (none y)) x;
+  one = o.one;
   risen = let r = o.risen in omega arith;
   run = λ e. absurd ((o.cross (inl e)).0 z);
   begins = λ b two. let r = o.risen in omega arith;
@@ -374,6 +390,7 @@ theirs_lem p q new l m l' (runs z high s n k opened carried earlier ended) h o =
   ready = o.ready;
   cross = λ a. ((λ e. omega arith), (λ e. absurd (omega arith)));
   prefix = λ a. let r = o.prefix (⊎_elim inl (λ _. inr (inr (z, high))) a) in (r.0, k.accepted ∙ r.1);
+  one = o.one;
   risen = let r = o.risen in omega arith;
   run = λ e. o.run e ∙ sym opened;
   begins = λ b two. let lt = o.begins b (omega arith) in omega arith;
@@ -390,6 +407,7 @@ theirs_lem p q new l m l' (sees s n k same) h o = subst (λ (x : Log). Half q ne
       (λ y. let up : 2 ≤ q.state = subst SawHigh n y.1 in dite (ℕ_discrete q.state 3)
       (λ e. let r = o.prefix (inl (inl e)) in (r.0, k.accepted ∙ r.1))
       (λ ne. let few = o.few in let r = o.ready (omega arith) in (new.accepted, sym (ap (λ (d : List (List ℕ)). d ++ new.accepted) r.1)))) x) a;
+  one = o.one;
   risen = o.risen;
   run = o.run;
   begins = λ b two. o.begins b (let e = s in omega arith);
@@ -402,6 +420,7 @@ theirs_lem p q new l m l' (accepts z frame s n a d same) h o = subst (λ (x : Lo
   ready = o.ready;
   cross = λ x. ((λ e. omega arith), (λ e. absurd (omega arith)));
   prefix = λ x. let r = o.prefix (⊎_elim inl (λ _. inr (inl z)) x) in (r.0 ++ frame ∷ [], a ∙ (ap (λ (y : List (List ℕ)). y ++ frame ∷ []) r.1 ∙ append_assoc q.delivered r.0 (frame ∷ [])));
+  one = o.one;
   risen = o.risen;
   run = o.run;
   begins = λ b two. o.begins b (omega arith);
@@ -414,6 +433,7 @@ theirs_lem p q new l m l' (delivers z frame s n a d next same) h o = subst (λ (
   ready = o.ready;
   cross = λ x. ((λ e. omega arith), (λ e. absurd (omega arith)));
   prefix = λ x. let r = o.prefix (⊎_elim inl (λ _. inr (inl z)) x) in (r.0, a ∙ r.1);
+  one = o.one;
   risen = o.risen;
   run = o.run;
   begins = λ b two. o.begins b (omega arith);
@@ -426,6 +446,7 @@ theirs_lem p q new l m l' (counts s n k same) h o = subst (λ (x : Log). Half q 
   ready = o.ready;
   cross = λ a. ((λ e. (o.cross a).0 (sym s ∙ e)), (λ e low. (o.cross a).1 (sym s ∙ e) (subst SawLow n low)));
   prefix = λ a. let r = o.prefix (⊎_elim inl (λ x. inr (same_attends p new s n x)) a) in (r.0, k.accepted ∙ r.1);
+  one = o.one;
   risen = o.risen;
   run = o.run;
   begins = λ b two. o.begins b (omega arith);
@@ -442,6 +463,7 @@ fresh_half = record {
   ready = λ e. absurd (omega arith);
   cross = λ a. absurd (idle fresh_side (λ e. omega arith) (λ e. absurd (omega arith)) a);
   prefix = λ a. ([], refl);
+  one = λ e. absurd (omega arith);
   risen = omega arith;
   run = λ e. absurd (omega arith);
   begins = λ b two. absurd (omega arith);
@@ -456,7 +478,7 @@ half_like p p' q q' l l' m m' e f g k h = subst (λ x. Half x q' l' m') (sym e) 
 honest_all : (honest : ℕ → Bool) (s : ℕ) → s < 2 → honest 0 ≡ true → honest 1 ≡ true → honest s ≡ true
 honest_all honest s s2 h0 h1 = dite (ℕ_discrete s 0) (λ e. ap honest e ∙ h0) (λ ne. let e : s ≡ 1 = omega arith in ap honest e ∙ h1)
 
-half_of : (sizes : Sizes) (honest : ℕ → Bool) (sides : ℕ → Side) (logs : ℕ → Log) → honest 0 ≡ true → honest 1 ≡ true → MachineRuns sizes honest sides logs → (p : ℕ) → p < 2 → Half (sides p) (sides (1 - p)) (logs p) (logs (1 - p))
+pub half_of : (sizes : Sizes) (honest : ℕ → Bool) (sides : ℕ → Side) (logs : ℕ → Log) → honest 0 ≡ true → honest 1 ≡ true → MachineRuns sizes honest sides logs → (p : ℕ) → p < 2 → Half (sides p) (sides (1 - p)) (logs p) (logs (1 - p))
 half_of sizes honest _ _ h0 h1 (starts sides logs new none) p p2 = half_like fresh_side (sides p) fresh_side (sides (1 - p)) no_sessions (logs p) no_sessions (logs (1 - p)) (new p) (new (1 - p)) (none p) (none (1 - p)) fresh_half
 half_of sizes honest _ _ h0 h1 (goes sides after logs new_logs s told r s2 row still log still_log) p p2 =
     let o2 : 1 - s < 2 = omega arith in let back : 1 - (1 - s) ≡ s = omega arith in

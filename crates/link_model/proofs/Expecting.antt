@@ -24,29 +24,29 @@ use Rattle.link_model.proofs.Differing.{none_begins}
 use Rattle.link_model.proofs.Playing.{no_turns}
 
 -- the history goes on from the lines of a stage that hasn't played all events
-follows : (world : World) (gone : List Line) (events rest : List Event) (s : Stage) → RunsTo world gone events s → events ++ rest ≡ schedule world.acts →
-    (more : List Line) × (history world ≡ (gone ++ s.scene.lines) ++ more)
-follows world gone events rest s runs all =
+follows : (world : World) (drained : List Line) (events rest : List Event) (s : Stage) → RunsTo world drained events s → events ++ rest ≡ schedule world.acts →
+    (more : List Line) × (history world ≡ (drained ++ s.scene.lines) ++ more)
+follows world drained events rest s runs all =
     let new = grows world rest (moment_of world events) in (
       reverse new.0,
       ap (λ (es : List Event). reverse (run world es (beginning world)).past) (sym all) ∙ ap (λ (m : Moment). reverse m.past) (run_on world events rest (beginning world))
-          ∙ ap reverse new.1 ∙ reverse-append new.0 (moment_of world events).past ∙ ap (λ ls. ls ++ reverse new.0) (sym runs.scene_stands.lines),
+          ∙ ap reverse new.1 ∙ reverse-append new.0 (moment_of world events).past ∙ ap (λ ls. ls ++ reverse new.0) (sym runs.after.lines),
     )
 
 -- the events that are left
 split_at : (acts : List Act) (at : ℕ) → schedule (take at acts) ++ schedule (drop at acts) ≡ schedule acts
 split_at acts at = sym (flat_map-append events_of (take at acts) (drop at acts)) ∙ ap (λ (xs : List Act). schedule xs) (take-append-drop at acts)
 
-rest_is : (gone : List Line) (c : Course) (played : IsPlayed gone c) →
+rest_is : (drained : List Line) (c : Course) (played : IsPlayed drained c) →
     played.events ++ (replicate c.left (Turned c.peer) ++ schedule (drop c.at (world_in c).acts)) ≡ schedule (world_in c).acts
-rest_is gone c played =
+rest_is drained c played =
     let acts = (world_in c).acts in
     sym (append_assoc played.events (replicate c.left (Turned c.peer)) (schedule (drop c.at acts))) ∙ ap (λ es. es ++ schedule (drop c.at acts)) played.scheduled ∙ split_at acts c.at
 
 -- the lines that weren't taken stand after those that were
-untaken : (gone kept lines : List Line) (passed : ℕ) → gone ++ take passed kept ≡ lines → gone ++ kept ≡ lines ++ drop passed kept
-untaken gone kept lines passed taken =
-    ap (λ ls. gone ++ ls) (sym (take-append-drop passed kept)) ∙ sym (append_assoc gone (take passed kept) (drop passed kept)) ∙ ap (λ ls. ls ++ drop passed kept) taken
+untaken : (drained kept lines : List Line) (passed : ℕ) → drained ++ take passed kept ≡ lines → drained ++ kept ≡ lines ++ drop passed kept
+untaken drained kept lines passed taken =
+    ap (λ ls. drained ++ ls) (sym (take-append-drop passed kept)) ∙ sym (append_assoc drained (take passed kept) (drop passed kept)) ∙ ap (λ ls. ls ++ drop passed kept) taken
 
 head_of_drop : (xs : List Line) (p : ℕ) → head_of (drop p xs) ≡ slice_get xs p
 head_of_drop [] zero = refl
@@ -67,9 +67,9 @@ waits : (lines : List Line) (c : Course) → IsAlong lines c → c.passed < leng
 waits lines c along waiting =
     let kept = c.stage.scene.lines in
     let played = along.played in
-    let more = follows (world_in c) along.gone played.events _ c.stage played.runs (rest_is along.gone c played) in (
+    let more = follows (world_in c) along.drained played.events _ c.stage played.runs (rest_is along.drained c played) in (
       drop c.passed kept ++ more.0,
-      more.1 ∙ ap (λ ls. ls ++ more.0) (untaken along.gone kept lines c.passed along.taken) ∙ append_assoc lines (drop c.passed kept) more.0,
+      more.1 ∙ ap (λ ls. ls ++ more.0) (untaken along.drained kept lines c.passed along.taken) ∙ append_assoc lines (drop c.passed kept) more.0,
       head_of_more kept more.0 c.passed waiting,
     )
 
@@ -80,9 +80,9 @@ is_over lines c along over =
     let played = along.played in
     let all : played.events ≡ schedule world.acts =
     no_turns played.events _ (Turned c.peer) c.left over.0 played.scheduled ∙ ap (λ (xs : List Act). schedule xs) (take_all c.at world.acts over.1) in
-    let runs = subst (λ (es : List Event). RunsTo world along.gone es c.stage) all played.runs in (
+    let runs = subst (λ (es : List Event). RunsTo world along.drained es c.stage) all played.runs in (
       drop c.passed kept,
-      sym runs.scene_stands.lines ∙ untaken along.gone kept lines c.passed along.taken,
+      sym runs.after.lines ∙ untaken along.drained kept lines c.passed along.taken,
       head_of_drop kept c.passed,
     )
 
@@ -96,7 +96,7 @@ expects lines c goes = expects_by lines c goes.along goes.settled
 -- each lawful history is the one that is expected
 lawful_is : HasOneHistory → HistoryIsLawful → (lines : List Line) (c : Course) (goes : GoesOn lines c) (lawful : List Line) → IsLawful (world_in c) lawful → lawful ≡ lines ++ (expects lines c goes).0
 lawful_is one exists lines c goes lawful is =
-    one (world_in c) lawful (history (world_in c)) is (exists (world_in c) goes.along.played.runs.scene_stands.is_world) ∙ (expects lines c goes).1
+    one (world_in c) lawful (history (world_in c)) is (exists (world_in c) goes.along.played.runs.after.is_world) ∙ (expects lines c goes).1
 
 pub begins : HasOneHistory → HistoryIsLawful → (lines : List Line) (c : Course) → GoesOn lines c → Begins (world_in c) lines
 begins one exists lines c goes = λ lawful is. ((expects lines c goes).0, lawful_is one exists lines c goes lawful is)
@@ -145,7 +145,7 @@ pub is_whole : HistoryIsLawful → (lines : List Line) (c : Course) → GoesOn l
 is_whole exists lines c goes none =
     let after = expects lines c goes in
     let all : history (world_in c) ≡ lines = after.1 ∙ ap (λ ls. lines ++ ls) (no_head after.0 (after.2 ∙ none)) ∙ append-nil lines in
-    subst (λ ls. IsLawful (world_in c) ls) all (exists (world_in c) goes.along.played.runs.scene_stands.is_world)
+    subst (λ ls. IsLawful (world_in c) ls) all (exists (world_in c) goes.along.played.runs.after.is_world)
 
 -- the line that waits is taken
 pub one_taken : (lines : List Line) (c : Course) (line : Line) → IsAlong lines c → slice_get c.stage.scene.lines c.passed ≡ Some line → IsAlong (lines ++ line ∷ []) (record c { passed = c.passed + 1 })
@@ -154,11 +154,11 @@ one_taken lines c line along is =
     let inside = slice_get_within kept c.passed line is in
     let here : get_or kept c.passed line ≡ line = same_Some (get_or kept c.passed line) line (sym (slice_get-get_or kept c.passed line inside) ∙ is) in
     record {
-      gone = along.gone;
+      drained = along.drained;
       played = record { events = along.played.events; runs = along.played.runs; at = along.played.at; scheduled = along.played.scheduled; peer = along.played.peer };
       passed = omega arith;
-      taken = ap (λ ls. along.gone ++ ls) (take_more kept c.passed line inside ∙ ap (λ (l : Line). take c.passed kept ++ l ∷ []) here)
-          ∙ sym (append_assoc along.gone (take c.passed kept) (line ∷ [])) ∙ ap (λ ls. ls ++ line ∷ []) along.taken;
+      taken = ap (λ ls. along.drained ++ ls) (take_more kept c.passed line inside ∙ ap (λ (l : Line). take c.passed kept ++ l ∷ []) here)
+          ∙ sym (append_assoc along.drained (take c.passed kept) (line ∷ [])) ∙ ap (λ ls. ls ++ line ∷ []) along.taken;
     }
 
 -- the lines taken are the first ones of the history

@@ -18,10 +18,10 @@ one_turn events turn zero some = absurd (omega arith)
 one_turn events turn (suc n) some = let less : suc n - 1 ≡ n = omega arith in rw less (append_assoc events (turn ∷ []) (replicate n turn))
 
 -- a turn is played
-pub turn_played : (gone : List Line) (c : Course) (s : Stage) → 0 < c.left → Happens (Turned c.peer) c.stage s → IsPlayed gone c → IsPlayed gone (record c { stage = s; left = c.left - 1 })
-turn_played gone c s some happens played = record {
+pub turn_played : (drained : List Line) (c : Course) (s : Stage) → 0 < c.left → Happens (Turned c.peer) c.stage s → IsPlayed drained c → IsPlayed drained (record c { stage = s; left = c.left - 1 })
+turn_played drained c s some happens played = record {
   events = played.events ++ Turned c.peer ∷ [];
-  runs = happens (world_in c) gone played.events (played.peer some) played.runs;
+  runs = happens (world_in c) drained played.events (played.peer some) played.runs;
   at = played.at;
   scheduled = one_turn played.events (Turned c.peer) c.left some ∙ played.scheduled;
   peer = λ more. played.peer some;
@@ -32,27 +32,27 @@ pub no_turns : (events acts : List Event) (turn : Event) (left : ℕ) → left �
 no_turns events acts turn left none scheduled = sym (append-nil events) ∙ ap (λ n. events ++ replicate n turn) (sym none) ∙ scheduled
 
 -- an act is played
-pub act_played : (gone : List Line) (c : Course) (a : Act) (s : Stage) → c.left ≡ 0 → c.at < length (world_in c).acts → a ≡ get_or (world_in c).acts c.at a → Plays a c.stage s → IsPlayed gone c →
-    IsPlayed gone (record c { stage = s; at = c.at + 1 })
-act_played gone c a s none inside is plays played =
+pub act_played : (drained : List Line) (c : Course) (a : Act) (s : Stage) → c.left ≡ 0 → c.at < length (world_in c).acts → a ≡ get_or (world_in c).acts c.at a → Plays a c.stage s → IsPlayed drained c →
+    IsPlayed drained (record c { stage = s; at = c.at + 1 })
+act_played drained c a s none inside is plays played =
     let world = world_in c in
     let before = no_turns played.events _ (Turned c.peer) c.left none played.scheduled in
-    let allowed = act_at world c.at a played.runs.scene_stands.is_world inside is in
+    let allowed = act_at world c.at a played.runs.after.is_world inside is in
     record {
       events = schedule (take (c.at + 1) world.acts);
-      runs = one_act world gone world.acts c.at a s inside is (plays world gone (schedule (take c.at world.acts)) allowed (subst (λ (es : List Event). RunsTo world gone es c.stage) before played.runs));
+      runs = one_act world drained world.acts c.at a s inside is (plays world drained (schedule (take c.at world.acts)) allowed (subst (λ (es : List Event). RunsTo world drained es c.stage) before played.runs));
       at = omega arith;
       scheduled = ap (λ n. schedule (take (c.at + 1) world.acts) ++ replicate n (Turned c.peer)) none ∙ append-nil (schedule (take (c.at + 1) world.acts));
       peer = λ some. absurd (omega arith);
     }
 
 -- turns are noted
-pub turns_noted : (gone : List Line) (c : Course) (p k : ℕ) → c.left ≡ 0 → c.at < length (world_in c).acts → act.Turn p k ≡ get_or (world_in c).acts c.at (act.Turn p k) → IsPlayed gone c →
-    IsPlayed gone (record c { at = c.at + 1; peer = p; left = k })
-turns_noted gone c p k none inside is played =
+pub turns_noted : (drained : List Line) (c : Course) (p k : ℕ) → c.left ≡ 0 → c.at < length (world_in c).acts → act.Turn p k ≡ get_or (world_in c).acts c.at (act.Turn p k) → IsPlayed drained c →
+    IsPlayed drained (record c { at = c.at + 1; peer = p; left = k })
+turns_noted drained c p k none inside is played =
     let world = world_in c in
     let before = no_turns played.events _ (Turned c.peer) c.left none played.scheduled in
-    let allowed = act_at world c.at (act.Turn p k) played.runs.scene_stands.is_world inside is in
+    let allowed = act_at world c.at (act.Turn p k) played.runs.after.is_world inside is in
     record {
       events = played.events;
       runs = played.runs;
@@ -70,7 +70,7 @@ one_act_less acts at a inside is =
 -- a course at its start
 pub at_first : (c : Course) → RunsTo (world_in c) [] [] c.stage → c.at ≡ 0 → c.left ≡ 0 → c.passed ≡ 0 → IsAlong [] c
 at_first c runs at left passed = record {
-  gone = [];
+  drained = [];
   played = record {
     events = [];
     runs = runs;
@@ -83,10 +83,10 @@ at_first c runs at left passed = record {
 }
 
 -- where none of the lines that the stage keeps was taken, more of them may come
-pub played_on : (lines : List Line) (c c' : Course) (along : IsAlong lines c) → c.passed ≡ 0 → c'.passed ≡ c.passed → IsPlayed along.gone c' → IsAlong lines c'
+pub played_on : (lines : List Line) (c c' : Course) (along : IsAlong lines c) → c.passed ≡ 0 → c'.passed ≡ c.passed → IsPlayed along.drained c' → IsAlong lines c'
 played_on lines c c' along none same played = record {
-  gone = along.gone;
+  drained = along.drained;
   played = played;
   passed = omega arith;
-  taken = ap (λ n. along.gone ++ take n c'.stage.scene.lines) (same ∙ none) ∙ ap (λ n. along.gone ++ take n c.stage.scene.lines) (sym none) ∙ along.taken;
+  taken = ap (λ n. along.drained ++ take n c'.stage.scene.lines) (same ∙ none) ∙ ap (λ n. along.drained ++ take n c.stage.scene.lines) (sym none) ∙ along.taken;
 }

@@ -12,20 +12,20 @@ use Rattle.link_model.specs.declared.fault.StepFault.{StepFault}
 abbrev pub world_in : Course → World
 world_in course = world_of course.scenario.now
 
--- the events that were played, with the turns that are left, are those of the acts before the next one; of the lines that they told these are gone
-pub record IsPlayed (gone : List Line) (course : Course) : Type 0 where
+-- the events that were played, with the turns that are left, are those of the acts before the next one; of the lines that they told these were drained
+pub record IsPlayed (drained : List Line) (course : Course) : Type 0 where
   pub events : List Event
-  pub runs : RunsTo (world_in course) gone events course.stage
+  pub runs : RunsTo (world_in course) drained events course.stage
   pub at : course.at ≤ length (world_in course).acts
   pub scheduled : events ++ replicate course.left (Turned course.peer) ≡ schedule (take course.at (world_in course).acts)
   pub peer : 0 < course.left → course.peer < (world_in course).geometry.peers
 
--- these lines were taken: those that are gone, and so many of those that the stage keeps
+-- these lines were taken: those that were drained, and so many of those that the stage keeps
 pub record IsAlong (lines : List Line) (course : Course) : Type 0 where
-  pub gone : List Line
-  pub played : IsPlayed gone course
+  pub drained : List Line
+  pub played : IsPlayed drained course
   pub passed : course.passed ≤ length course.stage.scene.lines
-  pub taken : gone ++ take course.passed course.stage.scene.lines ≡ lines
+  pub taken : drained ++ take course.passed course.stage.scene.lines ≡ lines
 
 -- no turn is left, and no act
 abbrev pub IsOver : Course → Type 0

@@ -14,15 +14,20 @@ use scenario_text::{Act, Scenario};
 use stage::Stage;
 use std::alloc::Global;
 
-/// The stage of a scenario, the number of the act that comes next on it, how many turns of which peer come before that, and how many of
-/// the lines that the stage keeps were taken.
+/// A scenario, the stage that plays it, and how far.
 #[derive(Drop)]
 pub struct Course<'a> {
+    /// The scenario.
     pub scenario: &'a Scenario,
+    /// Its stage, played so far.
     pub stage: Stage,
+    /// The number of the act that comes next, from 0.
     pub at: usize,
+    /// Whose turns are left.
     pub peer: u32,
+    /// How many turns are left before that act.
     pub left: u32,
+    /// How many of the lines that the stage keeps were taken.
     pub passed: usize,
 }
 
@@ -45,12 +50,12 @@ impl<'a> Course<'a> {
 
     /// Plays an act, or notes the turns that it asks for.
     fn play_act(&mut self, act: &Act) -> Result<(), NoMemory>
-        requires played { (gone : List Line) × IsPlayed gone self.old }
+        requires played { (drained : List Line) × IsPlayed drained self.old }
         requires left { self.old.left ≡ 0 }
         requires inside { self.old.at < length (world_in self.old).acts }
         requires at { act.now ≡ slice_index_or (world_in self.old).acts self.old.at act.now }
         requires room { self.old.at < 2 ^ 64 - 1 }
-        ensures played { (gone : List Line) → IsPlayed gone self.old → OnOk result (IsPlayed gone self.new) }
+        ensures played { (drained : List Line) → IsPlayed drained self.old → OnOk result (IsPlayed drained self.new) }
         ensures fewer { OnOk result (remains self.new < remains self.old) }
         ensures passed { self.new.passed ≡ self.old.passed }
         ensures scenario { self.new.scenario.now ≡ self.old.scenario.now }
@@ -70,10 +75,10 @@ impl<'a> Course<'a> {
         }
     }
 
-    /// Plays the next turn or act. The answer is whether there was one.
+    /// Plays the next turn or act. Returns whether there was one.
     fn play_next(&mut self) -> Result<bool, NoMemory>
-        requires { (gone : List Line) × IsPlayed gone self.old }
-        ensures played { (gone : List Line) → IsPlayed gone self.old → OnOk result (IsPlayed gone self.new) }
+        requires { (drained : List Line) × IsPlayed drained self.old }
+        ensures played { (drained : List Line) → IsPlayed drained self.old → OnOk result (IsPlayed drained self.new) }
         ensures fewer { IfOk result (λ more. more ≡ true → remains self.new < remains self.old) }
         ensures over { IfOk result (λ more. more ≡ false → IsOver self.new) }
         ensures passed { self.new.passed ≡ self.old.passed }
@@ -92,15 +97,15 @@ impl<'a> Course<'a> {
         Ok(true)
     }
 
-    /// Takes the lines that were taken off the stage.
-    fn forget(&mut self)
+    /// Drains the lines of the stage, which were all taken.
+    fn drain(&mut self)
         requires { self.old.passed ≡ length self.old.stage.scene.lines }
         ensures along { (lines : List Line) → IsAlong lines self.old → IsAlong lines self.new }
         ensures remains { remains self.new ≡ remains self.old }
         ensures passed { self.new.passed ≡ 0 }
         ensures scenario { self.new.scenario.now ≡ self.old.scenario.now }
     {
-        self.stage.forget();
+        self.stage.drain();
         self.passed = 0;
     }
 
@@ -111,7 +116,7 @@ impl<'a> Course<'a> {
         ensures scenario { self.new.scenario.now ≡ self.old.scenario.now }
     {
         while self.passed == self.stage.lines().len() {
-            self.forget();
+            self.drain();
             if !self.play_next()? {
                 return Ok(());
             }

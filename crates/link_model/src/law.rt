@@ -50,11 +50,11 @@ impl Kind {
     }
 
     /// Are both reads of one word?
-    fn reads_with(self, other: Kind) -> bool
-        ensures { result ≡ broken.are_reads_of_one self other }
+    fn reads_with(self, found: Kind) -> bool
+        ensures { result ≡ broken.are_reads_of_one self found }
     {
         match self {
-            Kind::WasRead(word) => match other {
+            Kind::WasRead(word) => match found {
                 Kind::WasRead(another) => word == another,
                 _ => false,
             },

@@ -48,7 +48,7 @@ impl<'a> Run<'a> {
     }
 
     /// Takes the next line of the history. Unlawful comes exactly where no lawful history of the scenario goes on with this line, with
-    /// its number and the law that it breaks. NoMemory comes only where memory ran out. After a fault each step answers that fault.
+    /// its number and the law that it breaks. NoMemory comes only where memory ran out. After a fault each step returns that fault.
     pub fn step(&mut self, line: &Line) -> Result<(), StepFault>
         ensures taken { OnOk result (self.new ≡ record self.old { lines = self.old.lines ++ line.now ∷ [] }) }
         ensures lawful { OnOk result (Begins self.new.world self.new.lines) }

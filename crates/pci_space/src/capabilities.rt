@@ -30,21 +30,19 @@ pub fn walk(bytes: &[u8; 256]) -> Result<Found, CapabilityFault>
     if bytes[0x06] / 16 % 2 == 0 {
         return Err(CapabilityFault::NoVendor);
     }
-    match follow_list(bytes) {
-        Err(fault) => Err(fault),
-        Ok(listed) => match listed.vendor {
-            None => Err(CapabilityFault::NoVendor),
-            Some(vendor) => Ok(Found {
-                protocol: number_in(&bytes[..], 0x09, 2) as u16,
-                one_shot: vendor.one_shot,
-                table: vendor.table,
-                common: vendor.common,
-                out: vendor.out,
-                base: vendor.base,
-                msix: listed.msix,
-            }),
-        },
-    }
+    let listed = follow_list(bytes)?;
+    let Some(vendor) = listed.vendor else {
+        return Err(CapabilityFault::NoVendor);
+    };
+    Ok(Found {
+        protocol: number_in(&bytes[..], 0x09, 2) as u16,
+        one_shot: vendor.one_shot,
+        table: vendor.table,
+        common: vendor.common,
+        out: vendor.out,
+        base: vendor.base,
+        msix: listed.msix,
+    })
 }
 
 /// Follows the list of capabilities to its end.
@@ -65,10 +63,7 @@ fn follow_list(bytes: &[u8; 256]) -> Result<Listed, CapabilityFault>
             return Err(CapabilityFault::Loop(p as u16));
         }
         met[p] = true;
-        so_far = match with_capability(bytes, p, so_far) {
-            Ok(next) => next,
-            Err(fault) => return Err(fault),
-        };
+        so_far = with_capability(bytes, p, so_far)?;
         p = pointer(bytes, p + 1);
     }
     Ok(so_far)
@@ -90,22 +85,18 @@ fn with_capability(bytes: &[u8; 256], p: usize, so_far: Listed) -> Result<Listed
     ensures { result ≡ listed_with bytes.now p so_far }
 {
     if bytes[p] == VENDOR_ID && so_far.vendor.is_none() {
-        return match read_vendor(bytes, p) {
-            Ok(vendor) => Ok(Listed {
-                vendor: Some(vendor),
-                msix: so_far.msix,
-            }),
-            Err(fault) => Err(fault),
-        };
+        let vendor = read_vendor(bytes, p)?;
+        return Ok(Listed {
+            vendor: Some(vendor),
+            msix: so_far.msix,
+        });
     }
     if bytes[p] == MSIX_ID && so_far.msix.is_none() {
-        return match read_msix(bytes, p) {
-            Ok(msix) => Ok(Listed {
-                vendor: so_far.vendor,
-                msix: Some(msix),
-            }),
-            Err(fault) => Err(fault),
-        };
+        let msix = read_msix(bytes, p)?;
+        return Ok(Listed {
+            vendor: so_far.vendor,
+            msix: Some(msix),
+        });
     }
     Ok(so_far)
 }

@@ -1,3 +1,4 @@
+//! One field of a space, and the faults of a table of them.
 ghost use Rattle.std.specs.Prelude.{◌≡◌, ◌<◌, IsTrue};
 ghost use Rattle.pci_space.specs.Fields.{covers, shares, is_width, fits_width};
 

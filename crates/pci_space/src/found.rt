@@ -1,3 +1,4 @@
+//! What a walk over configuration bytes finds, and its faults.
 use thiserror::Error;
 
 /// What a walk found of MSI-X. The two words are kept as they were read: the low three bits of each name a
@@ -62,16 +63,23 @@ pub enum CapabilityFault {
 /// What the vendor capability says.
 #[derive(Clone, Copy, Debug, PartialEq, Eq)]
 pub(crate) struct Vendor {
+    /// The device has a one-shot mode.
     pub one_shot: bool,
+    /// Bytes of the State Table.
     pub table: u32,
+    /// Bytes of the common section.
     pub common: u64,
+    /// Bytes of each output section.
     pub out: u64,
+    /// The region's base address, where the capability has one.
     pub base: Option<u64>,
 }
 
 /// What the list has said so far.
 #[derive(Clone, Copy, Debug, PartialEq, Eq)]
 pub(crate) struct Listed {
+    /// Its first vendor capability.
     pub vendor: Option<Vendor>,
+    /// Its first MSI-X capability.
     pub msix: Option<MsixFound>,
 }

@@ -1,3 +1,4 @@
+//! Numbers as bytes, the lowest byte first.
 ghost use Rattle.std.specs.Prelude.{◌≡◌, ◌+◌, ◌^◌, ◌<◌, ◌≤◌, length, slice_index};
 ghost use Rattle.pci_space.specs.Numbers.{number_byte, number_from};
 

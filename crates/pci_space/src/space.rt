@@ -1,3 +1,4 @@
+//! A space of bytes that a table of fields fills: its reads and its writes.
 ghost use Rattle.std.specs.Prelude.{◌≡◌, ℕ, ◌+◌, ◌<◌, ◌≤◌, ◌↔◌, length, slice_index, IfOk, IfErr, OnOk, IsOk, IsTrue};
 ghost use Rattle.pci_space.specs.Numbers.{number_from};
 ghost use Rattle.pci_space.specs.Fields.{reset_byte, mask_byte, merged, is_access, merged_byte, KeepsUnmasked};

@@ -1,3 +1,4 @@
+//! A table of fields in which no fault was found.
 ghost use Rattle.std.specs.Prelude.{◌≡◌, ◌^◌, ◌<◌, Some, None, length, IfOk, IfErr};
 ghost use Rattle.pci_space.specs.Fields.{row_fault, table_fault, overlap};
 

@@ -1,3 +1,4 @@
+//! How interrupts are raised, and what of the fields depends on it.
 ghost use Rattle.std.specs.Prelude.{◌≡◌};
 ghost use Rattle.pci_space.specs.Wiring.{IsWiring, if_msix, last_vector};
 

@@ -1,5 +1,5 @@
 -- What the devices are told.
-use Rattle.std.specs.Prelude.{ℕ, ◌≡◌, ◌+◌, ◌*◌, ◌<◌, ◌^◌, true, Option, Some, None, List, []}
+use Rattle.std.specs.Prelude.{ℕ, ◌≡◌, ◌<◌, ◌^◌, true, Option, Some, None, List, []}
 use Rattle.std.specs.List.{AllByRecursion}
 use Rattle.pci_space.specs.Fields.{is_access}
 use Rattle.doorbell_irq.specs.declared.effect.Delivery.{Delivery}
@@ -35,11 +35,11 @@ FitsDoorbell access.Nothing = Unit {0}
 abbrev pub told_by_access : ℕ → Access → Option device.Event
 told_by_access peer (access.Read word) = None
 told_by_access peer (access.Write word value) = None
-told_by_access peer (access.State state) = Some (device.RegisterWritten peer 0x10 state)
-told_by_access peer (access.Ring target vector) = Some (device.RegisterWritten peer 0x0C (65536 * target + vector))
+told_by_access peer (access.State state) = Some (device.RegisterWritten peer device.state_register state)
+told_by_access peer (access.Ring target vector) = Some (device.RegisterWritten peer device.doorbell_register (device.doorbell_word target vector))
 told_by_access peer access.Nothing = None
 
 -- the interrupts that an event brings after others
-abbrev pub brought : device.World → List device.Event → Option device.Event → List Delivery
+abbrev pub brought : device.Devices → List device.Event → Option device.Event → List Delivery
 brought world events None = []
 brought world events (Some event) = (effect_of world events event).deliveries.items

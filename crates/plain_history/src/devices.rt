@@ -10,7 +10,7 @@ ghost use Rattle.lawful_history.specs.Device.{devices_of, told_by, told_before, 
 ghost use Rattle.plain_history.specs.Told.{IsTold, AreTold, FitsDoorbell, told_by_access, brought};
 
 use arrayvec::ArrayVec;
-use doorbell_irq::{Delivery, Device};
+use doorbell_irq::{Delivery, Device, REGISTER_DOORBELL, REGISTER_STATE, doorbell_word};
 use lawful_history::Line;
 use plain_calls::Access;
 use scenario_text::Scenario;
@@ -18,19 +18,20 @@ use scenario_text::Scenario;
 /// Tells the devices what a line says of them.
 fn tell(devices: &mut Device, line: &Line)
     requires { IsTold (peer_count devices.old) line.now }
-    ensures stands { (world : device.World) (events : List device.Event) → Stands world events devices.old → Stands world (told_before (told_by line.now) events) devices.new }
+    ensures stands { (world : device.Devices) (events : List device.Event) → Stands world events devices.old → Stands world (told_before (told_by line.now) events) devices.new }
     ensures peers { peer_count devices.new ≡ peer_count devices.old }
 {
     match line {
         Line::State { peer, value } => {
-            let _ = devices.register_write(*peer, 0x10, *value);
+            let _ = devices.register_write(*peer, REGISTER_STATE, *value);
         }
         Line::Doorbell {
             peer,
             target,
             vector,
         } => {
-            let _ = devices.register_write(*peer, 0x0C, 65536 * *target + *vector);
+            let word = doorbell_word(*target, *vector);
+            let _ = devices.register_write(*peer, REGISTER_DOORBELL, word);
         }
         Line::Reset { peer } => {
             let _ = devices.reset(*peer);
@@ -87,12 +88,13 @@ pub fn interrupted_by(
     match access {
         Access::State(state) => {
             let mut devices = devices_after(scenario, lines);
-            let effect = devices.register_write(me, 0x10, state);
+            let effect = devices.register_write(me, REGISTER_STATE, state);
             effect.deliveries
         }
         Access::Ring { target, vector } => {
             let mut devices = devices_after(scenario, lines);
-            let effect = devices.register_write(me, 0x0C, 65536 * target + vector);
+            let word = doorbell_word(target, vector);
+            let effect = devices.register_write(me, REGISTER_DOORBELL, word);
             effect.deliveries
         }
         Access::Read(_) | Access::Write(..) | Access::Nothing => ArrayVec::new(),

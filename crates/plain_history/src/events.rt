@@ -4,6 +4,7 @@ ghost use Rattle.scenario_text.specs.Acts.{cost};
 ghost use Rattle.lawful_history.specs.Schedule.{events_of, event_peer, register_event};
 ghost use Rattle.plain_history.specs.Events.{event_seen};
 
+use doorbell_irq::{REGISTER_DOORBELL, REGISTER_STATE, doorbell_target, doorbell_vector};
 use ivs_base::{Frame, NoMemory};
 use plain_calls::{Access, Call};
 use scenario_text::Act;
@@ -55,21 +56,21 @@ impl Event {
     }
 }
 
-/// The event of a write of a register: State stands at byte 16, and the Doorbell at byte 12.
+/// The event of a write of a register: one of State or of the Doorbell is the access that writes it.
 fn register_event(peer: u32, offset: u32, value: u32) -> Event
     ensures { event_seen result ≡ register_event peer offset value }
 {
-    if offset == 0x10 {
+    if offset == REGISTER_STATE {
         Event::Acted {
             peer,
             access: Access::State(value),
         }
-    } else if offset == 0x0C {
+    } else if offset == REGISTER_DOORBELL {
         Event::Acted {
             peer,
             access: Access::Ring {
-                target: value / 65536,
-                vector: value % 65536,
+                target: doorbell_target(value),
+                vector: doorbell_vector(value),
             },
         }
     } else {

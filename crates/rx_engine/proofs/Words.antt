@@ -31,7 +31,7 @@ word_delivers old new notes who end place more entry address bytes at value at_w
 -- a word before the last is read
 pub word_goes : (old new : Receiver) (notes : List Note) (who : Who) (end : End) (place : laws.Place) (more entry address bytes at value : ℕ) →
     old.place ≡ AtWord more entry address bytes at →
-    new ≡ record old { place = AtWord more entry address bytes (at + 1); frame = []; gathered = new.gathered } →
+    new ≡ record old { place = AtWord more entry address bytes (at + 1); gathered = new.gathered } →
     new.gathered ≡ old.gathered ++ take (bytes - 4 * at) (word_bytes value) →
     notes ≡ [] → 4 < bytes - 4 * at →
     StandsAt old who end place → TakesAt old value notes new who end place

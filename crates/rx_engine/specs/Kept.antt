@@ -17,16 +17,17 @@ seen a = record {
   vector = a.vector;
   returned = a.returned;
   place = a.place;
-  frame = take a.delivered a.buffer.items;
+  frame = take a.delivered a.last.items;
   gathered = take (4 * words_read a.place) a.buffer.items;
 }
 
--- the sections end at or before byte 2^24 of the region, the buffer has room for the longest frame, and the place is one that was reached by the checks
+-- the sections end at or before byte 2^24 of the region, both buffers have room for the longest frame, and the place is one that was reached by the checks
 pub record IsKept (a : Inside) : Type 0 where
   pub queue : IsQueue a.queue
   pub bounds : HasBounds a.queue
   pub own : 4 * a.own + a.queue.out ≤ 2 ^ 24
   pub theirs : 4 * a.theirs + a.queue.out ≤ 2 ^ 24
   pub room : length a.buffer.items ≡ longest_frame a.queue
-  pub frame : a.delivered ≤ length a.buffer.items
+  pub last : length a.last.items ≡ longest_frame a.queue
+  pub frame : a.delivered ≤ length a.last.items
   pub place : IsReached a.queue a.place

@@ -6,8 +6,8 @@ use Rattle.rx_engine.specs.declared.place.Place.{Place}
 use Rattle.rx_engine.specs.declared.place.Place.TheVariants.{Closed, AtLow, AtHigh, AtLength, AtFlags, AtWord, GivingId, GivingLength, GivingIndex}
 
 -- the sizes of the queue, the first words of the own section and of the other's, the peer and the vector of the doorbell; how many frames of the session were
--- returned, modulo 65,536; the place in the open poll; the frame delivered last, or nothing from its first word on until the next one is delivered; and the
--- bytes that were read so far of a frame that isn't delivered yet
+-- returned, modulo 65,536; the place in the open poll; the frame delivered last, or nothing before the first; and the bytes that were read so far of a frame
+-- that isn't delivered yet
 pub record Receiver : Type 0 where
   pub sizes : Sizes
   pub own : ℕ
@@ -32,6 +32,10 @@ fresh_receiver sizes own theirs target vector = record {
   frame = [];
   gathered = [];
 }
+
+-- a receiver whose session begins anew: only the frame delivered last stays
+abbrev pub renewed : Receiver → Receiver
+renewed rx = record (fresh_receiver rx.sizes rx.own rx.theirs rx.target rx.vector) { frame = rx.frame }
 
 -- a poll is open at each place but one
 abbrev pub is_open_at : Place → Bool

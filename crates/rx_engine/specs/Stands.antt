@@ -1,7 +1,7 @@
 -- Which end of the link a receiver stands for, at which place of the call grammar, and its steps there.
 use Rattle.std.specs.Prelude.{ℕ, ◌≡◌, ◌+◌, ◌-◌, ◌%◌, ◌==◌, Bool, true, false, if◌then◌else◌, List, [], ◌∷◌, ◌++◌, length, flat_map}
 use Rattle.link_handshake.specs.declared.Phase.{Phase}
-use Rattle.link_handshake.specs.declared.Phase.TheVariants.{Reset, Init, Ready, Run}
+use Rattle.link_handshake.specs.declared.Phase.TheVariants.{Ready, Run}
 use Rattle.split_ring.specs.declared.steps.Note.{Note}
 use Rattle.call_grammar.specs.Steps.{marks_of}
 use Rattle.call_grammar.specs.Ends.{End, end_after}
@@ -38,18 +38,17 @@ pub record IsMadeFor (rx : Receiver) (who : Who) : Type 0 where
 
 -- a session is open in these phases
 abbrev pub has_session : Phase → Bool
-has_session Reset = false
-has_session Init = false
 has_session Ready = true
 has_session Run = true
+has_session _ = false
 
 -- the receiver's count is the end's modulo 65,536, and all frames delivered are returned but one that is being returned
 pub record Counts (rx : Receiver) (end : End) : Type 0 where
   pub returned : end.returned % 65536 ≡ rx.returned
   pub delivered : length end.delivered ≡ end.returned + unreturned rx.place
 
--- the receiver stands for this end of this peer, at this place of its open call: it counts the end's frames wherever a poll or a session is open, and the bytes
--- gathered are those of the words read
+-- the receiver stands for this end of this peer, at this place of its open call: it counts the end's frames wherever a poll or a session
+-- is open, and the bytes gathered are those of the words read
 pub record StandsAt (rx : Receiver) (who : Who) (end : End) (place : laws.Place) : Type 0 where
   pub made : IsMadeFor rx who
   pub busy : is_busy rx ≡ true → Counts rx end
@@ -59,9 +58,9 @@ pub record StandsAt (rx : Receiver) (who : Who) (end : End) (place : laws.Place)
   pub gathered : rx.gathered ≡ flat_map word_bytes read
   pub place_is : place ≡ place_seen end.returned read rx.place
 
--- what the frame delivered last is after the step at a place: nothing after a word of the next frame, and that frame after its last word
+-- the frame delivered last, after the step at a place that met this value: the next frame after its last word is read, else the one before
 abbrev pub frame_after : laws.Place → ℕ → List ℕ → List ℕ
-frame_after (laws.AtWord number more entry address bytes read words) value frame = if words == 0 then frame_in bytes (read ++ value ∷ []) else []
+frame_after (laws.AtWord number more entry address bytes read words) value frame = if words == 0 then frame_in bytes (read ++ value ∷ []) else frame
 frame_after place value frame = frame
 
 -- a step that met this value was that of the grammar, with these notes, for this end at this place
@@ -79,12 +78,13 @@ pub record IsFreshSession (end : End) : Type 0 where
   pub delivered : end.delivered ≡ []
   pub returned : end.returned ≡ 0
 
--- what a closed receiver reads of an end is the same in these two, and the second has a session only where the first had one
-pub record SameSession (end other : End) : Type 0 where
-  pub delivered : other.delivered ≡ end.delivered
-  pub returned : other.returned ≡ end.returned
-  pub session : has_session other.handshake.phase ≡ true → has_session end.handshake.phase ≡ true
+-- what a closed receiver reads of an end is the same in a later one, which has a session only where the first had one
+pub record SameSession (end later : End) : Type 0 where
+  pub delivered : later.delivered ≡ end.delivered
+  pub returned : later.returned ≡ end.returned
+  pub session : has_session later.handshake.phase ≡ true → has_session end.handshake.phase ≡ true
 
 -- a closed receiver stands for an end as long as its session goes on
 abbrev pub ClosedStays : Type 0
-ClosedStays = (rx : Receiver) (who : Who) (end other : End) → StandsAt rx who end laws.Closed → SameSession end other → StandsAt rx who other laws.Closed
+ClosedStays = (rx : Receiver) (who : Who) (end later : End) → StandsAt rx who end laws.Closed → SameSession end later →
+    StandsAt rx who later laws.Closed

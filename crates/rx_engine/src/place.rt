@@ -1,7 +1,7 @@
 //! Where an open poll is.
 
 /// The place of a poll between two steps, before the access that it is named after. `more` is how many items come after the one in
-/// hand; `address` and `bytes` are in bytes, and `at` counts the words of the frame that were read.
+/// hand, and `entry` its descriptor; `address` and `bytes` are in bytes, and `at` counts the words of the frame that were read.
 #[derive(Clone, Copy, Debug)]
 pub(crate) enum Place {
     /// No poll is open.

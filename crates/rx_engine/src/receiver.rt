@@ -8,15 +8,16 @@ ghost use Rattle.call_grammar.specs.Calls.{Poll};
 ghost use Rattle.call_grammar.specs.Words.{word_bytes};
 ghost use Rattle.call_grammar.specs.Places as laws;
 ghost use Rattle.call_grammar.specs.Reach.{HasSections, InReach};
-ghost use Rattle.rx_engine.specs.Receiver.{fresh_receiver, is_busy, words_read, IsReached, KeepsNumbers};
+ghost use Rattle.rx_engine.specs.Receiver.{fresh_receiver, renewed, is_busy, words_read, IsReached, KeepsNumbers};
 ghost use Rattle.rx_engine.specs.Stands.{IsMadeFor, IsFreshSession, StandsAt, Takes, ClosedStays};
 
 use crate::place::Place;
 use ivs_base::NoMemory;
-use split_ring::steps::{Access, Note, Notes};
+use split_ring::steps::{Access, Note, Notes, leaving, left, refusal};
 use split_ring::{Queue, Refused};
 use std::alloc::Global;
 use std::marker::Model;
+use std::mem::swap;
 
 /// The bytes of the longest frame that a descriptor may name.
 const LONGEST: u32 = 65_553;
@@ -24,8 +25,9 @@ const LONGEST: u32 = 65_553;
 /// The receiver of one end. It keeps the queue, the first words of the two sections, the peer and vector of the doorbell, how many
 /// frames of the session were returned, modulo 65,536, its place in the open poll, and the frame delivered last.
 ///
-/// Its one buffer is as long as the longest frame that passes the checks. The frame delivered last stays there until the first
-/// word of the next frame is read. A step reads or writes one word, and takes no memory.
+/// It has two buffers, each as long as the longest frame that passes the checks: one for the frame that is read, and one for the frame
+/// delivered last. They are swapped when a frame is delivered, and nothing is copied. A step reads or writes one word, and takes no
+/// memory.
 #[derive(Debug, Drop)]
 pub struct Rx {
     queue: Queue,
@@ -36,6 +38,7 @@ pub struct Rx {
     returned: u16,
     place: Place,
     buffer: Vec<u8>,
+    last: Vec<u8>,
     delivered: usize,
 }
 
@@ -74,34 +77,34 @@ fn put_word(buffer: &mut [u8], bytes: usize, at: usize, word: u32)
 }
 
 impl Rx {
-    /// A receiver for a peer whose own section begins at word `own` of the region and whose partner's begins at word `other`; it
+    /// A receiver for a peer whose own section begins at word `own` of the region and whose partner's begins at word `theirs`; it
     /// rings `target` by `vector`. NoMemory comes only where memory ran out.
     pub fn new(
         alloc: Global,
         queue: &Queue,
         own: u32,
-        other: u32,
+        theirs: u32,
         target: u32,
         vector: u32,
     ) -> Result<Rx, NoMemory>
         requires own { 4 * own + queue.now.out ≤ 2 ^ 24 }
-        requires other { 4 * other + queue.now.out ≤ 2 ^ 24 }
-        ensures value { IfOk result (λ rx. rx ≡ fresh_receiver queue.now own other target vector) }
+        requires theirs { 4 * theirs + queue.now.out ≤ 2 ^ 24 }
+        ensures value { IfOk result (λ rx. rx ≡ fresh_receiver queue.now own theirs target vector) }
         ensures stands { IfOk result (λ rx. (who : Who) (end : End) → IsMadeFor rx who → IsFreshSession end → StandsAt rx who end laws.Closed) }
     {
         let longest = LONGEST.min(queue.out() - queue.payload());
-        let Ok(buffer) = vec![in alloc; 0u8; longest as usize] else {
-            return Err(NoMemory);
-        };
+        let buffer = vec![in alloc; 0u8; longest as usize]?;
+        let last = vec![in alloc; 0u8; longest as usize]?;
         Ok(Rx {
             queue: *queue,
             own,
-            theirs: other,
+            theirs,
             target,
             vector,
             returned: 0,
             place: Place::Closed,
             buffer,
+            last,
             delivered: 0,
         })
     }
@@ -117,7 +120,8 @@ impl Rx {
     /// Opens a poll, of an end in RUN.
     pub fn begin(&mut self)
         requires { is_busy self.old ≡ false }
-        ensures stands { (who : Who) (end : End) → StandsAt self.old who end laws.Closed → end.handshake.phase ≡ Run → StandsAt self.new who end (laws.first_place who end Poll) }
+        ensures stands { (who : Who) (end : End) → StandsAt self.old who end laws.Closed → end.handshake.phase ≡ Run →
+            StandsAt self.new who end (laws.first_place who end Poll) }
         ensures value { self.new ≡ record self.old { place = Place.AtAvailIndex } }
     {
         self.place = Place::AtAvailIndex;
@@ -150,7 +154,7 @@ impl Rx {
                 target: self.target,
                 vector: self.vector,
             },
-            Place::Refusing => Access::State(0),
+            Place::Refusing => leaving(),
             Place::Closed => unreachable!(),
         }
     }
@@ -197,27 +201,26 @@ impl Rx {
             Place::GivingLength { more } => self.go_on(Place::GivingIndex { more }, None),
             Place::GivingIndex { more } => self.gave_index(more),
             Place::Ringing => self.go_on(Place::Closed, Some(Note::Done)),
-            Place::Refusing => self.go_on(Place::Closed, Some(Note::Over)),
+            Place::Refusing => self.left(),
             Place::Closed => unreachable!(),
         }
     }
 
-    /// The frame delivered last, until the first word of the next frame is read. It is empty before the first frame, and from the
-    /// first word of a frame on until its last one is read.
+    /// The frame delivered last: from the step that delivers it to the one that delivers the next, through refusals and resets. It is
+    /// empty before the first.
     pub fn frame(&self) -> &[u8]
         ensures { result.now ≡ self.now.frame }
     {
-        &self.buffer[..self.delivered]
+        &self.last[..self.delivered]
     }
 
-    /// Begins a new session: no poll is open, no frame was returned, and `frame` is empty.
+    /// Begins a new session: no poll is open, and no frame was returned. The frame delivered last stays.
     pub fn reset(&mut self)
-        ensures value { self.new ≡ fresh_receiver self.old.sizes self.old.own self.old.theirs self.old.target self.old.vector }
+        ensures value { self.new ≡ renewed self.old }
         ensures stands { (who : Who) (end : End) → IsMadeFor self.old who → IsFreshSession end → StandsAt self.new who end laws.Closed }
     {
         self.returned = 0;
         self.place = Place::Closed;
-        self.delivered = 0;
     }
 }
 
@@ -243,7 +246,17 @@ impl Rx {
         ensures place { self.new ≡ record self.old { place = Place.Refusing; gathered = [] } }
         ensures notes { result.items ≡ Note.Refuse refused ∷ [] }
     {
-        self.go_on(Place::Refusing, Some(Note::Refuse(refused)))
+        self.place = Place::Refusing;
+        refusal(refused)
+    }
+
+    /// The State step of a poll that refused a value.
+    fn left(&mut self) -> Notes
+        ensures place { self.new ≡ record self.old { place = Place.Closed; gathered = [] } }
+        ensures notes { result.items ≡ Note.Over ∷ [] }
+    {
+        self.place = Place::Closed;
+        left()
     }
 
     /// The read of the available index.
@@ -340,7 +353,7 @@ impl Rx {
         }
     }
 
-    /// The read of a frame's word, into the buffer of the frame delivered last.
+    /// The read of a frame's word. On the last one the frame is delivered.
     fn took_word(
         &mut self,
         more: u32,
@@ -357,10 +370,10 @@ impl Rx {
         put_word(&mut self.buffer, bytes as usize, at as usize, value);
         let last = bytes - 4 * at <= 4;
         if last {
+            swap(&mut self.buffer, &mut self.last);
             self.delivered = bytes as usize;
             return self.go_on(Place::GivingId { more, entry }, Some(Note::Deliver));
         }
-        self.delivered = 0;
         self.place = Place::AtWord {
             more,
             entry,

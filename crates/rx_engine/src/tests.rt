@@ -1,3 +1,4 @@
+//! Polls, access by access.
 ghost use Rattle.std.specs.Prelude.{◌≡◌, ◌≤◌, ◌+◌, ◌*◌, ◌^◌};
 
 use crate::{Rx, closed_stays};
@@ -71,7 +72,7 @@ fn one_frame(rt: HostRuntime) -> Result<(), Fail> {
     assert!(rt; !rx.busy());
     assert!(rt; rx.frame() == FRAME.as_slice());
     rx.reset();
-    assert!(rt; rx.frame().is_empty());
+    assert!(rt; rx.frame() == FRAME.as_slice());
     closed_stays();
     Ok(())
 }

@@ -50,13 +50,11 @@ impl Region {
         ensures zero { IfOk result (λ r. r ≡ record { words = replicate (word_count geometry.now) 0; shape = geometry.now }) }
         ensures region { IfOk result IsRegion }
     {
-        match vec![in alloc; 0; geometry.words() as usize] {
-            Ok(words) => Ok(Region {
-                words,
-                geometry: *geometry,
-            }),
-            Err(_) => Err(NoMemory),
-        }
+        let words = vec![in alloc; 0; geometry.words() as usize]?;
+        Ok(Region {
+            words,
+            geometry: *geometry,
+        })
     }
 
     /// The word as `peer` reads it. Outside comes exactly where the word is past the region.

@@ -1,3 +1,4 @@
+//! Values from outside: the worked regions and the faults of their sizes.
 use super::*;
 use std::test::Fail;
 

@@ -12,5 +12,10 @@ pub enum QueueFault {
     TooSmall(u64),
     /// The bytes of one slot, which are more than those of the data area.
     #[error("a slot of {slot} bytes does not fit a data area of {room} bytes")]
-    NoSlot { slot: u64, room: u64 },
+    NoSlot {
+        /// The bytes of a slot.
+        slot: u64,
+        /// The bytes of the data area.
+        room: u64,
+    },
 }

@@ -1,3 +1,4 @@
+//! Layouts, ranges and faults of some sections.
 ghost use Rattle.std.specs.Prelude.{◌≤◌, ◌^◌};
 
 use crate::steps::{Note, Notes};

@@ -1,4 +1,4 @@
--- Interrupts that come one after the other, and what a read gave.
+-- Interrupts that come in their order, and what a read gave.
 use Rattle.std.proofs.Common.{◌≡◌, ℕ, ◌+◌, ◌<◌, List, [], ◌∷◌, ◌++◌, length, take, get_or, arith, refl, sym, ◌∙◌, ap, subst, append_assoc}
 use Rattle.std.specs.Prelude.{◌==◌, if◌then◌else◌, Option, Some, None, true, reverse, slice_get, slice_index, slice_set}
 use Rattle.std.proofs.lemmas.Bool.Decides.{nat_tests}
@@ -16,7 +16,7 @@ use Rattle.doorbell_irq.specs.Stands.{Stands}
 use Rattle.lawful_history.specs.Device.{devices_of, told_by, device_events, lost_by, arrival, arrived, arrivals_by}
 use Rattle.std.proofs.lemmas.List.Folds.{list_all-append}
 use Rattle.lawful_history.specs.Frames.{has_frame, HaveFrames}
-use Rattle.stage.specs.Scene.{Holds, SceneStands, IsRemark, BringsBy}
+use Rattle.stage.specs.Scene.{Holds, SceneAfter, IsRemark, BringsBy}
 use Rattle.stage.specs.declared.scene.Scene.{Scene}
 
 frames-append : (xs ys : List Line) → HaveFrames xs → HaveFrames ys → HaveFrames (xs ++ ys)
@@ -26,9 +26,9 @@ one_frame : (line : Line) → has_frame line ≡ true → HaveFrames (line ∷ [
 one_frame line frame = rw frame refl
 
 -- one line more, told after those that are kept
-told_lines : (gone lines lines' past : List Line) (line : Line) → gone ++ lines ≡ reverse past → lines' ≡ lines ++ line ∷ [] → gone ++ lines' ≡ reverse (line ∷ past)
-told_lines gone lines lines' past line scene_stands put =
-    ap (λ ls. gone ++ ls) put ∙ sym (append_assoc gone lines (line ∷ [])) ∙ ap (λ ls. ls ++ line ∷ []) scene_stands ∙ sym (reverse-append (line ∷ []) past)
+told_lines : (drained lines lines' past : List Line) (line : Line) → drained ++ lines ≡ reverse past → lines' ≡ lines ++ line ∷ [] → drained ++ lines' ≡ reverse (line ∷ past)
+told_lines drained lines lines' past line after put =
+    ap (λ ls. drained ++ ls) put ∙ sym (append_assoc drained lines (line ∷ [])) ∙ ap (λ ls. ls ++ line ∷ []) after ∙ sym (reverse-append (line ∷ []) past)
 
 -- one line more, told after some new lines
 pub after_more : (new : List Line) (line : Line) (past : List Line) → reverse (line ∷ new) ++ past ≡ reverse new ++ (line ∷ past)
@@ -53,36 +53,36 @@ one_arrived past losses ds i d inside is =
 pub known_at : (words : List ℕ) (value : ℕ) (past : List Line) (word : ℕ) → Holds words past → slice_get words word ≡ Some value → value ≡ last_write past word
 known_at words value past word holds at = grind (arith, common_steps, gets, holds word)
 
-pub read_after : (world : World) (gone past : List Line) (losses : ℕ → ℕ) (s s' : Scene) (me word value : ℕ) → SceneStands world gone past losses s → slice_get s.region.words word ≡ Some value →
+pub read_after : (world : World) (drained past : List Line) (losses : ℕ → ℕ) (s s' : Scene) (me word value : ℕ) → SceneAfter world drained past losses s → slice_get s.region.words word ≡ Some value →
     s'.region ≡ s.region → s'.device ≡ s.device → s'.unspent ≡ s.unspent → s'.lines ≡ s.lines ++ line.Read me word value ∷ [] →
-    (value ≡ last_write past word) × SceneStands world gone (line.Read me word value ∷ past) losses s'
-read_after world gone past losses s s' me word value scene_stands at region device unspent lines = (
-  known_at s.region.words value past word scene_stands.words at,
+    (value ≡ last_write past word) × SceneAfter world drained (line.Read me word value ∷ past) losses s'
+read_after world drained past losses s s' me word value after at region device unspent lines = (
+  known_at s.region.words value past word after.words at,
   record {
-    is_world = scene_stands.is_world;
-    shape = ap (λ r. r.shape) region ∙ scene_stands.shape;
-    lines = told_lines gone s.lines s'.lines past (line.Read me word value) scene_stands.lines lines;
-    frames = rw lines (frames-append s.lines (line.Read me word value ∷ []) scene_stands.frames refl);
-    words = rw region scene_stands.words;
-    devices = rw device scene_stands.devices;
-    unspent = λ p. let u = scene_stands.unspent p in rw unspent (omega arith);
-    seats = rw unspent scene_stands.seats;
+    is_world = after.is_world;
+    shape = ap (λ r. r.shape) region ∙ after.shape;
+    lines = told_lines drained s.lines s'.lines past (line.Read me word value) after.lines lines;
+    frames = rw lines (frames-append s.lines (line.Read me word value ∷ []) after.frames refl);
+    words = rw region after.words;
+    devices = rw device after.devices;
+    unspent = λ p. let u = after.unspent p in rw unspent (omega arith);
+    seats = rw unspent after.seats;
   },
 )
 
 -- a line that tells the devices something, after which the words and the devices stand
-pub told_after : (world : World) (gone past : List Line) (losses : ℕ → ℕ) (s s' : Scene) (line : Line) (event : device.Event) → SceneStands world gone past losses s → told_by line ≡ Some event → ((p : ℕ) → lost_by line p ≡ 0) →
+pub told_after : (world : World) (drained past : List Line) (losses : ℕ → ℕ) (s s' : Scene) (line : Line) (event : device.Event) → SceneAfter world drained past losses s → told_by line ≡ Some event → ((p : ℕ) → lost_by line p ≡ 0) →
     has_frame line ≡ true → Holds s'.region.words (line ∷ past) → s'.region.shape ≡ s.region.shape → Stands (devices_of world) (event ∷ device_events past) s'.device → s'.unspent ≡ s.unspent →
-    s'.lines ≡ s.lines ++ line ∷ [] → SceneStands world gone (line ∷ past) losses s'
-told_after world gone past losses s s' line event scene_stands told lost frame words shape devices unspent lines = record {
-  is_world = scene_stands.is_world;
-  shape = shape ∙ scene_stands.shape;
-  lines = told_lines gone s.lines s'.lines past line scene_stands.lines lines;
-  frames = rw lines (frames-append s.lines (line ∷ []) scene_stands.frames (one_frame line frame));
+    s'.lines ≡ s.lines ++ line ∷ [] → SceneAfter world drained (line ∷ past) losses s'
+told_after world drained past losses s s' line event after told lost frame words shape devices unspent lines = record {
+  is_world = after.is_world;
+  shape = shape ∙ after.shape;
+  lines = told_lines drained s.lines s'.lines past line after.lines lines;
+  frames = rw lines (frames-append s.lines (line ∷ []) after.frames (one_frame line frame));
   words = words;
   devices = rw told devices;
-  unspent = λ p. let u = scene_stands.unspent p in let none = lost p in rw unspent (omega arith);
-  seats = rw unspent scene_stands.seats;
+  unspent = λ p. let u = after.unspent p in let none = lost p in rw unspent (omega arith);
+  seats = rw unspent after.seats;
 }
 
 -- a word after a write to a word
@@ -105,15 +105,15 @@ come_after P world past losses line (Some event) deliveries brings holds =
     subst P (ap (λ ds. reverse (arrived (line ∷ past) losses ds) ++ (line ∷ past)) brings ∙ sym (after_more (arrived (line ∷ past) losses (effect_of (devices_of world) (device_events past) event).deliveries.items) line past)) holds
 
 -- a line that changes nothing, told after the others
-pub remarked : (world : World) (gone past : List Line) (losses : ℕ → ℕ) (s s' : Scene) (line : Line) → SceneStands world gone past losses s → IsRemark line →
-    s'.region ≡ s.region → s'.device ≡ s.device → s'.unspent ≡ s.unspent → s'.lines ≡ s.lines ++ line ∷ [] → SceneStands world gone (line ∷ past) losses s'
-remarked world gone past losses s s' line scene_stands remark region device unspent lines = record {
-  is_world = scene_stands.is_world;
-  shape = ap (λ r. r.shape) region ∙ scene_stands.shape;
-  lines = told_lines gone s.lines s'.lines past line scene_stands.lines lines;
-  frames = rw lines (frames-append s.lines (line ∷ []) scene_stands.frames (one_frame line remark.frame));
-  words = rw region (λ word inside. scene_stands.words word inside ∙ ap (λ t. value_after t word (last_write past word)) (sym remark.touch));
-  devices = rw (device, remark.told) scene_stands.devices;
-  unspent = λ p. let u = scene_stands.unspent p in let none = remark.lost p in rw unspent (omega arith);
-  seats = rw unspent scene_stands.seats;
+pub remarked : (world : World) (drained past : List Line) (losses : ℕ → ℕ) (s s' : Scene) (line : Line) → SceneAfter world drained past losses s → IsRemark line →
+    s'.region ≡ s.region → s'.device ≡ s.device → s'.unspent ≡ s.unspent → s'.lines ≡ s.lines ++ line ∷ [] → SceneAfter world drained (line ∷ past) losses s'
+remarked world drained past losses s s' line after remark region device unspent lines = record {
+  is_world = after.is_world;
+  shape = ap (λ r. r.shape) region ∙ after.shape;
+  lines = told_lines drained s.lines s'.lines past line after.lines lines;
+  frames = rw lines (frames-append s.lines (line ∷ []) after.frames (one_frame line remark.frame));
+  words = rw region (λ word inside. after.words word inside ∙ ap (λ t. value_after t word (last_write past word)) (sym remark.touch));
+  devices = rw (device, remark.told) after.devices;
+  unspent = λ p. let u = after.unspent p in let none = remark.lost p in rw unspent (omega arith);
+  seats = rw unspent after.seats;
 }

@@ -1,6 +1,6 @@
 -- The scene of a world: its region, its devices and its lines, after the lines so far.
-use Rattle.std.specs.Prelude.{ℕ, ◌≡◌, ◌+◌, ◌<◌, ◌^◌, true, Option, Some, None, List, [], ◌∷◌, ◌++◌, reverse, length, slice_index, slice_index_or}
-use Rattle.section_map.specs.Geometry.{word_count}
+use Rattle.std.specs.Prelude.{ℕ, ◌≡◌, ◌+◌, ◌<◌, ◌^◌, true, Option, Some, None, List, [], ◌∷◌, ◌++◌, reverse, length, slice_index, slice_index_or, slice_set}
+use Rattle.section_map.specs.Geometry.{Words, word_count}
 use Rattle.section_map.specs.MayWrite.{MayWrite}
 use Rattle.split_ring.specs.declared.steps.Access.{Access}
 use Rattle.split_ring.specs.declared.steps.Access.TheVariants as access
@@ -20,13 +20,13 @@ use Rattle.stage.specs.declared.scene.Scene.{Scene}
 abbrev pub Holds : List ℕ → List Line → Type 0
 Holds words past = (word : ℕ) → word < length words → slice_index words word ≡ last_write past word
 
--- after these lines, of which the newest is the first and of which the oldest ones, gone, were taken away, and where so many interrupts of each
--- peer are to be lost: the region has the words that were written last, the devices stand where the lines led them, and it is known
--- how many losses are still to come
-pub record SceneStands (world : World) (gone past : List Line) (losses : ℕ → ℕ) (scene : Scene) : Type 0 where
+-- the scene after these lines, of which the newest is the first and of which the oldest ones were drained, where so many interrupts of each peer
+-- are to be lost: the region has the words that were written last, the devices stand where the lines led them, and it is known how many
+-- losses are still to come
+pub record SceneAfter (world : World) (drained past : List Line) (losses : ℕ → ℕ) (scene : Scene) : Type 0 where
   pub is_world : IsWorld world
   pub shape : scene.region.shape ≡ world.geometry
-  pub lines : gone ++ scene.lines ≡ reverse past
+  pub lines : drained ++ scene.lines ≡ reverse past
   pub frames : HaveFrames scene.lines
   pub words : Holds scene.region.words past
   pub devices : Stands (devices_of world) (device_events past) scene.device
@@ -71,8 +71,10 @@ abbrev pub BringsBy : World → List Line → Option device.Event → List Deliv
 BringsBy world past None deliveries = deliveries ≡ []
 BringsBy world past (Some event) deliveries = deliveries ≡ (effect_of (devices_of world) (device_events past) event).deliveries.items
 
-abbrev pub Brings : World → List Line → Line → List Delivery → Type 0
-Brings world past line deliveries = BringsBy world past (told_by line) deliveries
+-- the region after a call of the devices: the State that they wrote, if they wrote one, is the peer's word
+abbrev pub with_state : Words → ℕ → Option ℕ → Words
+with_state region me None = region
+with_state region me (Some value) = record region { words = slice_set region.words me value }
 
 -- a line with the interrupts that it brings
 abbrev pub told : World → List Line → (ℕ → ℕ) → Line → List Line

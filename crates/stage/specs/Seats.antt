@@ -14,7 +14,7 @@ use Rattle.stage.specs.declared.link.Waiting.{Waiting}
 use Rattle.stage.specs.declared.link.Waiting.TheVariants.{Tick, Poll, Stop, Offer}
 use Rattle.stage.specs.declared.link.Link.{Link}
 use Rattle.stage.specs.declared.seat.Seat.{Seat}
-use Rattle.stage.specs.declared.seat.Ground.{Ground}
+use Rattle.stage.specs.declared.seat.StormSizes.{StormSizes}
 use Rattle.stage.specs.declared.seat.Seat.TheVariants as seat
 
 -- the call of the grammar that waits
@@ -115,9 +115,9 @@ is_honest seat.Idle = false
 abbrev pub SameKind : Seat → Seat → Type 0
 SameKind old new = is_honest new ≡ is_honest old
 
--- the sizes are those of the world, and the peer is one of it
-pub record IsGround (world : World) (me : ℕ) (ground : Ground) : Type 0 where
+-- the sizes that a storm draws from are those of the world, and the peer is one of it
+pub record AreSizesOf (world : World) (me : ℕ) (sizes : StormSizes) : Type 0 where
   pub is_world : IsWorld world
   pub there : me < world.geometry.peers
-  pub geometry : ground.geometry ≡ world.geometry
-  pub queue : ground.queue ≡ world.queue
+  pub geometry : sizes.geometry ≡ world.geometry
+  pub queue : sizes.queue ≡ world.queue

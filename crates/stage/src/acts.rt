@@ -8,9 +8,11 @@ ghost use Rattle.stage.specs.Scene.{IsSeated};
 ghost use Rattle.stage.specs.Stage.{Happens};
 
 use crate::stage::Stage;
+use doorbell_irq::{REGISTER_DOORBELL, REGISTER_STATE, doorbell_target, doorbell_vector};
 use ivs_base::NoMemory;
 
 impl Stage {
+    /// A write of the peer's own accord; where it may not write the word, it is denied.
     pub fn poke(&mut self, peer: u32, word: u32, value: u32) -> Result<(), NoMemory>
         requires { IsSeated self.old.scene peer }
         ensures { OnOk result (Happens (Acted peer (Write word value)) self.old self.new) }
@@ -19,6 +21,7 @@ impl Stage {
         Ok(())
     }
 
+    /// A read of the peer's own accord.
     pub fn peek(&mut self, peer: u32, word: u32) -> Result<(), NoMemory>
         requires seated { IsSeated self.old.scene peer }
         requires inside { word < word_count self.old.scene.region.shape }
@@ -28,6 +31,7 @@ impl Stage {
         Ok(())
     }
 
+    /// A write of State.
     pub fn set(&mut self, peer: u32, value: u32) -> Result<(), NoMemory>
         requires { IsSeated self.old.scene peer }
         ensures { OnOk result (Happens (Acted peer (State value)) self.old self.new) }
@@ -36,6 +40,7 @@ impl Stage {
         Ok(())
     }
 
+    /// A write of the Doorbell.
     pub fn ring(&mut self, peer: u32, target: u32, vector: u32) -> Result<(), NoMemory>
         requires seated { IsSeated self.old.scene peer }
         requires target { target < 2 ^ 16 }
@@ -46,6 +51,7 @@ impl Stage {
         Ok(())
     }
 
+    /// A read of the peer's configuration space.
     pub fn read_config(&mut self, peer: u32, offset: u16, width: u16) -> Result<(), NoMemory>
         requires seated { IsSeated self.old.scene peer }
         requires access { is_access 256 offset width ≡ true }
@@ -55,6 +61,7 @@ impl Stage {
         Ok(())
     }
 
+    /// A write of the peer's configuration space.
     pub fn write_config(
         &mut self,
         peer: u32,
@@ -70,6 +77,7 @@ impl Stage {
         Ok(())
     }
 
+    /// A read of a register.
     pub fn read_register(&mut self, peer: u32, offset: u32) -> Result<(), NoMemory>
         requires { IsSeated self.old.scene peer }
         ensures { OnOk result (Happens (Reached peer (ReadsRegister offset)) self.old self.new) }
@@ -78,6 +86,7 @@ impl Stage {
         Ok(())
     }
 
+    /// A write of a register that is neither State nor the Doorbell.
     fn write_other_register(&mut self, peer: u32, offset: u32, value: u32) -> Result<(), NoMemory>
         requires { IsSeated self.old.scene peer }
         ensures { OnOk result (Happens (Reached peer (WritesRegister offset value)) self.old self.new) }
@@ -86,20 +95,21 @@ impl Stage {
         Ok(())
     }
 
-    /// A write of a register; one of State, at byte 16, or of the Doorbell, at byte 12, is told as such.
+    /// A write of a register; one of State or of the Doorbell is told as such.
     pub fn write_register(&mut self, peer: u32, offset: u32, value: u32) -> Result<(), NoMemory>
         requires { IsSeated self.old.scene peer }
         ensures { OnOk result (Happens (register_event peer offset value) self.old self.new) }
     {
-        if offset == 0x10 {
+        if offset == REGISTER_STATE {
             self.set(peer, value)
-        } else if offset == 0x0C {
-            self.ring(peer, value / 65536, value % 65536)
+        } else if offset == REGISTER_DOORBELL {
+            self.ring(peer, doorbell_target(value), doorbell_vector(value))
         } else {
             self.write_other_register(peer, offset, value)
         }
     }
 
+    /// A read of the MSI-X region.
     pub fn read_msix(&mut self, peer: u32, offset: u32) -> Result<(), NoMemory>
         requires { IsSeated self.old.scene peer }
         ensures { OnOk result (Happens (Reached peer (ReadsMsix offset)) self.old self.new) }
@@ -108,6 +118,7 @@ impl Stage {
         Ok(())
     }
 
+    /// A write of the MSI-X region.
     pub fn write_msix(&mut self, peer: u32, offset: u32, value: u32) -> Result<(), NoMemory>
         requires { IsSeated self.old.scene peer }
         ensures { OnOk result (Happens (Reached peer (WritesMsix offset value)) self.old self.new) }
@@ -116,6 +127,7 @@ impl Stage {
         Ok(())
     }
 
+    /// The peer's next interrupt is to be lost.
     pub fn lose(&mut self, peer: u32)
         requires seated { IsSeated self.old.scene peer }
         requires room { slice_index self.old.scene.unspent peer < 2 ^ 64 - 1 }
@@ -124,6 +136,7 @@ impl Stage {
         self.scene.lose(peer);
     }
 
+    /// An interrupt is repeated at the peer, whatever its registers say.
     pub fn repeat(&mut self, peer: u32, vector: u32) -> Result<(), NoMemory>
         ensures { OnOk result (Happens (Repeated peer vector) self.old self.new) }
     {

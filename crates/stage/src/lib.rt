@@ -11,5 +11,5 @@ mod seat;
 mod stage;
 
 pub use scene::Scene;
-pub use seat::{Ground, Seat};
+pub use seat::{Seat, StormSizes};
 pub use stage::Stage;

@@ -11,21 +11,25 @@ ghost use Rattle.lawful_history.specs.Schedule.{Loses, ReadsConfig, WritesConfig
 ghost use Rattle.lawful_history.specs.Entries.{acted_lines};
 ghost use Rattle.lawful_history.specs.History.{acted_step};
 ghost use Rattle.lawful_history.specs.Device.{arrival, arrived, arrivals, brought_by, step_interrupts, reached_line, losses_with};
-ghost use Rattle.stage.specs.Scene.{SceneStands, IsSeated, IsRemark, Brings, CanPerform, GaveLast, told, accessed};
+ghost use Rattle.stage.specs.Scene.{SceneAfter, IsSeated, IsRemark, CanPerform, GaveLast, told, accessed, with_state};
 
 use arrayvec::ArrayVec;
-use doorbell_irq::{Delivery, Device};
+use doorbell_irq::{Delivery, Device, Effect, REGISTER_DOORBELL, REGISTER_STATE, doorbell_word};
 use ivs_base::NoMemory;
 use lawful_history::{Line, Lines};
 use section_map::Region;
 use split_ring::steps::Access;
 
-/// The region, the devices, how many interrupts are still to be lost at each of 8 peers, and the history so far.
+/// The region, the devices, the interrupts that are still to be lost, and the history so far.
 #[derive(Drop)]
 pub struct Scene {
+    /// The words of the region.
     pub region: Region,
+    /// The devices of all peers.
     pub device: Device,
+    /// How many interrupts are still to be lost, for each of 8 peers.
     pub unspent: [u64; 8],
+    /// The lines that were told and not drained, in their order.
     pub lines: Lines,
 }
 
@@ -33,7 +37,7 @@ impl Scene {
     /// Tells a line that changes no word and no device.
     pub fn remark(&mut self, line: Line) -> Result<(), NoMemory>
         requires { IsRemark line }
-        ensures scene_stands { (world : World) (gone past : List Line) (losses : ℕ → ℕ) → SceneStands world gone past losses self.old → OnOk result (SceneStands world gone (line ∷ past) losses self.new) }
+        ensures after { (world : World) (drained past : List Line) (losses : ℕ → ℕ) → SceneAfter world drained past losses self.old → OnOk result (SceneAfter world drained (line ∷ past) losses self.new) }
         ensures seated { (me : ℕ) → IsSeated self.old me → IsSeated self.new me }
     {
         self.lines.push(line)
@@ -41,7 +45,7 @@ impl Scene {
 
     /// One interrupt comes to its peer, or is lost on its way.
     fn arrive_at(&mut self, delivery: &Delivery) -> Result<(), NoMemory>
-        ensures scene_stands { (world : World) (gone past : List Line) (losses : ℕ → ℕ) → SceneStands world gone past losses self.old → OnOk result (SceneStands world gone (arrival past losses delivery.now ∷ past) losses self.new) }
+        ensures after { (world : World) (drained past : List Line) (losses : ℕ → ℕ) → SceneAfter world drained past losses self.old → OnOk result (SceneAfter world drained (arrival past losses delivery.now ∷ past) losses self.new) }
         ensures seated { (me : ℕ) → IsSeated self.old me → IsSeated self.new me }
     {
         let Delivery { peer, vector } = *delivery;
@@ -53,9 +57,9 @@ impl Scene {
         }
     }
 
-    /// Interrupts come, one after the other.
+    /// Interrupts come, in their order.
     fn arrive(&mut self, deliveries: &[Delivery]) -> Result<(), NoMemory>
-        ensures scene_stands { (world : World) (gone past : List Line) (losses : ℕ → ℕ) → SceneStands world gone past losses self.old → OnOk result (SceneStands world gone (reverse (arrived past losses deliveries.now) ++ past) losses self.new) }
+        ensures after { (world : World) (drained past : List Line) (losses : ℕ → ℕ) → SceneAfter world drained past losses self.old → OnOk result (SceneAfter world drained (reverse (arrived past losses deliveries.now) ++ past) losses self.new) }
         ensures seated { (me : ℕ) → IsSeated self.old me → IsSeated self.new me }
     {
         for delivery in deliveries {
@@ -68,8 +72,8 @@ impl Scene {
     pub fn read(&mut self, me: u32, word: u32) -> Result<u32, NoMemory>
         requires seated { IsSeated self.old me }
         requires inside { word < word_count self.old.region.shape }
-        ensures scene_stands { (world : World) (gone past : List Line) (losses : ℕ → ℕ) → SceneStands world gone past losses self.old →
-            IfOk result (λ value. (value ≡ last_write past word) × SceneStands world gone (Line.Read me word value ∷ past) losses self.new) }
+        ensures after { (world : World) (drained past : List Line) (losses : ℕ → ℕ) → SceneAfter world drained past losses self.old →
+            IfOk result (λ value. (value ≡ last_write past word) × SceneAfter world drained (Line.Read me word value ∷ past) losses self.new) }
         ensures seated { (q : ℕ) → IsSeated self.old q → IsSeated self.new q }
     {
         let value = match self.region.read(me, word) {
@@ -88,7 +92,7 @@ impl Scene {
     pub fn write(&mut self, me: u32, word: u32, value: u32) -> Result<(), NoMemory>
         requires seated { IsSeated self.old me }
         requires may { MayWrite self.old.region.shape me word }
-        ensures scene_stands { (world : World) (gone past : List Line) (losses : ℕ → ℕ) → SceneStands world gone past losses self.old → OnOk result (SceneStands world gone (Line.Write me word value ∷ past) losses self.new) }
+        ensures after { (world : World) (drained past : List Line) (losses : ℕ → ℕ) → SceneAfter world drained past losses self.old → OnOk result (SceneAfter world drained (Line.Write me word value ∷ past) losses self.new) }
         ensures seated { (q : ℕ) → IsSeated self.old q → IsSeated self.new q }
     {
         match self.region.write(me, word, value) {
@@ -104,8 +108,8 @@ impl Scene {
     /// A peer writes a word if it may, and is denied it else.
     pub fn poke(&mut self, me: u32, word: u32, value: u32) -> Result<(), NoMemory>
         requires { IsSeated self.old me }
-        ensures scene_stands { (world : World) (gone past : List Line) (losses : ℕ → ℕ) → SceneStands world gone past losses self.old →
-            OnOk result (SceneStands world gone (reverse (acted_lines me (Access.Write word value) (acted_step world me (Access.Write word value) past) []) ++ past) losses self.new) }
+        ensures after { (world : World) (drained past : List Line) (losses : ℕ → ℕ) → SceneAfter world drained past losses self.old →
+            OnOk result (SceneAfter world drained (reverse (acted_lines me (Access.Write word value) (acted_step world me (Access.Write word value) past) []) ++ past) losses self.new) }
         ensures seated { (q : ℕ) → IsSeated self.old q → IsSeated self.new q }
     {
         match self.region.write(me, word, value) {
@@ -118,53 +122,38 @@ impl Scene {
         }
     }
 
-    /// Tells a write of State. The answer is whom it interrupts.
-    fn tell_state(&mut self, me: u32, value: u32) -> Result<ArrayVec<Delivery, 8>, NoMemory>
-        requires { IsSeated self.old me }
-        ensures scene_stands { (world : World) (gone past : List Line) (losses : ℕ → ℕ) → SceneStands world gone past losses self.old →
-            IfOk result (λ deliveries. Brings world past (Line.State me value) deliveries.items × SceneStands world gone (Line.State me value ∷ past) losses self.new) }
-        ensures seated { (q : ℕ) → IsSeated self.old q → IsSeated self.new q }
+    /// Tells a line whose act the devices answered with this effect: the State that they wrote goes into the peer's word of the table. Returns
+    /// whom it interrupts.
+    fn tell(
+        &mut self,
+        me: u32,
+        line: Line,
+        effect: Effect,
+    ) -> Result<ArrayVec<Delivery, 8>, NoMemory>
+        requires { me < self.old.region.shape.peers }
+        ensures region { self.new.region ≡ with_state self.old.region me effect.state }
+        ensures device { self.new.device ≡ self.old.device }
+        ensures unspent { self.new.unspent ≡ self.old.unspent }
+        ensures lines { OnOk result (self.new.lines ≡ self.old.lines ++ line ∷ []) }
+        ensures deliveries { IfOk result (λ deliveries. deliveries ≡ effect.deliveries) }
     {
-        let _ = self.region.set_state(me, value);
-        let effect = self.device.register_write(me, 0x10, value);
-        self.lines.push(Line::State { peer: me, value })?;
+        if let Some(value) = effect.state {
+            let _ = self.region.set_state(me, value);
+        }
+        self.lines.push(line)?;
         Ok(effect.deliveries)
     }
 
     /// A peer writes its State.
     pub fn set_state(&mut self, me: u32, value: u32) -> Result<(), NoMemory>
         requires { IsSeated self.old me }
-        ensures scene_stands { (world : World) (gone past : List Line) (losses : ℕ → ℕ) → SceneStands world gone past losses self.old →
-            OnOk result (SceneStands world gone (reverse (told world past losses (Line.State me value)) ++ past) losses self.new) }
+        ensures after { (world : World) (drained past : List Line) (losses : ℕ → ℕ) → SceneAfter world drained past losses self.old →
+            OnOk result (SceneAfter world drained (reverse (told world past losses (Line.State me value)) ++ past) losses self.new) }
         ensures seated { (q : ℕ) → IsSeated self.old q → IsSeated self.new q }
     {
-        let deliveries = self.tell_state(me, value)?;
+        let effect = self.device.register_write(me, REGISTER_STATE, value);
+        let deliveries = self.tell(me, Line::State { peer: me, value }, effect)?;
         self.arrive(deliveries.as_slice())
-    }
-
-    /// Tells a write of the Doorbell. The answer is whom it interrupts.
-    fn tell_doorbell(
-        &mut self,
-        me: u32,
-        target: u32,
-        vector: u32,
-    ) -> Result<ArrayVec<Delivery, 8>, NoMemory>
-        requires seated { IsSeated self.old me }
-        requires target { target < 2 ^ 16 }
-        requires vector { vector < 2 ^ 16 }
-        ensures scene_stands { (world : World) (gone past : List Line) (losses : ℕ → ℕ) → SceneStands world gone past losses self.old →
-            IfOk result (λ deliveries. Brings world past (Line.Doorbell me target vector) deliveries.items × SceneStands world gone (Line.Doorbell me target vector ∷ past) losses self.new) }
-        ensures seated { (q : ℕ) → IsSeated self.old q → IsSeated self.new q }
-    {
-        let effect = self
-            .device
-            .register_write(me, 0x0C, 65536 * target + vector);
-        self.lines.push(Line::Doorbell {
-            peer: me,
-            target,
-            vector,
-        })?;
-        Ok(effect.deliveries)
     }
 
     /// A peer writes its Doorbell.
@@ -172,44 +161,39 @@ impl Scene {
         requires seated { IsSeated self.old me }
         requires target { target < 2 ^ 16 }
         requires vector { vector < 2 ^ 16 }
-        ensures scene_stands { (world : World) (gone past : List Line) (losses : ℕ → ℕ) → SceneStands world gone past losses self.old →
-            OnOk result (SceneStands world gone (reverse (told world past losses (Line.Doorbell me target vector)) ++ past) losses self.new) }
+        ensures after { (world : World) (drained past : List Line) (losses : ℕ → ℕ) → SceneAfter world drained past losses self.old →
+            OnOk result (SceneAfter world drained (reverse (told world past losses (Line.Doorbell me target vector)) ++ past) losses self.new) }
         ensures seated { (q : ℕ) → IsSeated self.old q → IsSeated self.new q }
     {
-        let deliveries = self.tell_doorbell(me, target, vector)?;
+        let word = doorbell_word(target, vector);
+        let effect = self.device.register_write(me, REGISTER_DOORBELL, word);
+        let line = Line::Doorbell {
+            peer: me,
+            target,
+            vector,
+        };
+        let deliveries = self.tell(me, line, effect)?;
         self.arrive(deliveries.as_slice())
-    }
-
-    /// Tells a device reset. The answer is whom it interrupts.
-    fn tell_reset(&mut self, me: u32) -> Result<ArrayVec<Delivery, 8>, NoMemory>
-        requires { IsSeated self.old me }
-        ensures scene_stands { (world : World) (gone past : List Line) (losses : ℕ → ℕ) → SceneStands world gone past losses self.old →
-            IfOk result (λ deliveries. Brings world past (Reset me) deliveries.items × SceneStands world gone (Reset me ∷ past) losses self.new) }
-        ensures seated { (q : ℕ) → IsSeated self.old q → IsSeated self.new q }
-    {
-        let _ = self.region.set_state(me, 0);
-        let effect = self.device.reset(me);
-        self.lines.push(Line::Reset { peer: me })?;
-        Ok(effect.deliveries)
     }
 
     /// The device of a peer is reset.
     pub fn reset(&mut self, me: u32) -> Result<(), NoMemory>
         requires { IsSeated self.old me }
-        ensures scene_stands { (world : World) (gone past : List Line) (losses : ℕ → ℕ) → SceneStands world gone past losses self.old →
-            OnOk result (SceneStands world gone (reverse (told world past losses (Reset me)) ++ past) losses self.new) }
+        ensures after { (world : World) (drained past : List Line) (losses : ℕ → ℕ) → SceneAfter world drained past losses self.old →
+            OnOk result (SceneAfter world drained (reverse (told world past losses (Reset me)) ++ past) losses self.new) }
         ensures seated { (q : ℕ) → IsSeated self.old q → IsSeated self.new q }
     {
-        let deliveries = self.tell_reset(me)?;
+        let effect = self.device.reset(me);
+        let deliveries = self.tell(me, Line::Reset { peer: me }, effect)?;
         self.arrive(deliveries.as_slice())
     }
 
-    /// A peer makes an access, which is told with the interrupts that it brings. The answer is what a read gave, else 0.
+    /// A peer makes an access, which is told with the interrupts that it brings. Returns what a read gave, else 0.
     pub fn perform(&mut self, me: u32, access: Access) -> Result<u32, NoMemory>
         requires seated { IsSeated self.old me }
         requires can { CanPerform self.old me access }
-        ensures scene_stands { (world : World) (gone past : List Line) (losses : ℕ → ℕ) → SceneStands world gone past losses self.old →
-            IfOk result (λ value. GaveLast past access value × SceneStands world gone (reverse (accessed world past losses me access value) ++ past) losses self.new) }
+        ensures after { (world : World) (drained past : List Line) (losses : ℕ → ℕ) → SceneAfter world drained past losses self.old →
+            IfOk result (λ value. GaveLast past access value × SceneAfter world drained (reverse (accessed world past losses me access value) ++ past) losses self.new) }
         ensures seated { (q : ℕ) → IsSeated self.old q → IsSeated self.new q }
     {
         match access {

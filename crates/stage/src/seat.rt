@@ -8,8 +8,8 @@ ghost use Rattle.lawful_history.specs.Entries.{turn_lines};
 ghost use Rattle.lawful_history.specs.Peers.{Peer, was_reset};
 ghost use Rattle.lawful_history.specs.Device.{step_interrupts};
 ghost use Rattle.lawful_history.specs.History.{turn_step, turned};
-ghost use Rattle.stage.specs.Scene.{SceneStands, IsSeated};
-ghost use Rattle.stage.specs.Seats.{SeatStands, SeatFits, SameKind, IsGround};
+ghost use Rattle.stage.specs.Scene.{SceneAfter, IsSeated};
+ghost use Rattle.stage.specs.Seats.{SeatStands, SeatFits, SameKind, AreSizesOf};
 
 use crate::link::{Link, take_turn};
 use crate::scene::Scene;
@@ -33,8 +33,10 @@ pub enum Seat {
 
 /// The sizes of a world that a storm draws from.
 #[derive(Clone, Copy, Debug)]
-pub struct Ground {
+pub struct StormSizes {
+    /// The region.
     pub geometry: Geometry,
+    /// The queue of a section.
     pub queue: Queue,
 }
 
@@ -54,34 +56,34 @@ fn drawn(x: u64) -> u32
 }
 
 /// What three draws do.
-fn access_of(ground: &Ground, me: u32, kind: u32, place: u32, value: u32) -> Access
-    requires { (world : World) × IsGround world me ground.now }
-    ensures { (world : World) → IsGround world me ground.now → result ≡ drawn_access world me kind place value }
+fn access_of(sizes: &StormSizes, me: u32, kind: u32, place: u32, value: u32) -> Access
+    requires { (world : World) × AreSizesOf world me sizes.now }
+    ensures { (world : World) → AreSizesOf world me sizes.now → result ≡ drawn_access world me kind place value }
 {
-    let start = ground.geometry.section_start(me);
+    let start = sizes.geometry.section_start(me);
     match kind % 4 {
-        0 => Access::Write(start + place % ground.geometry.out_words(), value),
-        1 => Access::Write(start + place % (ground.queue.payload() / 4), value),
+        0 => Access::Write(start + place % sizes.geometry.out_words(), value),
+        1 => Access::Write(start + place % (sizes.queue.payload() / 4), value),
         2 => Access::State(value % 8),
         _ => Access::Ring {
-            target: place % ground.geometry.peers(),
+            target: place % sizes.geometry.peers(),
             vector: value % 4,
         },
     }
 }
 
-/// A step of a storm. The answer is where its generator is then.
-fn storm(ground: &Ground, me: u32, x: u64, scene: &mut Scene) -> Result<u64, NoMemory>
-    requires ground { (world : World) × IsGround world me ground.now × (scene.old.region.shape ≡ world.geometry) }
+/// A step of a storm. Returns where its generator is then.
+fn storm(sizes: &StormSizes, me: u32, x: u64, scene: &mut Scene) -> Result<u64, NoMemory>
+    requires sizes { (world : World) × AreSizesOf world me sizes.now × (scene.old.region.shape ≡ world.geometry) }
     requires seated { IsSeated scene.old me }
-    ensures turn { (world : World) (gone past : List Line) (losses : ℕ → ℕ) → IsGround world me ground.now → SceneStands world gone past losses scene.old →
-        IfOk result (λ next. (next ≡ storm_after x) × SceneStands world gone (reverse (turn_lines me (Some (storm_step world me x)) (step_interrupts world past losses me (Some (storm_step world me x)))) ++ past) losses scene.new) }
+    ensures turn { (world : World) (drained past : List Line) (losses : ℕ → ℕ) → AreSizesOf world me sizes.now → SceneAfter world drained past losses scene.old →
+        IfOk result (λ next. (next ≡ storm_after x) × SceneAfter world drained (reverse (turn_lines me (Some (storm_step world me x)) (step_interrupts world past losses me (Some (storm_step world me x)))) ++ past) losses scene.new) }
     ensures seated { (q : ℕ) → IsSeated scene.old q → IsSeated scene.new q }
 {
     let first = next(x);
     let second = next(first);
     let third = next(second);
-    let access = access_of(ground, me, drawn(first), drawn(second), drawn(third));
+    let access = access_of(sizes, me, drawn(first), drawn(second), drawn(third));
     scene.perform(me, access)?;
     Ok(third)
 }
@@ -89,15 +91,15 @@ fn storm(ground: &Ground, me: u32, x: u64, scene: &mut Scene) -> Result<u64, NoM
 /// A turn of the peer of a seat.
 pub fn turn(
     alloc: Global,
-    ground: &Ground,
+    sizes: &StormSizes,
     me: u32,
     seat: &mut Seat,
     scene: &mut Scene,
 ) -> Result<(), NoMemory>
-    requires ground { (world : World) × (peer : Peer) × IsGround world me ground.now × (scene.old.region.shape ≡ world.geometry) × SeatStands (who_of world me) peer seat.old × SeatFits (who_of world me) seat.old }
+    requires sizes { (world : World) × (peer : Peer) × AreSizesOf world me sizes.now × (scene.old.region.shape ≡ world.geometry) × SeatStands (who_of world me) peer seat.old × SeatFits (who_of world me) seat.old }
     requires seated { IsSeated scene.old me }
-    ensures turn { (world : World) (gone past : List Line) (losses : ℕ → ℕ) (peer : Peer) → IsGround world me ground.now → SceneStands world gone past losses scene.old → SeatStands (who_of world me) peer seat.old →
-        OnOk result (SceneStands world gone (reverse (turn_lines me (turn_step world me peer past) (step_interrupts world past losses me (turn_step world me peer past))) ++ past) losses scene.new
+    ensures turn { (world : World) (drained past : List Line) (losses : ℕ → ℕ) (peer : Peer) → AreSizesOf world me sizes.now → SceneAfter world drained past losses scene.old → SeatStands (who_of world me) peer seat.old →
+        OnOk result (SceneAfter world drained (reverse (turn_lines me (turn_step world me peer past) (step_interrupts world past losses me (turn_step world me peer past))) ++ past) losses scene.new
         × SeatStands (who_of world me) (turned world me peer past) seat.new) }
     ensures seated { (q : ℕ) → IsSeated scene.old q → IsSeated scene.new q }
     ensures kind { SameKind seat.old seat.new }
@@ -108,7 +110,7 @@ pub fn turn(
             Ok(())
         }
         Seat::Storm(x) => {
-            *x = storm(ground, me, *x, scene)?;
+            *x = storm(sizes, me, *x, scene)?;
             Ok(())
         }
         Seat::Idle => {

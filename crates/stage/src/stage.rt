@@ -12,7 +12,7 @@ ghost use Rattle.stage.specs.Stage.{AreAtStart, IsLinked, RunsTo, Happens, IsRun
 
 use crate::link::{Link, Waiting};
 use crate::scene::Scene;
-use crate::seat::{Ground, Seat, reset, turn};
+use crate::seat::{Seat, StormSizes, reset, turn};
 use call_grammar::calls_stay_in_reach;
 use doorbell_irq::Device;
 use ivs_base::{Frame, NoMemory};
@@ -24,12 +24,15 @@ use section_map::Region;
 use std::alloc::Global;
 use std::collections::VecDeque;
 
-/// The sizes of the world, its scene, and the seat of each peer.
+/// A scene, and who acts on it.
 #[derive(Drop)]
 pub struct Stage {
     alloc: Global,
-    pub ground: Ground,
+    /// The sizes that a storm draws from.
+    pub sizes: StormSizes,
+    /// The words, the devices and the lines.
     pub scene: Scene,
+    /// The seat of each peer, from peer 0.
     pub seats: Vec<Seat>,
 }
 
@@ -90,7 +93,7 @@ impl Stage {
         let region = Region::new(alloc, &scenario.geometry)?;
         Ok(Stage {
             alloc,
-            ground: Ground {
+            sizes: StormSizes {
                 geometry: scenario.geometry,
                 queue: scenario.queue,
             },
@@ -132,7 +135,7 @@ impl Stage {
     /// Tells a hostile peer to write at random from now on.
     fn storm(&mut self, peer: u32, seed: u64)
         requires { peer < length self.old.seats.items }
-        ensures { (world : World) (gone : List Line) (events : List Event) → IsThere world (Stormed peer seed) → is_link world peer ≡ false → RunsTo world gone events self.old → RunsTo world gone (events ++ Stormed peer seed ∷ []) self.new }
+        ensures { (world : World) (drained : List Line) (events : List Event) → IsThere world (Stormed peer seed) → is_link world peer ≡ false → RunsTo world drained events self.old → RunsTo world drained (events ++ Stormed peer seed ∷ []) self.new }
     {
         self.seats[peer as usize] = Seat::Storm(seed);
     }
@@ -144,14 +147,14 @@ impl Stage {
     {
         calls_stay_in_reach();
         let seat = &mut self.seats[peer as usize];
-        turn(self.alloc, &self.ground, peer, seat, &mut self.scene)?;
+        turn(self.alloc, &self.sizes, peer, seat, &mut self.scene)?;
         Ok(())
     }
 
     /// So many turns of a peer.
     fn turns(&mut self, peer: u32, steps: u32) -> Result<(), NoMemory>
         requires { IsRunning self.old peer }
-        ensures { OnOk result ((world : World) (gone : List Line) (events : List Event) → IsThere world (Turned peer) → RunsTo world gone events self.old → RunsTo world gone (events ++ replicate steps (Turned peer)) self.new) }
+        ensures { OnOk result ((world : World) (drained : List Line) (events : List Event) → IsThere world (Turned peer) → RunsTo world drained events self.old → RunsTo world drained (events ++ replicate steps (Turned peer)) self.new) }
     {
         for _k in 0..steps {
             self.turn(peer)?;
@@ -171,7 +174,7 @@ impl Stage {
 
     /// What one act asks for.
     pub fn act(&mut self, act: &Act) -> Result<(), NoMemory>
-        requires { (world : World) × (gone : List Line) × (events : List Event) × RunsTo world gone events self.old × IsAct world act.now × ((p : ℕ) → (moment_of world events).losses p < 2 ^ 64 - 1) }
+        requires { (world : World) × (drained : List Line) × (events : List Event) × RunsTo world drained events self.old × IsAct world act.now × ((p : ℕ) → (moment_of world events).losses p < 2 ^ 64 - 1) }
         ensures { OnOk result (Plays act.now self.old self.new) }
     {
         match act {
@@ -238,22 +241,22 @@ impl Stage {
         self.scene.lines.reserve(more)
     }
 
-    /// The lines that were told and not taken away, in their order.
+    /// The lines that were told and not drained, in their order.
     pub fn lines(&self) -> &[Line]
         ensures { result.now ≡ self.now.scene.lines }
     {
         self.scene.lines.items()
     }
 
-    /// Takes away the lines that were told.
-    pub fn forget(&mut self)
-        ensures on { (world : World) (gone : List Line) (events : List Event) → RunsTo world gone events self.old → RunsTo world (gone ++ self.old.scene.lines) events self.new }
+    /// Drains the lines that were told.
+    pub fn drain(&mut self)
+        ensures on { (world : World) (drained : List Line) (events : List Event) → RunsTo world drained events self.old → RunsTo world (drained ++ self.old.scene.lines) events self.new }
         ensures lines { self.new.scene.lines ≡ [] }
     {
         self.scene.lines.clear();
     }
 
-    /// The lines that were told and not taken away.
+    /// The lines that were told and not drained.
     pub fn into_lines(self) -> Lines
         ensures { result ≡ self.scene.lines }
     {

@@ -8,7 +8,7 @@ use Rattle.call_grammar.specs.Ticks.{Who}
 use Rattle.call_grammar.specs.Words.{with_entry}
 use Rattle.call_grammar.specs.Offers.{descriptor_of, entry_of}
 use Rattle.call_grammar.specs.Places as laws
-use Rattle.frame_slots.specs.declared.slots.Place as slots
+use Rattle.frame_slots.specs.declared.slots.Slot as slots
 use Rattle.tx_engine.specs.declared.place.Place.{Place}
 use Rattle.tx_engine.specs.declared.place.Place.TheVariants.{AtUsedId, WritingEntry}
 use Rattle.tx_engine.specs.Sender.{Sender, IsSender, entry_word_of}
@@ -56,7 +56,7 @@ id_access tx who end place more is made (freed, same, found, counts) =
     ∙ (ap (λ t. Read (t + word_place who.sizes (Id (freed % size_of who.sizes)))) (sym made.theirs) ∙ sym (ap (laws.access_at who) same)))
 
 -- the word of the next entry
-pub entry_word_is : (tx : Sender) (who : Who) (end : End) (slot : slots.Place) → IsSender tx → IsMadeFor tx who → tx.accepted ≡ length end.accepted % 65536 → HasCopy tx who end →
+pub entry_word_is : (tx : Sender) (who : Who) (end : End) (slot : slots.Slot) → IsSender tx → IsMadeFor tx who → tx.accepted ≡ length end.accepted % 65536 → HasCopy tx who end →
     slot.descriptor ≡ descriptor_of who (length end.accepted) →
     entry_word_of tx slot.descriptor ≡ with_entry (entry_of who (length end.accepted)) (end.written (who.own + word_place who.sizes (Entry (entry_of who (length end.accepted))))) (descriptor_of who (length end.accepted))
 entry_word_is tx who end slot is made accepted copy descriptor =
@@ -67,11 +67,11 @@ entry_word_is tx who end slot is made accepted copy descriptor =
     ∙ ap (with_entry (entry_of who number) (end.written (who.own + word_place who.sizes (Entry (entry_of who number))))) descriptor)
 
 -- the write of the entry
-pub entry_access : (tx : Sender) (who : Who) (end : End) (place : laws.Place) (slot : slots.Place) → IsSender tx → IsMadeFor tx who → IsAt (WritingEntry slot) tx who end place →
+pub entry_access : (tx : Sender) (who : Who) (end : End) (place : laws.Place) (slot : slots.Slot) → IsSender tx → IsMadeFor tx who → IsAt (WritingEntry slot) tx who end place →
     Write (tx.own + word_place tx.sizes (Entry (tx.accepted % size_of tx.sizes))) (entry_word_of tx slot.descriptor) ≡ laws.access_at who place
 entry_access tx who end place slot is made (same, (counts, slot_is)) =
     let number = length end.accepted in
-    let value = entry_word_is tx who end slot is made counts.accepted counts.copy (ap (λ (s : slots.Place). s.descriptor) slot_is) in
+    let value = entry_word_is tx who end slot is made counts.accepted counts.copy (ap (λ (s : slots.Slot). s.descriptor) slot_is) in
     let entry = entry_is tx who number is made counts.accepted in
     let at : tx.own + word_place tx.sizes (Entry (tx.accepted % size_of tx.sizes)) ≡ who.own + word_place who.sizes (Entry (entry_of who number)) =
     ap (λ k. tx.own + word_place tx.sizes (Entry k)) entry ∙ (ap (λ q. tx.own + word_place q (Entry (entry_of who number))) (sym made.sizes)

@@ -12,7 +12,7 @@ use Rattle.call_grammar.specs.Offers.{descriptor_of, entry_of}
 use Rattle.call_grammar.specs.Calls.{job_of}
 use Rattle.call_grammar.specs.Places as laws
 use Rattle.call_grammar.proofs.OfferLists.{yes, no}
-use Rattle.frame_slots.specs.declared.slots.Place as slots
+use Rattle.frame_slots.specs.declared.slots.Slot as slots
 use Rattle.tx_engine.specs.declared.place.Place.TheVariants.{WritingEntry, WritingIndex}
 use Rattle.tx_engine.specs.Sender.{Sender, IsSender, entry_word_of}
 use Rattle.tx_engine.specs.Stands.{IsAt, HasCopy, Takes}
@@ -39,7 +39,7 @@ copied tx who end k value copy sized whole within j below =
     ]
 
 -- the sender keeps the word in its copy
-pub entry_taken : (tx old : Sender) (slot : slots.Place) (value at word : ℕ) (notes : List Note) → tx ≡ old → IsSender tx → tx.place ≡ WritingEntry slot → at ≡ old.accepted % size_of old.sizes →
+pub entry_taken : (tx old : Sender) (slot : slots.Slot) (value at word : ℕ) (notes : List Note) → tx ≡ old → IsSender tx → tx.place ≡ WritingEntry slot → at ≡ old.accepted % size_of old.sizes →
     word ≡ entry_word_of old slot.descriptor → notes ≡ [] → Takes old value notes (record tx { entries = slice_set tx.entries (at / 2) word; place = WritingIndex })
 entry_taken tx old slot value at word notes tx_is is here at_is word_is notes_are =
     let new : Sender = record tx { entries = slice_set tx.entries (at / 2) word; place = WritingIndex } in
@@ -51,7 +51,7 @@ entry_taken tx old slot value at word notes tx_is is here at_is word_is notes_ar
     let v = with_entry k (end.written here) (descriptor_of who number) in
     let k_is : at ≡ k = at_is ∙ (ap (λ (s : Sender). s.accepted % size_of s.sizes) (sym tx_is) ∙ entry_is tx who number is made counts.accepted) in
     let v_is : word ≡ v = word_is ∙ (ap (λ (s : Sender). entry_word_of s slot.descriptor) (sym tx_is)
-    ∙ entry_word_is tx who end slot is made counts.accepted counts.copy (ap (λ (s : slots.Place). s.descriptor) slot_is)) in
+    ∙ entry_word_is tx who end slot is made counts.accepted counts.copy (ap (λ (s : slots.Slot). s.descriptor) slot_is)) in
     let entries_are : slice_set tx.entries (at / 2) word ≡ slice_set tx.entries (k / 2) v = ap (λ n. slice_set tx.entries (n / 2) word) k_is ∙ ap (slice_set tx.entries (k / 2)) v_is in
     let size : size_of who.sizes ≡ size_of tx.sizes = ap size_of made.sizes in
     let whole = is.bounds.size_whole in

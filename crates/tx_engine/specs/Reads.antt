@@ -10,5 +10,6 @@ use Rattle.tx_engine.specs.declared.place.Place.TheVariants.{Closed, AtUsedId, F
 -- none, at the first word of the frame in the next slot; and where no slot is left, at the end
 pub record GoesOn (old : Turn) (length ids : ℕ) (place : Place) (new : Turn) : Type 0 where
   pub reads : 0 < ids → (place ≡ AtUsedId (ids - 1)) × (new ≡ old)
-  pub fills : ids ≡ 0 → old.in_flight < limit_of old.sizes → (place ≡ Filling (slot_at old.sizes old.next) 0 (words_for length - 1)) × (new ≡ with_placed old)
+  pub fills : ids ≡ 0 → old.in_flight < limit_of old.sizes →
+      (place ≡ Filling (slot_at old.sizes old.next) 0 (words_for length - 1)) × (new ≡ with_placed old)
   pub ends : ids ≡ 0 → old.in_flight ≡ limit_of old.sizes → (place ≡ Closed) × (new ≡ old)

@@ -3,7 +3,7 @@ use Rattle.std.specs.Prelude.{◌≡◌, ℕ, ◌+◌, ◌*◌, ◌/◌, ◌%◌
 use Rattle.split_ring.specs.declared.steps.Access.{Access}
 use Rattle.split_ring.specs.declared.steps.Access.TheVariants as access
 use Rattle.split_ring.specs.Layout.{Sizes, IsQueue, HasBounds, size_of, limit_of}
-use Rattle.frame_slots.specs.declared.slots.Place as slots
+use Rattle.frame_slots.specs.declared.slots.Slot as slots
 use Rattle.frame_slots.specs.Turns.{slot_at}
 use Rattle.call_grammar.specs.Words.{words_for, with_entry}
 use Rattle.tx_engine.specs.declared.place.Place.{Place}
@@ -34,13 +34,11 @@ abbrev pub IsFrame : Sizes → List ℕ → Type 0
 IsFrame sizes frame = (14 ≤ length frame) × (length frame ≤ sizes.mtu + 18)
 
 -- the frame in hand has this slot
-abbrev pub HasSlot : Sender → slots.Place → Type 0
+abbrev pub HasSlot : Sender → slots.Slot → Type 0
 HasSlot tx slot = (0 < tx.in_flight) × (slot.descriptor < limit_of tx.sizes) × (slot ≡ slot_at tx.sizes slot.descriptor) × IsFrame tx.sizes tx.frame
 
 -- what holds at a place of the offer
 abbrev pub IsPlace : Sender → Place → Type 0
-IsPlace tx Closed = Unit {0}
-IsPlace tx Refusing = Unit {0}
 IsPlace tx AtUsedIndex = IsFrame tx.sizes tx.frame
 IsPlace tx (AtUsedId more) = (more < tx.in_flight) × IsFrame tx.sizes tx.frame
 IsPlace tx (Filling slot at more) = HasSlot tx slot × (at + more + 1 ≡ words_for (length tx.frame))
@@ -50,7 +48,7 @@ IsPlace tx (WritingLength slot) = HasSlot tx slot
 IsPlace tx (WritingFlags slot) = HasSlot tx slot
 IsPlace tx (WritingEntry slot) = HasSlot tx slot
 IsPlace tx WritingIndex = 0 < tx.in_flight
-IsPlace tx Ringing = Unit {0}
+IsPlace tx _ = Unit {0}
 
 -- both sections end at or before word number 4,194,304, and the entry words are half as many as the entries
 pub record IsSender (tx : Sender) : Type 0 where

@@ -2,7 +2,7 @@
 use Rattle.std.specs.Prelude.{◌≡◌, ℕ, ◌+◌, ◌/◌, ◌%◌, ◌<◌, Bool, true, false, List, [], length, slice_index}
 use Rattle.split_ring.specs.Layout.{size_of, limit_of, word_place, Entry}
 use Rattle.link_handshake.specs.declared.Phase.{Phase}
-use Rattle.link_handshake.specs.declared.Phase.TheVariants.{Reset, Init, Ready, Run}
+use Rattle.link_handshake.specs.declared.Phase.TheVariants.{Ready, Run}
 use Rattle.split_ring.specs.declared.steps.Note.{Note}
 use Rattle.call_grammar.specs.Steps.{marks_of}
 use Rattle.call_grammar.specs.Ends.{End, end_after}
@@ -10,7 +10,7 @@ use Rattle.call_grammar.specs.Ticks.{Who}
 use Rattle.call_grammar.specs.Offers.{descriptor_of}
 use Rattle.call_grammar.specs.Calls.{job_of}
 use Rattle.call_grammar.specs.Places as laws
-use Rattle.frame_slots.specs.declared.slots.Place as slots
+use Rattle.frame_slots.specs.declared.slots.Slot as slots
 use Rattle.frame_slots.specs.Turns.{slot_at}
 use Rattle.tx_engine.specs.declared.place.Place.{Place}
 use Rattle.tx_engine.specs.declared.place.Place.TheVariants.{Closed, Refusing, AtUsedIndex, AtUsedId, Filling, WritingLow, WritingHigh, WritingLength, WritingFlags, WritingEntry, WritingIndex, Ringing}
@@ -26,10 +26,9 @@ pub record IsMadeFor (tx : Sender) (who : Who) : Type 0 where
 
 -- a session is open in these phases
 abbrev pub has_session : Phase → Bool
-has_session Reset = false
-has_session Init = false
 has_session Ready = true
 has_session Run = true
+has_session _ = false
 
 -- the own copy is what the end wrote last to the words of its entries
 abbrev pub HasCopy : Sender → Who → End → Type 0
@@ -50,22 +49,26 @@ pub record CountsPlaced (tx : Sender) (who : Who) (end : End) : Type 0 where
   pub copy : HasCopy tx who end
 
 -- that slot
-abbrev pub HasPlaced : Sender → Who → End → slots.Place → Type 0
+abbrev pub HasPlaced : Sender → Who → End → slots.Slot → Type 0
 HasPlaced tx who end slot = CountsPlaced tx who end × (slot ≡ slot_at who.sizes (descriptor_of who (length end.accepted)))
 
--- its place in the open offer is this one of the end. While it reads ids, the end has freed all that were found, and the sender those that it read
+-- its place in the open offer is this one of the end. While it reads ids, the end has freed all that were found, and the sender those
+-- that it read
 abbrev pub IsAt : Place → Sender → Who → End → laws.Place → Type 0
 IsAt Closed tx who end place = (place ≡ laws.Closed) × (has_session end.handshake.phase ≡ true → Counts tx who end end.freed)
 IsAt Refusing tx who end place = place ≡ laws.Refusing
 IsAt AtUsedIndex tx who end place = (place ≡ laws.AtUsedIndex (job_of who end tx.frame) end.freed) × Counts tx who end end.freed
-IsAt (AtUsedId more) tx who end place = (freed : ℕ) × (place ≡ laws.AtUsedId (job_of who end tx.frame) freed more) × (end.freed ≡ freed + more + 1) × Counts tx who end freed
+IsAt (AtUsedId more) tx who end place =
+    (freed : ℕ) × (place ≡ laws.AtUsedId (job_of who end tx.frame) freed more) × (end.freed ≡ freed + more + 1) × Counts tx who end freed
 IsAt (Filling slot at more) tx who end place = (place ≡ laws.Filling (job_of who end tx.frame) at more) × HasPlaced tx who end slot
 IsAt (WritingLow slot) tx who end place = (place ≡ laws.WritingLow (job_of who end tx.frame)) × HasPlaced tx who end slot
 IsAt (WritingHigh slot) tx who end place = (place ≡ laws.WritingHigh (job_of who end tx.frame)) × HasPlaced tx who end slot
 IsAt (WritingLength slot) tx who end place = (place ≡ laws.WritingLength (job_of who end tx.frame)) × HasPlaced tx who end slot
 IsAt (WritingFlags slot) tx who end place = (place ≡ laws.WritingFlags (job_of who end tx.frame)) × HasPlaced tx who end slot
 IsAt (WritingEntry slot) tx who end place = (place ≡ laws.WritingEntry (job_of who end tx.frame)) × HasPlaced tx who end slot
-IsAt WritingIndex tx who end place = (beside : ℕ) × (place ≡ laws.WritingIndex (record { frame = tx.frame; number = length end.accepted; beside = beside })) × CountsPlaced tx who end
+IsAt WritingIndex tx who end place =
+    (beside : ℕ) × (place ≡ laws.WritingIndex (record { frame = tx.frame; number = length end.accepted; beside = beside })) ×
+    CountsPlaced tx who end
 IsAt Ringing tx who end place = (place ≡ laws.RingingOffer) × Counts tx who end end.freed
 
 -- the sender stands for this end of this peer, at this place of its open call
@@ -75,8 +78,10 @@ pub record StandsAt (tx : Sender) (who : Who) (end : End) (place : laws.Place) :
 
 -- whatever end it stands for, the sender takes the step of its place that meets this value, with these notes, and is the new one then
 pub record Takes (old : Sender) (value : ℕ) (notes : List Note) (new : Sender) : Type 0 where
-  pub marks : (who : Who) (end : End) (place : laws.Place) → StandsAt old who end place → marks_of old.frame notes ≡ laws.marks_at who place value
-  pub stands : (who : Who) (end : End) (place : laws.Place) → StandsAt old who end place → StandsAt new who (end_after end (laws.step_at who place value)) (laws.next_place who place value)
+  pub marks : (who : Who) (end : End) (place : laws.Place) → StandsAt old who end place →
+      marks_of old.frame notes ≡ laws.marks_at who place value
+  pub stands : (who : Who) (end : End) (place : laws.Place) → StandsAt old who end place →
+      StandsAt new who (end_after end (laws.step_at who place value)) (laws.next_place who place value)
   pub kept : new ≡ record old { accepted = new.accepted; next = new.next; in_flight = new.in_flight; entries = new.entries; place = new.place }
 
 -- a fresh session: nothing is accepted or freed, and the words of the entries were written as 0 last
@@ -85,13 +90,15 @@ pub record IsFreshSession (who : Who) (end : End) : Type 0 where
   pub freed : end.freed ≡ 0
   pub blank : (k : ℕ) → k < size_of who.sizes → end.written (who.own + word_place who.sizes (Entry k)) ≡ 0
 
--- a session is open in both ends, and what a closed sender stands for is the same in them
-pub record SameSession (who : Who) (end other : End) : Type 0 where
+-- a session was open in the end before, and what a closed sender stands for is the same in the later one
+pub record SameSession (who : Who) (end later : End) : Type 0 where
   pub open_in : has_session end.handshake.phase ≡ true
-  pub accepted : other.accepted ≡ end.accepted
-  pub freed : other.freed ≡ end.freed
-  pub copy : (k : ℕ) → k < size_of who.sizes → other.written (who.own + word_place who.sizes (Entry k)) ≡ end.written (who.own + word_place who.sizes (Entry k))
+  pub accepted : later.accepted ≡ end.accepted
+  pub freed : later.freed ≡ end.freed
+  pub copy : (k : ℕ) → k < size_of who.sizes →
+      later.written (who.own + word_place who.sizes (Entry k)) ≡ end.written (who.own + word_place who.sizes (Entry k))
 
--- a closed sender that stands for an end stands for another one too, if that has no session or is in the same one
+-- a closed sender that stands for an end stands for a later one too, if that has no session or is in the same one
 abbrev pub ClosedStays : Type 0
-ClosedStays = (tx : Sender) (who : Who) (end other : End) → StandsAt tx who end laws.Closed → (has_session other.handshake.phase ≡ true → SameSession who end other) → StandsAt tx who other laws.Closed
+ClosedStays = (tx : Sender) (who : Who) (end later : End) → StandsAt tx who end laws.Closed →
+    (has_session later.handshake.phase ≡ true → SameSession who end later) → StandsAt tx who later laws.Closed

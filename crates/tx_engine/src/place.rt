@@ -2,7 +2,7 @@
 ghost use Rattle.std.specs.Prelude.{◌≡◌, ◌+◌, ◌-◌, ◌<◌, ◌≤◌};
 ghost use Rattle.tx_engine.specs.Reads.{GoesOn};
 
-use frame_slots::{Place as Slot, Slots};
+use frame_slots::{Slot, Slots};
 
 /// The place in the open offer: what its next step is. A slot is that of the frame in hand.
 ///
@@ -17,9 +17,19 @@ pub enum Place {
     /// Before the read of the used index.
     AtUsedIndex,
     /// Before the read of the oldest frame's id, with so many more ids to come.
-    AtUsedId { more: u32 },
-    /// Before the write of word `at` of the frame, with so many more to come.
-    Filling { slot: Slot, at: u32, more: u32 },
+    AtUsedId {
+        /// How many ids come after this one.
+        more: u32,
+    },
+    /// Before the write of a word of the frame.
+    Filling {
+        /// The slot of the frame.
+        slot: Slot,
+        /// The number of the word in the frame.
+        at: u32,
+        /// How many words come after this one.
+        more: u32,
+    },
     /// Before the write of the low word of the descriptor's address.
     WritingLow(Slot),
     /// Before the write of its high word.

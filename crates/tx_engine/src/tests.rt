@@ -1,3 +1,4 @@
+//! Offers, access by access.
 ghost use Rattle.std.specs.Prelude.{◌≡◌, IfOk, length};
 ghost use Rattle.tx_engine.specs.Sender.{IsFrame};
 

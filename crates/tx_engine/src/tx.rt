@@ -8,13 +8,13 @@ ghost use Rattle.call_grammar.specs.Places as laws;
 ghost use Rattle.call_grammar.specs.Reach.{HasSections, InReach};
 ghost use Rattle.call_grammar.specs.Words.{words_for, frame_word};
 ghost use Rattle.link_handshake.specs.declared.Phase.TheVariants.{Run};
-ghost use Rattle.tx_engine.specs.Sender.{IsSender, fresh_sender, is_open, IsFrame, IsInReach, entry_word_of};
+ghost use Rattle.tx_engine.specs.Sender.{IsSender, fresh_sender, is_open, IsFrame, IsPlace, IsInReach, entry_word_of};
 ghost use Rattle.tx_engine.specs.Stands.{StandsAt, Takes, IsMadeFor, IsFreshSession, ClosedStays};
 
 use crate::place::{Place, filling, offer_after_ids};
-use frame_slots::Slots;
+use frame_slots::{Slot, Slots};
 use ivs_base::{NoMemory, plus, word_of};
-use split_ring::steps::{Access, Note, Notes};
+use split_ring::steps::{Access, Note, Notes, leaving, left, noted, refusal};
 use split_ring::{Queue, Refused};
 use std::alloc::Global;
 use std::marker::Model;
@@ -51,32 +51,28 @@ impl Model for Tx {
 }
 
 impl Tx {
-    /// The sender of a link's end whose section begins at the word `own`, and its partner's at `other`. It rings `target` by `vector`.
+    /// The sender of a link's end whose section begins at the word `own`, and its partner's at `theirs`. It rings `target` by `vector`.
     ///
     /// Words are numbered from the base of the region. NoMemory comes only where memory ran out.
     pub fn new(
         alloc: Global,
         queue: &Queue,
         own: u32,
-        other: u32,
+        theirs: u32,
         target: u32,
         vector: u32,
     ) -> Result<Tx, NoMemory>
         requires own { 4 * own + queue.now.out ≤ 2 ^ 24 }
-        requires other { 4 * other + queue.now.out ≤ 2 ^ 24 }
-        ensures value { IfOk result (λ tx. tx ≡ fresh_sender queue.now own other target vector) }
+        requires theirs { 4 * theirs + queue.now.out ≤ 2 ^ 24 }
+        ensures value { IfOk result (λ tx. tx ≡ fresh_sender queue.now own theirs target vector) }
         ensures stands { IfOk result (λ tx. (who : Who) (end : End) → IsMadeFor tx who → IsFreshSession who end → StandsAt tx who end laws.Closed) }
     {
-        let Ok(entries) = Vec::from_elem(alloc, 0, (queue.size() / 2) as usize) else {
-            return Err(NoMemory);
-        };
-        let Ok(buffer) = Vec::from_elem(alloc, 0, (queue.mtu() + 18) as usize) else {
-            return Err(NoMemory);
-        };
+        let entries = Vec::from_elem(alloc, 0, (queue.size() / 2) as usize)?;
+        let buffer = Vec::from_elem(alloc, 0, (queue.mtu() + 18) as usize)?;
         Ok(Tx {
             queue: *queue,
             own,
-            theirs: other,
+            theirs,
             target,
             vector,
             accepted: 0,
@@ -151,7 +147,7 @@ impl Tx {
                 target: self.target,
                 vector: self.vector,
             },
-            Place::Refusing => Access::State(0),
+            Place::Refusing => leaving(),
             Place::Closed => unreachable!(),
         }
     }
@@ -161,32 +157,20 @@ impl Tx {
         requires { is_open self.old.place ≡ true }
         ensures { Takes self.old value result.items self.new }
     {
-        let mut notes = Notes::new();
         match self.place {
-            Place::AtUsedIndex => return self.took_index(value),
-            Place::AtUsedId { more } => return self.took_id(more, value),
-            Place::Filling { slot, at, more } => self.place = filling(slot, at + 1, more),
-            Place::WritingLow(slot) => self.place = Place::WritingHigh(slot),
-            Place::WritingHigh(slot) => self.place = Place::WritingLength(slot),
-            Place::WritingLength(slot) => self.place = Place::WritingFlags(slot),
-            Place::WritingFlags(slot) => self.place = Place::WritingEntry(slot),
-            Place::WritingEntry(slot) => {
-                let at = (self.entry() / 2) as usize;
-                self.entries[at] = self.entry_word(slot.descriptor);
-                self.place = Place::WritingIndex;
-            }
-            Place::WritingIndex => {
-                self.accepted = plus(self.accepted, 1);
-                self.place = Place::Ringing;
-                notes.push(Note::Accept);
-            }
-            Place::Ringing | Place::Refusing => {
-                self.place = Place::Closed;
-                notes.push(Note::Over);
-            }
+            Place::AtUsedIndex => self.took_index(value),
+            Place::AtUsedId { more } => self.took_id(more, value),
+            Place::Filling { slot, at, more } => self.go_on(filling(slot, at + 1, more)),
+            Place::WritingLow(slot) => self.go_on(Place::WritingHigh(slot)),
+            Place::WritingHigh(slot) => self.go_on(Place::WritingLength(slot)),
+            Place::WritingLength(slot) => self.go_on(Place::WritingFlags(slot)),
+            Place::WritingFlags(slot) => self.go_on(Place::WritingEntry(slot)),
+            Place::WritingEntry(slot) => self.wrote_entry(slot),
+            Place::WritingIndex => self.wrote_index(),
+            Place::Ringing => self.end(),
+            Place::Refusing => self.end(),
             Place::Closed => unreachable!(),
         }
-        notes
     }
 
     /// Forgets the offer, the frames and the entries: a session begins.
@@ -255,6 +239,46 @@ impl Tx {
         }
     }
 
+    /// Goes on at this place, with nothing to note.
+    fn go_on(&mut self, place: Place) -> Notes
+        requires { IsPlace self.old place }
+        ensures value { self.new ≡ record self.old { place = place } }
+        ensures notes { result.items ≡ [] }
+    {
+        self.place = place;
+        Notes::new()
+    }
+
+    /// Takes the write of the entry: its word goes into the own copy.
+    fn wrote_entry(&mut self, slot: Slot) -> Notes
+        requires { self.old.place ≡ Place.WritingEntry slot }
+        ensures { (value : ℕ) → Takes self.old value result.items self.new }
+    {
+        let at = (self.entry() / 2) as usize;
+        self.entries[at] = self.entry_word(slot.descriptor);
+        self.place = Place::WritingIndex;
+        Notes::new()
+    }
+
+    /// Takes the write of the index, with which the frame is accepted.
+    fn wrote_index(&mut self) -> Notes
+        requires { self.old.place ≡ Place.WritingIndex }
+        ensures { (value : ℕ) → Takes self.old value result.items self.new }
+    {
+        self.accepted = plus(self.accepted, 1);
+        self.place = Place::Ringing;
+        noted(Note::Accept)
+    }
+
+    /// Ends the offer.
+    fn end(&mut self) -> Notes
+        ensures value { self.new ≡ record self.old { place = Place.Closed } }
+        ensures notes { result.items ≡ Note.Over ∷ [] }
+    {
+        self.place = Place::Closed;
+        left()
+    }
+
     /// Takes the used index.
     fn took_index(&mut self, value: u32) -> Notes
         requires { self.old.place ≡ Place.AtUsedIndex }
@@ -265,8 +289,7 @@ impl Tx {
         let in_flight = self.slots.in_flight();
         match self.queue.check_used(freed, index, in_flight) {
             Ok(count) => {
-                let mut notes = Notes::new();
-                notes.push(Note::Reclaim(count));
+                let mut notes = noted(Note::Reclaim(count));
                 self.place = offer_after_ids(&mut self.slots, self.length, count);
                 if let Place::Closed = self.place {
                     notes.push(Note::Full);
@@ -301,10 +324,8 @@ impl Tx {
         ensures note { result.items ≡ Note.Refuse refused ∷ [] }
         ensures value { self.new ≡ record self.old { place = Place.Refusing } }
     {
-        let mut notes = Notes::new();
-        notes.push(Note::Refuse(refused));
         self.place = Place::Refusing;
-        notes
+        refusal(refused)
     }
 }
 

@@ -1,6 +1,6 @@
-use Rattle.std.proofs.Common.{[], ◌∷◌, sym, ◌∙◌, subst, rules, arith, true, false, Ok, length-set}
+use Rattle.std.proofs.Common.{◌≡◌, Err, [], ◌∷◌, sym, ◌∙◌, subst, rules, arith, true, false, Ok, length-set}
 use Rattle.std.proofs.lemmas.List.{get_or-replicate, length-replicate}
-use Rattle.pci_space.specs.Walk.{Comes, nothing_listed}
+use Rattle.pci_space.specs.Walk.{pointer_at, Comes, nothing_listed}
 use Rattle.pci_space.specs.Walk.Comes.{ends, is_low, loops, fails, goes_on}
 use Rattle.pci_space.proofs.Walks.{falls, marks_on}
 use Rattle.pci_space.proofs.capabilities.follow_list.Goals as goal
@@ -20,10 +20,12 @@ returns-then-met-p c = let b = c.loop-p.invariant.after in
     let met = sym (b.1 c.loop-p.p (omega arith)) ∙ c.if-met-p.true in
     b.2 _ (loops b.0 c.loop-p.p c.loop-p.so_far (search rules) met)
 
-pub returns-in-Err : goal.returns-in-Err
-returns-in-Err c = let b = c.loop-p.invariant.after in
+pub returns-in_err-so_far : goal.returns-in_err-so_far
+returns-in_err-so_far c = let b = c.loop-p.invariant.after in
     let unseen = sym (b.1 c.loop-p.p (omega arith)) ∙ c.if-met-p.false in
-    b.2 _ (fails b.0 c.loop-p.p c.loop-p.so_far c.in-Err.fault (search rules) unseen (sym c.with_capability.ensures ∙ c.in-Err.is))
+    let gives : Err c.in_err-so_far.field-0.0 ≡ c.from_residual.result = search rules in
+    subst (λ last. Comes c.args.bytes.now [] (pointer_at c.args.bytes.now 0x34) nothing_listed last) gives
+    (b.2 _ (fails b.0 c.loop-p.p c.loop-p.so_far c.in_err-so_far.field-0.0 (search rules) unseen (sym c.with_capability.ensures ∙ c.in_err-so_far.was)))
 
 pub loop-p-smaller : goal.loop-p-smaller
 loop-p-smaller c = falls c.loop-p.met c.loop-p.p (search rules) c.if-met-p.false
@@ -37,8 +39,8 @@ loop-p-preserved c = let b = c.loop-p.invariant.after in
       after = (
         c.loop-p.p ∷ b.0,
         marks_on c.loop-p.met b.0 c.loop-p.p (search rules) b.1,
-        λ last h. b.2 last (goes_on b.0 c.loop-p.p c.loop-p.so_far c.in-Ok.next last (search rules) unseen (sym c.with_capability.ensures ∙ c.in-Ok.is)
-            (subst (λ p. Comes c.args.bytes.now (c.loop-p.p ∷ b.0) p c.in-Ok.next last) c.pointer-p-in-loop-p.ensures.is h)),
+        λ last h. b.2 last (goes_on b.0 c.loop-p.p c.loop-p.so_far c.in_ok-so_far.so_far last (search rules) unseen (sym c.with_capability.ensures ∙ c.in_ok-so_far.was)
+            (subst (λ p. Comes c.args.bytes.now (c.loop-p.p ∷ b.0) p c.in_ok-so_far.so_far last) c.pointer-p-in-loop-p.ensures.is h)),
       );
     }
 

@@ -1,5 +1,7 @@
 use Rattle.std.proofs.Common.{ap, sym, ◌∙◌}
 use Rattle.std.specs.Prelude.{reverse}
+use Rattle.doorbell_irq.specs.Events.{RegisterWritten, doorbell_register}
+use Rattle.doorbell_irq.specs.DeviceRules.{effect_of}
 use Rattle.plain_calls.specs.declared.steps.Access.{Access}
 use Rattle.plain_calls.specs.Seen.{access_seen}
 use Rattle.lawful_history.specs.Sides.{world_of}
@@ -18,5 +20,6 @@ pub returns-in-Ring : goal.returns-in-Ring
 returns-in-Ring c =
     let world = devices_of (world_of c.args.scenario.now) in
     let events = device_events (reverse c.args.lines.now) in
-    ap (λ e. e.deliveries.items) (c.register_write-effect-in-Ring.ensures.effect world events c.devices_after-devices-in-Ring.ensures.stands)
+    ap (λ e. e.deliveries.items) (c.register_write-effect-in-Ring.ensures.effect world events c.devices_after-devices-in-Ring.ensures.stands
+    ∙ ap (λ word. effect_of world events (RegisterWritten c.args.me doorbell_register word)) c.doorbell_word-word.ensures)
     ∙ ap (λ (a : Access). brought world events (told_by_access c.args.me (access_seen a))) (sym c.in-Ring.is)

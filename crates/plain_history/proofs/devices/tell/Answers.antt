@@ -1,4 +1,5 @@
-use Rattle.std.proofs.Common.{rules, subst, sym}
+use Rattle.std.proofs.Common.{◌∷◌, rules, subst, sym}
+use Rattle.doorbell_irq.specs.Events.{RegisterWritten, doorbell_register}
 use Rattle.doorbell_irq.specs.Stands.{Stands}
 use Rattle.doorbell_irq.proofs.EntryWrites.{on_ok}
 use Rattle.lawful_history.specs.declared.line.Line.{Line}
@@ -10,7 +11,9 @@ returns-in-State-clause-stands c = λ world events stands. subst (λ (l : Line).
 
 pub returns-in-Doorbell-clause-stands : goal.returns-in-Doorbell-clause-stands
 returns-in-Doorbell-clause-stands c = λ world events stands.
-    subst (λ (l : Line). Stands world (told_before (told_by l) events) c.register_write-in-Doorbell.new.self) (sym c.in-Doorbell.is) (c.register_write-in-Doorbell.ensures.stands world events stands)
+    subst (λ (l : Line). Stands world (told_before (told_by l) events) c.register_write-in-Doorbell.new.self) (sym c.in-Doorbell.is)
+    (subst (λ word. Stands world (RegisterWritten c.in-Doorbell.peer doorbell_register word ∷ events) c.register_write-in-Doorbell.new.self)
+    c.doorbell_word-word.ensures (c.register_write-in-Doorbell.ensures.stands world events stands))
 
 pub returns-in-Reset-clause-stands : goal.returns-in-Reset-clause-stands
 returns-in-Reset-clause-stands c = λ world events stands. subst (λ (l : Line). Stands world (told_before (told_by l) events) c.reset.new.self) (sym c.in-Reset.is) (c.reset.ensures.stands world events stands)

@@ -6,7 +6,7 @@ use Rattle.link_endpoint.specs.Engine.{offered, delivered}
 use Rattle.link_endpoint.specs.Stands.{marks_between}
 use Rattle.lawful_history.specs.declared.line.Line.{Line}
 use Rattle.lawful_history.specs.Entries.{mark_line}
-use Rattle.stage.specs.Scene.{SceneStands}
+use Rattle.stage.specs.Scene.{SceneAfter}
 use Rattle.stage.proofs.Turning.{frame_at, one_note}
 use Rattle.stage.proofs.link.tell_notes.Goals as goal
 
@@ -15,16 +15,16 @@ tell_note-requires c = frame_at c.args.me (offered c.args.end.now) (delivered c.
 
 pub loop-note-preserved : goal.loop-note-preserved
 loop-note-preserved c = (
-  λ world gone past losses scene_stands.
+  λ world drained past losses after.
       let i = c.loop-note.note-index in
       let older = reverse (map (mark_line c.args.me) (marks_between (offered c.args.end.now) (delivered c.args.end.now) (take i c.args.notes.now))) ++ past in
-      subst (λ (ls : List Line). SceneStands world gone ls losses c.tell_note.new.scene)
+      subst (λ (ls : List Line). SceneAfter world drained ls losses c.tell_note.new.scene)
       (sym (one_note c.args.me (offered c.args.end.now) (delivered c.args.end.now) c.args.notes.now i _ past c.loop-note-test.true (search rules)))
-      (c.in_ok-tell_note.ensures.scene_stands world gone older losses (c.loop-note.invariant.0 world gone past losses scene_stands)),
+      (c.in_ok-tell_note.ensures.after world drained older losses (c.loop-note.invariant.0 world drained past losses after)),
   λ q seated. c.in_ok-tell_note.ensures.seated q (c.loop-note.invariant.1 q seated),
 )
 
-pub returns-clause-scene_stands : goal.returns-clause-scene_stands
-returns-clause-scene_stands c = λ world gone past losses scene_stands.
-    subst (λ (ns : List Note). SceneStands world gone (reverse (map (mark_line c.args.me) (marks_between (offered c.args.end.now) (delivered c.args.end.now) ns)) ++ past) losses c.loop-note.scene)
-    (take_all c.loop-note.note-index c.args.notes.now (omega arith)) (c.loop-note.invariant.0 world gone past losses scene_stands)
+pub returns-clause-after : goal.returns-clause-after
+returns-clause-after c = λ world drained past losses after.
+    subst (λ (ns : List Note). SceneAfter world drained (reverse (map (mark_line c.args.me) (marks_between (offered c.args.end.now) (delivered c.args.end.now) ns)) ++ past) losses c.loop-note.scene)
+    (take_all c.loop-note.note-index c.args.notes.now (omega arith)) (c.loop-note.invariant.0 world drained past losses after)

@@ -8,18 +8,18 @@ use Rattle.stage.proofs.Turning.{idle_turn, storm_turn}
 use Rattle.stage.proofs.seat.turn.Goals as goal
 
 pub returns-in_ok-take_turn-in-Honest-clause-turn : goal.returns-in_ok-take_turn-in-Honest-clause-turn
-returns-in_ok-take_turn-in-Honest-clause-turn c = λ world gone past losses peer ground scene_stands stands.
+returns-in_ok-take_turn-in-Honest-clause-turn c = λ world drained past losses peer sizes after stands.
     let at : LinkStands (who_of world c.args.me) peer c.in-Honest.link = subst (λ (s : Seat). SeatStands (who_of world c.args.me) peer s) c.in-Honest.is stands in
-    c.in_ok-take_turn-in-Honest.ensures.turn world gone past losses peer scene_stands at
+    c.in_ok-take_turn-in-Honest.ensures.turn world drained past losses peer after at
 
 pub returns-in_ok-x-in-Storm-clause-turn : goal.returns-in_ok-x-in-Storm-clause-turn
-returns-in_ok-x-in-Storm-clause-turn c = λ world gone past losses peer ground scene_stands stands.
+returns-in_ok-x-in-Storm-clause-turn c = λ world drained past losses peer sizes after stands.
     let at : SitsBy (Storms c.in-Storm.x) peer = subst (λ (s : Seat). SeatStands (who_of world c.args.me) peer s) c.in-Storm.is stands in
-    let done = c.in_ok-x-in-Storm.ensures.turn world gone past losses ground scene_stands in
-    storm_turn world gone past losses c.args.me c.in-Storm.x c.in_ok-x-in-Storm.field-0 peer c.storm.new.scene at done.0 done.1
+    let done = c.in_ok-x-in-Storm.ensures.turn world drained past losses sizes after in
+    storm_turn world drained past losses c.args.me c.in-Storm.x c.in_ok-x-in-Storm.field-0 peer c.storm.new.scene at done.0 done.1
 
 pub returns-in_ok-remark-in-Idle-clause-turn : goal.returns-in_ok-remark-in-Idle-clause-turn
-returns-in_ok-remark-in-Idle-clause-turn c = λ world gone past losses peer ground scene_stands stands.
+returns-in_ok-remark-in-Idle-clause-turn c = λ world drained past losses peer sizes after stands.
     let at : SitsBy Waits peer = subst (λ (s : Seat). SeatStands (who_of world c.args.me) peer s) c.in-Idle.is stands in
-    let done = idle_turn world gone past losses c.args.me peer c.remark.new.self at (c.in_ok-remark-in-Idle.ensures.scene_stands world gone past losses scene_stands) in
+    let done = idle_turn world drained past losses c.args.me peer c.remark.new.self at (c.in_ok-remark-in-Idle.ensures.after world drained past losses after) in
     (done.0, subst (λ (s : Seat). SeatStands (who_of world c.args.me) (turned world c.args.me peer past) s) (sym c.in-Idle.is) done.1)

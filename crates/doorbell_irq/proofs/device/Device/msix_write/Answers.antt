@@ -1,5 +1,5 @@
 use Rattle.std.proofs.Common.{◌<◌, refl, sym, subst}
-use Rattle.doorbell_irq.specs.Devices.{Devices, IsDevices}
+use Rattle.doorbell_irq.specs.DeviceView.{DeviceView, IsDeviceView}
 use Rattle.doorbell_irq.specs.Stands.{Stands}
 use Rattle.doorbell_irq.specs.Events.{MsixWritten}
 use Rattle.doorbell_irq.proofs.Devices.{peer_at, moved}
@@ -8,8 +8,8 @@ use Rattle.doorbell_irq.proofs.device.Device.msix_write.Goals as goal
 
 pub returns-clause-stands : goal.returns-clause-stands
 returns-clause-stands c w events stands =
-    let d : Devices = record { peers = c.self.inside.peers; wiring = c.self.inside.wiring; registers = c.self.inside.registers } in
-    let sound : IsDevices d = c.self.invariant in
+    let d : DeviceView = record { peers = c.self.inside.peers; wiring = c.self.inside.wiring; registers = c.self.inside.registers } in
+    let sound : IsDeviceView d = c.self.invariant in
     let was : Stands w events d = subst (Stands w events) (sym c.self.view_is) stands in
     let below : c.args.peer < d.peers = subst (λ v. c.args.peer < v.peers) (sym c.self.view_is) c.requires in
     moved w events (MsixWritten c.args.peer c.args.offset c.args.value) d sound was c.args.peer below

@@ -1,7 +1,7 @@
 use Rattle.std.proofs.Common.{◌≡◌, ℕ, List, ◌<◌, Some, refl, sym, subst, ◌∙◌, ap, ap₂}
 use Rattle.std.specs.Prelude.{Bool, true, false, ◌==◌, if◌then◌else◌, Option, None}
 use Rattle.std.specs.Bool.{then_some}
-use Rattle.doorbell_irq.specs.Devices.{Devices, IsDevices}
+use Rattle.doorbell_irq.specs.DeviceView.{DeviceView, IsDeviceView}
 use Rattle.doorbell_irq.specs.Stands.{Stands}
 use Rattle.doorbell_irq.specs.Events.{RegisterWritten}
 use Rattle.doorbell_irq.specs.DeviceRules.{register_vector}
@@ -18,8 +18,8 @@ then_some-if false x = refl
 
 pub returns-clause-effect : goal.returns-clause-effect
 returns-clause-effect c w events stands =
-    let d : Devices = record { peers = c.self.inside.peers; wiring = c.self.inside.wiring; registers = c.self.inside.registers } in
-    let sound : IsDevices d = c.self.invariant in
+    let d : DeviceView = record { peers = c.self.inside.peers; wiring = c.self.inside.wiring; registers = c.self.inside.registers } in
+    let sound : IsDeviceView d = c.self.invariant in
     let was : Stands w events d = subst (Stands w events) (sym c.self.view_is) stands in
     let below : c.args.peer < d.peers = subst (λ v. c.args.peer < v.peers) (sym c.self.view_is) c.requires in
     let is = peer_at w events d sound was c.args.peer c.index-self-peer.result below in
@@ -33,8 +33,8 @@ returns-clause-effect c w events stands =
 
 pub returns-clause-stands : goal.returns-clause-stands
 returns-clause-stands c w events stands =
-    let d : Devices = record { peers = c.self.inside.peers; wiring = c.self.inside.wiring; registers = c.self.inside.registers } in
-    let sound : IsDevices d = c.self.invariant in
+    let d : DeviceView = record { peers = c.self.inside.peers; wiring = c.self.inside.wiring; registers = c.self.inside.registers } in
+    let sound : IsDeviceView d = c.self.invariant in
     let was : Stands w events d = subst (Stands w events) (sym c.self.view_is) stands in
     let below : c.args.peer < d.peers = subst (λ v. c.args.peer < v.peers) (sym c.self.view_is) c.requires in
     let is = peer_at w events d sound was c.args.peer c.index-self-peer.result below in

@@ -18,6 +18,7 @@ invariant_of-self-then-eq c =
       sender = kept.sender;
       receiver = grind (arith, common_steps);
       mark = grind (arith, common_steps);
+      left = grind (arith, common_steps);
       end = kept.end;
       at = places.first_place who kept.end Poll;
       stands = grind (arith, common_steps);

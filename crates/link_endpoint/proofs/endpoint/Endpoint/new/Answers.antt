@@ -30,6 +30,7 @@ invariant_of-result c = record {
   sender = grind (arith, common_steps);
   receiver = grind (arith, common_steps);
   mark = grind (arith, common_steps);
+  left = grind (arith, common_steps);
   end = fresh;
   at = places.Closed;
   stands = subst (λ e. StandsAt e e.who fresh places.Closed) (sym (value c)) (fresh_stands _);

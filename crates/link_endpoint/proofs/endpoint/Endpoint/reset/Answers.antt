@@ -14,6 +14,7 @@ invariant_of-self c =
       sender = grind (arith, common_steps);
       receiver = grind (arith, common_steps);
       mark = grind (arith, common_steps);
+      left = grind (arith, common_steps);
       end = after_reset kept.end;
       at = places.Closed;
       stands = grind (arith, common_steps);

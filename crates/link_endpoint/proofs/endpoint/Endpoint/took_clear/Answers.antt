@@ -16,6 +16,7 @@ invariant_of-self c =
       sender = kept.sender;
       receiver = kept.receiver;
       mark = grind (arith, common_steps);
+      left = grind (arith, common_steps);
       end = end_after kept.end (places.step_at who kept.at 0);
       at = places.next_place who kept.at 0;
       stands = grind (arith, common_steps);

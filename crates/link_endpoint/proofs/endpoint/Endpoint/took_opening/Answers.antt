@@ -11,10 +11,10 @@ use Rattle.link_endpoint.proofs.Setting.{opens_session}
 use Rattle.link_endpoint.proofs.endpoint.Endpoint.took_opening.Goals as goal
 
 taken : (c : goal.After-noted) (value : ℕ) → Takes (seen c.self.inside) value (note.Over ∷ []) (seen (record (c.self.inside) { handshake = c.enter.new.self; place = Closed; tx = c.reset.new.self; rx = c.reset-2.new.self }))
-taken c value = opens_session (seen c.self.inside) _ value c.self.invariant.sections (grind (arith, common_steps)) (grind (arith, common_steps)) c.reset.ensures.stands c.reset-2.ensures.stands
+taken c value = opens_session (seen c.self.inside) _ value c.self.invariant.sections (grind (arith, common_steps)) (grind (arith, common_steps)) c.reset.ensures.stands c.reset-2.ensures.stands (grind (arith, common_steps))
 
-pub returns : goal.returns
-returns c = λ value. rw (← c.self.view_is, c.noted.ensures) (taken c value)
+pub returns-clause-steps : goal.returns-clause-steps
+returns-clause-steps c = λ value. rw (← c.self.view_is, c.noted.ensures) (taken c value)
 
 pub invariant_of-self : goal.invariant_of-self
 invariant_of-self c =
@@ -29,6 +29,7 @@ invariant_of-self c =
       sender = grind (arith, common_steps);
       receiver = grind (arith, common_steps);
       mark = grind (arith, common_steps);
+      left = grind (arith, common_steps);
       end = end_after kept.end (places.step_at who kept.at 0);
       at = places.next_place who kept.at 0;
       stands = subst (λ w. StandsAt new w (end_after kept.end (places.step_at who kept.at 0)) (places.next_place who kept.at 0)) same ((taken c 0).stands who kept.end kept.at kept.stands);

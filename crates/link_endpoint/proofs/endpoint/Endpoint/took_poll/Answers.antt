@@ -5,6 +5,7 @@ use Rattle.link_endpoint.specs.Engine.{refused_after}
 use Rattle.link_endpoint.specs.Kept.{seen}
 use Rattle.link_endpoint.specs.Stands.{Takes}
 use Rattle.link_endpoint.proofs.Seen.{kept_received}
+use Rattle.link_endpoint.proofs.Away.{none_left, away_refused, away_none}
 use Rattle.link_endpoint.proofs.Receiving.{takes_refused, takes_end, takes_on}
 use Rattle.link_endpoint.proofs.endpoint.Endpoint.took_poll.Goals as goal
 
@@ -17,11 +18,11 @@ refused c =
     let polls : i.place ≡ Polling = grind (arith, common_steps) in
     takes_refused (seen i) c.args.value c.took-notes.result.items c.took-notes.new.self c.in-Some.refused (seen i).who kept.end kept.at polls c.took-notes.ensures.steps kept.stands found
 
-pub returns-in-Some : goal.returns-in-Some
-returns-in-Some c = rw (← c.self.view_is) (refused c)
+pub returns-in-Some-clause-steps : goal.returns-in-Some-clause-steps
+returns-in-Some-clause-steps c = rw (← c.self.view_is) (refused c)
 
 pub invariant_of-self : goal.invariant_of-self
-invariant_of-self c = kept_received c.self.inside _ _ Refusing c.args.value c.took-notes.result.items c.self.invariant c.took-notes.ensures.kept (λ other. absurd (other refl)) (refused c)
+invariant_of-self c = kept_received c.self.inside _ _ Refusing c.args.value c.took-notes.result.items c.self.invariant c.took-notes.ensures.kept (λ other. absurd (other refl)) (λ is. tt) (refused c)
 
 -- the poll is over
 over : (c : goal.After-self-then-not-busy-1) → Takes (seen c.self.inside) c.args.value c.took-notes.result.items (seen (record (c.self.inside) { place = Closed; rx = c.took-notes.new.self }))
@@ -32,8 +33,8 @@ over c =
     let polls : i.place ≡ Polling = grind (arith, common_steps) in
     takes_end (seen i) c.args.value c.took-notes.result.items c.took-notes.new.self c.busy.result (seen i).who kept.end kept.at polls c.took-notes.ensures.steps kept.stands none c.busy.ensures.open c.if-not-busy.true
 
-pub returns-then-not-busy : goal.returns-then-not-busy
-returns-then-not-busy c = rw (← c.self.view_is) (over c)
+pub returns-then-not-busy-clause-steps : goal.returns-then-not-busy-clause-steps
+returns-then-not-busy-clause-steps c = rw (← c.self.view_is) (over c)
 
 -- the poll goes on
 going : (c : goal.Else-not-busy) → Takes (seen c.self.inside) c.args.value c.took-notes.result.items (seen (record (c.self.inside) { rx = c.took-notes.new.self }))
@@ -44,11 +45,28 @@ going c =
     let polls : i.place ≡ Polling = grind (arith, common_steps) in
     takes_on (seen i) c.args.value c.took-notes.result.items c.took-notes.new.self c.busy.result (seen i).who kept.end kept.at polls c.took-notes.ensures.steps kept.stands none c.busy.ensures.open c.if-not-busy.false
 
-pub returns-else-not-busy : goal.returns-else-not-busy
-returns-else-not-busy c = rw (← c.self.view_is) (going c)
+pub returns-else-not-busy-clause-steps : goal.returns-else-not-busy-clause-steps
+returns-else-not-busy-clause-steps c = rw (← c.self.view_is) (going c)
 
 pub invariant_of-self-else-not-busy : goal.invariant_of-self-else-not-busy
-invariant_of-self-else-not-busy c = kept_received c.self.inside _ _ c.self.inside.place c.args.value c.took-notes.result.items c.self.invariant c.took-notes.ensures.kept c.self.invariant.mark (going c)
+invariant_of-self-else-not-busy c = kept_received c.self.inside _ _ c.self.inside.place c.args.value c.took-notes.result.items c.self.invariant c.took-notes.ensures.kept c.self.invariant.mark c.self.invariant.left (going c)
 
 pub invariant_of-self-then-not-busy : goal.invariant_of-self-then-not-busy
-invariant_of-self-then-not-busy c = kept_received c.self.inside _ _ Closed c.args.value c.took-notes.result.items c.self.invariant c.took-notes.ensures.kept (λ other. c.self.invariant.mark (grind (arith, common_steps))) (over c)
+invariant_of-self-then-not-busy c = kept_received c.self.inside _ _ Closed c.args.value c.took-notes.result.items c.self.invariant c.took-notes.ensures.kept (λ other. c.self.invariant.mark (grind (arith, common_steps)))
+    (λ is. absurd (none_left (seen c.self.inside) (grind (arith, common_steps)) c.self.invariant.left is)) (over c)
+
+-- what the step keeps of a refusal
+pub returns-in-Some-clause-leaving : goal.returns-in-Some-clause-leaving
+returns-in-Some-clause-leaving c =
+    let found : refused_after c.took-notes.result.items None ≡ Some c.in-Some.refused = ap (λ n. refused_after n None) (sym c.as_slice.ensures.value) ∙ sym c.refused_in.ensures ∙ c.in-Some.is in
+    rw (← c.self.view_is) (away_refused (seen c.self.inside) _ c.args.value c.took-notes.result.items c.in-Some.refused (grind (arith, common_steps)) c.self.invariant.left found refl refl)
+
+pub returns-then-not-busy-clause-leaving : goal.returns-then-not-busy-clause-leaving
+returns-then-not-busy-clause-leaving c =
+    let none : refused_after c.took-notes.result.items None ≡ None = ap (λ n. refused_after n None) (sym c.as_slice.ensures.value) ∙ sym c.refused_in.ensures ∙ c.in_default.is in
+    rw (← c.self.view_is) (away_none (seen c.self.inside) _ c.args.value c.took-notes.result.items (grind (arith, common_steps)) c.self.invariant.left none)
+
+pub returns-else-not-busy-clause-leaving : goal.returns-else-not-busy-clause-leaving
+returns-else-not-busy-clause-leaving c =
+    let none : refused_after c.took-notes.result.items None ≡ None = ap (λ n. refused_after n None) (sym c.as_slice.ensures.value) ∙ sym c.refused_in.ensures ∙ c.in_default.is in
+    rw (← c.self.view_is) (away_none (seen c.self.inside) _ c.args.value c.took-notes.result.items (grind (arith, common_steps)) c.self.invariant.left none)

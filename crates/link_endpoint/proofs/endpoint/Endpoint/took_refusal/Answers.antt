@@ -15,6 +15,7 @@ invariant_of-self c =
       sender = grind (arith, common_steps);
       receiver = grind (arith, common_steps);
       mark = grind (arith, common_steps);
+      left = grind (arith, common_steps);
       end = end_after kept.end (places.step_at (seen c.self.inside).who kept.at 0);
       at = places.Closed;
       stands = grind (arith, common_steps);

@@ -12,8 +12,8 @@ use Rattle.link_endpoint.proofs.endpoint.Endpoint.took_set.Goals as goal
 taken : (c : goal.After-noted) (value : ℕ) → Takes (seen c.self.inside) value (note.Over ∷ []) (record (seen c.self.inside) { phase = c.enter.new.self.phase; place = Closed })
 taken c value = sets_other (seen c.self.inside) _ c.args.state value (grind (arith, common_steps)) (grind (arith, common_steps)) (grind (arith, common_steps))
 
-pub returns : goal.returns
-returns c = λ value. rw (← c.self.view_is, c.noted.ensures) (taken c value)
+pub returns-clause-steps : goal.returns-clause-steps
+returns-clause-steps c = λ value. rw (← c.self.view_is, c.noted.ensures) (taken c value)
 
 pub invariant_of-self : goal.invariant_of-self
 invariant_of-self c =
@@ -26,6 +26,7 @@ invariant_of-self c =
       sender = kept.sender;
       receiver = kept.receiver;
       mark = grind (arith, common_steps);
+      left = grind (arith, common_steps);
       end = end_after kept.end (places.step_at who kept.at 0);
       at = places.next_place who kept.at 0;
       stands = (taken c 0).stands who kept.end kept.at kept.stands;

@@ -17,13 +17,13 @@ act-requires c =
       c.requires.played.0,
       schedule (take course.at world.acts),
       subst (λ (es : List Event). RunsTo world c.requires.played.0 es course.stage) before played.runs,
-      act_at world course.at c.args.act.now played.runs.scene_stands.is_world c.requires.inside c.requires.at,
+      act_at world course.at c.args.act.now played.runs.after.is_world c.requires.inside c.requires.at,
       λ p. let few = losses_few world world.acts course.at p in let room = c.requires.room in omega arith,
     )
 
 pub returns-in-Turn-clause-played : goal.returns-in-Turn-clause-played
-returns-in-Turn-clause-played c = λ gone played.
-    turns_noted gone c.args.self.now c.in-Turn.peer c.in-Turn.steps c.requires.left c.requires.inside
+returns-in-Turn-clause-played c = λ drained played.
+    turns_noted drained c.args.self.now c.in-Turn.peer c.in-Turn.steps c.requires.left c.requires.inside
     (subst (λ (a : Act). a ≡ get_or (world_in c.args.self.now).acts c.args.self.now.at a) c.in-Turn.is c.requires.at) played
 
 pub returns-in_ok-act-in_default : goal.returns-in_ok-act-in_default
@@ -33,7 +33,7 @@ returns-in_ok-act-in_default c =
     let inside = c.requires.inside in
     let less = one_act_less acts course.at c.args.act.now inside c.requires.at in
     record {
-      played = λ gone played. act_played gone course c.args.act.now c.act.new.self c.requires.left inside c.requires.at c.in_ok-act-in_default.ensures played;
+      played = λ drained played. act_played drained course c.args.act.now c.act.new.self c.requires.left inside c.requires.at c.in_ok-act-in_default.ensures played;
       fewer = omega arith;
       passed = refl;
       scenario = refl;

@@ -4,20 +4,20 @@ use Rattle.std.proofs.lemmas.List.{take_all}
 use Rattle.doorbell_irq.specs.declared.effect.Delivery.{Delivery}
 use Rattle.lawful_history.specs.declared.line.Line.{Line}
 use Rattle.lawful_history.specs.Device.{arrived}
-use Rattle.stage.specs.Scene.{SceneStands}
+use Rattle.stage.specs.Scene.{SceneAfter}
 use Rattle.stage.proofs.Arriving.{one_arrived}
 use Rattle.stage.proofs.scene.Scene.arrive.Goals as goal
 
 pub loop-delivery-preserved : goal.loop-delivery-preserved
 loop-delivery-preserved c = (
-  λ world gone past losses scene_stands.
+  λ world drained past losses after.
       let l = c.loop-delivery in
-      subst (λ (ls : List Line). SceneStands world gone ls losses c.arrive_at.new.self)
+      subst (λ (ls : List Line). SceneAfter world drained ls losses c.arrive_at.new.self)
       (sym (one_arrived past losses c.args.deliveries.now l.delivery-index _ c.loop-delivery-test.true (search rules)))
-      (c.in_ok-arrive_at.ensures.scene_stands world gone (reverse (arrived past losses (take l.delivery-index c.args.deliveries.now)) ++ past) losses (l.invariant.0 world gone past losses scene_stands)),
+      (c.in_ok-arrive_at.ensures.after world drained (reverse (arrived past losses (take l.delivery-index c.args.deliveries.now)) ++ past) losses (l.invariant.0 world drained past losses after)),
   λ me seated. c.in_ok-arrive_at.ensures.seated me (c.loop-delivery.invariant.1 me seated),
 )
 
-pub returns-clause-scene_stands : goal.returns-clause-scene_stands
-returns-clause-scene_stands c = λ world gone past losses scene_stands.
-    subst (λ (ds : List Delivery). SceneStands world gone (reverse (arrived past losses ds) ++ past) losses c.loop-delivery.self) (take_all c.loop-delivery.delivery-index c.args.deliveries.now (omega arith)) (c.loop-delivery.invariant.0 world gone past losses scene_stands)
+pub returns-clause-after : goal.returns-clause-after
+returns-clause-after c = λ world drained past losses after.
+    subst (λ (ds : List Delivery). SceneAfter world drained (reverse (arrived past losses ds) ++ past) losses c.loop-delivery.self) (take_all c.loop-delivery.delivery-index c.args.deliveries.now (omega arith)) (c.loop-delivery.invariant.0 world drained past losses after)

@@ -3,10 +3,10 @@ use Rattle.std.specs.Prelude.{reverse}
 use Rattle.scenario_text.specs.Scenario.{World}
 use Rattle.lawful_history.specs.declared.line.Line.{Line}
 use Rattle.lawful_history.specs.Device.{arrived}
-use Rattle.stage.specs.Scene.{SceneStands, IsSeated}
+use Rattle.stage.specs.Scene.{SceneAfter, IsSeated}
 use Rattle.stage.proofs.scene.Scene.arrive.Given as goal
 
 abbrev pub invariant-loop-delivery : goal.invariant-loop-delivery
 invariant-loop-delivery l =
-    ((world : World) (gone past : List Line) (losses : ℕ → ℕ) → SceneStands world gone past losses l.initial.self → SceneStands world gone (reverse (arrived past losses (take l.delivery-index l.deliveries)) ++ past) losses l.self)
+    ((world : World) (drained past : List Line) (losses : ℕ → ℕ) → SceneAfter world drained past losses l.initial.self → SceneAfter world drained (reverse (arrived past losses (take l.delivery-index l.deliveries)) ++ past) losses l.self)
     × ((me : ℕ) → IsSeated l.initial.self me → IsSeated l.self me)

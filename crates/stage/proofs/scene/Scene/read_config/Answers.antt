@@ -1,13 +1,13 @@
 use Rattle.std.proofs.Common.{ℕ, ◌∷◌, refl, subst}
 use Rattle.lawful_history.specs.declared.line.Line.TheVariants.{ConfigRead}
 use Rattle.lawful_history.specs.Device.{devices_of, device_events}
-use Rattle.stage.specs.Scene.{SceneStands}
+use Rattle.stage.specs.Scene.{SceneAfter}
 use Rattle.stage.specs.declared.scene.Scene.{Scene}
 use Rattle.stage.proofs.Arriving.{remarked}
 use Rattle.stage.proofs.scene.Scene.read_config.Goals as goal
 
-pub returns-clause-scene_stands : goal.returns-clause-scene_stands
-returns-clause-scene_stands c = λ world gone past losses scene_stands.
+pub returns-clause-after : goal.returns-clause-after
+returns-clause-after c = λ world drained past losses after.
     let now : Scene = record { region = c.args.self.now.region; device = c.args.self.now.device; unspent = c.args.self.now.unspent; lines = c.push.new.self } in
-    subst (λ (v : ℕ). SceneStands world gone (ConfigRead c.args.me c.args.offset c.args.width v ∷ past) losses now) (c.in-Ok.ensures.value (devices_of world) (device_events past) scene_stands.devices)
-    (remarked world gone past losses c.args.self.now now (ConfigRead c.args.me c.args.offset c.args.width c.in-Ok.value) scene_stands (record { touch = refl; told = refl; lost = λ p. refl; frame = refl }) refl refl refl c.in_ok-push-in-Ok.ensures.put)
+    subst (λ (v : ℕ). SceneAfter world drained (ConfigRead c.args.me c.args.offset c.args.width v ∷ past) losses now) (c.in-Ok.ensures.value (devices_of world) (device_events past) after.devices)
+    (remarked world drained past losses c.args.self.now now (ConfigRead c.args.me c.args.offset c.args.width c.in-Ok.value) after (record { touch = refl; told = refl; lost = λ p. refl; frame = refl }) refl refl refl c.in_ok-push-in-Ok.ensures.put)

@@ -5,6 +5,6 @@ use Rattle.stage.proofs.Runs.{scene_goes_on}
 use Rattle.stage.proofs.stage.Stage.read_register.Goals as goal
 
 pub returns : goal.returns
-returns c = λ world gone events there runs.
+returns c = λ world drained events there runs.
     let m = moment_of world events in
-    scene_goes_on world gone events (Reached c.args.peer (ReadsRegister c.args.offset)) c.args.self.now _ there refl refl refl (c.in_ok-read_register.ensures.scene_stands world gone m.past m.losses runs.scene_stands) c.in_ok-read_register.ensures.seated runs
+    scene_goes_on world drained events (Reached c.args.peer (ReadsRegister c.args.offset)) c.args.self.now _ there refl refl refl (c.in_ok-read_register.ensures.after world drained m.past m.losses runs.after) c.in_ok-read_register.ensures.seated runs

@@ -8,8 +8,8 @@ use Rattle.stage.specs.Stage.{moment_of}
 use Rattle.stage.proofs.Runs.{fit_at, seat_goes_on, seat_fits}
 use Rattle.stage.proofs.stage.Stage.turn.Goals as goal
 
-pub turn-requires-clause-ground : goal.turn-requires-clause-ground
-turn-requires-clause-ground c =
+pub turn-requires-clause-sizes : goal.turn-requires-clause-sizes
+turn-requires-clause-sizes c =
     let world = c.requires.0 in
     let events = c.requires.2 in
     let runs = c.requires.3 in
@@ -20,18 +20,18 @@ turn-requires-clause-ground c =
     let stands = runs.stands p _ here in (
       world,
       peer_at (moment_of world events) p,
-      record { is_world = runs.scene_stands.is_world; there = below; geometry = runs.geometry; queue = runs.queue },
-      runs.scene_stands.shape,
+      record { is_world = runs.after.is_world; there = below; geometry = runs.geometry; queue = runs.queue },
+      runs.after.shape,
       stands,
-      seat_fits (who_of world p) (peer_at (moment_of world events) p) _ stands (fit_at c.calls_stay_in_reach.ensures world events p runs.scene_stands.is_world runs.there),
+      seat_fits (who_of world p) (peer_at (moment_of world events) p) _ stands (fit_at c.calls_stay_in_reach.ensures world events p runs.after.is_world runs.there),
     )
 
 pub returns : goal.returns
-returns c = λ world gone events there runs.
+returns c = λ world drained events there runs.
     let m = moment_of world events in
     let p = c.args.peer in
     let count = runs.count in
     let here = slice_get-get_or c.args.self.now.seats.items p _ (omega arith) ∙ ap Some (sym c.index_mut-seat.ensures.value) in
-    let turned = c.in_ok-turn.ensures.turn world gone m.past m.losses (peer_at m p) (record { is_world = runs.scene_stands.is_world; there = there; geometry = runs.geometry; queue = runs.queue }) runs.scene_stands (runs.stands p _ here) in
-    seat_goes_on world gone events (Turned p) c.args.self.now _ _ c.turn.new.seat there c.index_mut-seat.ensures.value refl refl
+    let turned = c.in_ok-turn.ensures.turn world drained m.past m.losses (peer_at m p) (record { is_world = runs.after.is_world; there = there; geometry = runs.geometry; queue = runs.queue }) runs.after (runs.stands p _ here) in
+    seat_goes_on world drained events (Turned p) c.args.self.now _ _ c.turn.new.seat there c.index_mut-seat.ensures.value refl refl
     (λ stands. turned.1) (λ kind. c.in_ok-turn.ensures.kind ∙ kind) turned.0 c.in_ok-turn.ensures.seated runs

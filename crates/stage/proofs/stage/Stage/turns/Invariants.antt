@@ -7,4 +7,4 @@ use Rattle.stage.specs.Stage.{RunsTo}
 use Rattle.stage.proofs.stage.Stage.turns.Given as goal
 
 abbrev pub invariant-loop-k : goal.invariant-loop-k
-invariant-loop-k l = (world : World) (gone : List Line) (events : List Event) → IsThere world (Turned l.peer) → RunsTo world gone events l.initial.self → RunsTo world gone (events ++ replicate l._k (Turned l.peer)) l.self
+invariant-loop-k l = (world : World) (drained : List Line) (events : List Event) → IsThere world (Turned l.peer) → RunsTo world drained events l.initial.self → RunsTo world drained (events ++ replicate l._k (Turned l.peer)) l.self

@@ -1,19 +1,23 @@
-use Rattle.std.proofs.Common.{sym, subst}
+use Rattle.std.proofs.Common.{sym, subst, ◌∙◌, ap₂}
 use Rattle.std.specs.Prelude.{OnOk}
-use Rattle.lawful_history.specs.Schedule.{Event}
+use Rattle.split_ring.specs.declared.steps.Access.TheVariants.{Ring}
+use Rattle.lawful_history.specs.Schedule.{Event, Acted}
 use Rattle.stage.specs.Stage.{Happens}
-use Rattle.stage.proofs.Runs.{other_register, state_register, doorbell_register}
+use Rattle.stage.proofs.Runs.{is_reached, is_set, is_rung}
 use Rattle.stage.proofs.stage.Stage.write_register.Goals as goal
 
-pub returns-else-offset-eq12 : goal.returns-else-offset-eq12
-returns-else-offset-eq12 c =
+pub returns-else-offset-eq-REGISTER_DOORBELL : goal.returns-else-offset-eq-REGISTER_DOORBELL
+returns-else-offset-eq-REGISTER_DOORBELL c =
     subst (λ (e : Event). OnOk c.write_other_register.result (Happens e c.args.self.now c.write_other_register.new.self))
-    (sym (other_register c.args.peer c.args.offset c.args.value c.if-offset-eq16.false c.if-offset-eq12.false)) c.write_other_register.ensures
+    (sym (is_reached c.args.peer c.args.offset c.args.value c.if-offset-eq-REGISTER_STATE.false c.if-offset-eq-REGISTER_DOORBELL.false)) c.write_other_register.ensures
 
-pub returns-then-offset-eq16 : goal.returns-then-offset-eq16
-returns-then-offset-eq16 c =
-    subst (λ (e : Event). OnOk c.set.result (Happens e c.args.self.now c.set.new.self)) (sym (state_register c.args.peer c.args.offset c.args.value c.if-offset-eq16.true)) c.set.ensures
+pub returns-then-offset-eq-REGISTER_STATE : goal.returns-then-offset-eq-REGISTER_STATE
+returns-then-offset-eq-REGISTER_STATE c =
+    subst (λ (e : Event). OnOk c.set.result (Happens e c.args.self.now c.set.new.self))
+    (sym (is_set c.args.peer c.args.offset c.args.value c.if-offset-eq-REGISTER_STATE.true)) c.set.ensures
 
-pub returns-then-offset-eq12 : goal.returns-then-offset-eq12
-returns-then-offset-eq12 c =
-    subst (λ (e : Event). OnOk c.ring.result (Happens e c.args.self.now c.ring.new.self)) (sym (doorbell_register c.args.peer c.args.offset c.args.value c.if-offset-eq12.true)) c.ring.ensures
+pub returns-then-offset-eq-REGISTER_DOORBELL : goal.returns-then-offset-eq-REGISTER_DOORBELL
+returns-then-offset-eq-REGISTER_DOORBELL c =
+    subst (λ (e : Event). OnOk c.ring.result (Happens e c.args.self.now c.ring.new.self))
+    (ap₂ (λ target vector. Acted c.args.peer (Ring target vector)) c.doorbell_target.ensures c.doorbell_vector.ensures
+    ∙ sym (is_rung c.args.peer c.args.offset c.args.value c.if-offset-eq-REGISTER_DOORBELL.true)) c.ring.ensures

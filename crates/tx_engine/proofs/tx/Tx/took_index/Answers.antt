@@ -11,10 +11,10 @@ use Rattle.tx_engine.proofs.tx.Tx.took_index.Goals.{in-Closed, in_default}
 pub returns-after-self : goal.returns-after-self
 returns-after-self c =
     let here = ap (λ (s : Sender). s.place) c.self.view_is ∙ c.requires in
-    let first : c.push.new.self.items ≡ Reclaim c.in-Ok.count ∷ [] = c.push.ensures.items ∙ ap (λ (n : List Note). n ++ Reclaim c.in-Ok.count ∷ []) c.new-notes.ensures in
+    let first : c.noted-notes.result.items ≡ Reclaim c.in-Ok.count ∷ [] = c.noted-notes.ensures in
     let notes_are : c.match-self.notes.items ≡ Reclaim c.in-Ok.count ∷ full_notes c.offer_after_ids-self-inside.result =
     elim c.match-self.branch [
-      | in-Closed w ↦ ap (λ (n : ArrayVec Note). n.items) w.notes-is ∙ (w.push-in-Closed.ensures.items ∙ (ap (λ (n : List Note). n ++ Full ∷ []) first
+      | in-Closed w ↦ ap (λ (n : ArrayVec Note). n.items) w.notes-is ∙ (w.push.ensures.items ∙ (ap (λ (n : List Note). n ++ Full ∷ []) first
           ∙ ap (λ place. Reclaim c.in-Ok.count ∷ full_notes place) (sym w.in-Closed.is)))
       | in_default w ↦ ap (λ (n : ArrayVec Note). n.items) w.notes-is ∙ (first ∙ ap (λ (n : List Note). Reclaim c.in-Ok.count ∷ n) (sym (open_notes _ w.in_default.not-Closed)))
     ] in

@@ -1,0 +1,199 @@
+-- The fields of a section, and what a store of one word leaves of them.
+use Rattle.std.proofs.Common.{◌≡◌, ◌≢◌, ℕ, zero, suc, ◌+◌, ◌-◌, ◌*◌, ◌/◌, ◌%◌, ◌<◌, ◌≤◌, Bool, true, false, refl, sym, ap, ◌∙◌, arith, eq-eqb, ne_eqb}
+use mathlib.Core.Logic.{dite}
+use native.Mathlib.Decide.{ℕ_discrete, dec_lt}
+use Rattle.std.specs.Prelude.{◌==◌, nat_lt, ◌&&◌, if◌then◌else◌}
+use Rattle.std.proofs.lemmas.Bool.Decides.{nat_tests}
+use Rattle.std.proofs.Math.Nat.{mul-le-mul_left, mul_assoc}
+use Rattle.split_ring.specs.Layout.{Sizes, HasBounds, size_of, limit_of, payload_of, slot_of, place_of, Slot}
+use Rattle.split_ring.specs.Ranges.{IsDescAddress}
+use Rattle.split_ring.proofs.Bounds.{bounds}
+use Rattle.call_grammar.proofs.OfferLists.{yes, no}
+use Rattle.ends_pair.specs.Fields.{Field, AvailIndex, UsedIndex, AvailEntry, UsedId, UsedLength, AddressLow, AddressHigh, DescLength, DescFlags, SlotWord, is_field, field_word, part_of}
+use Rattle.ends_pair.specs.Ground.{Ground, IsGround, section_of, fields}
+use Rattle.ends_pair.specs.Steps.{Stored, IsUntouched, OnlyOwnChange}
+
+pub numbers : (ground : Ground) → IsGround ground → HasBounds ground.sizes
+numbers ground is = bounds ground.sizes is.queue
+
+-- two numbers less than a turn apart have two positions in a ring
+pub ring_apart : (c k a : ℕ) → 0 < c → k < a → a < k + c → a % c ≢ k % c
+ring_apart c k a some lt far e = dite (dec_lt (k / c) (a / c))
+    (λ up. let h : c * (k / c + 1) ≤ c * (a / c) = mul-le-mul_left c (omega arith) in omega arith)
+    (λ down. let h : c * (a / c) ≤ c * (k / c) = mul-le-mul_left c (omega arith) in omega arith)
+
+-- What is a field
+
+abbrev pub Lies : Sizes → Field → Type 0
+Lies q AvailIndex = Unit {0}
+Lies q UsedIndex = Unit {0}
+Lies q (AvailEntry k) = k < size_of q
+Lies q (UsedId k) = k < size_of q
+Lies q (UsedLength k) = k < size_of q
+Lies q (AddressLow i) = i < size_of q
+Lies q (AddressHigh i) = i < size_of q
+Lies q (DescLength i) = i < size_of q
+Lies q (DescFlags i) = i < size_of q
+Lies q (SlotWord i j) = (i < limit_of q) × (j < slot_of q / 4)
+
+one_tells : (k n : ℕ) → nat_lt k n ≡ true → k < n
+one_tells k n h = grind (arith, nat_tests)
+
+both_tell : (i j m n : ℕ) → (nat_lt i m && nat_lt j n) ≡ true → (i < m) × (j < n)
+both_tell i j m n h = (grind (arith, nat_tests), grind (arith, nat_tests))
+
+pub one_test : (i m : ℕ) → i < m → nat_lt i m ≡ true
+one_test i m a = grind (arith, nat_tests)
+
+pub both_tests : (i j m n : ℕ) → i < m → j < n → (nat_lt i m && nat_lt j n) ≡ true
+both_tests i j m n a b = grind (arith, nat_tests)
+
+lies : (q : Sizes) (f : Field) → is_field q f ≡ true → Lies q f
+lies q AvailIndex h = tt
+lies q UsedIndex h = tt
+lies q (SlotWord i j) h = both_tell i j (limit_of q) (slot_of q / 4) h
+lies q (AvailEntry k) h = one_tells k (size_of q) h
+lies q (UsedId k) h = one_tells k (size_of q) h
+lies q (UsedLength k) h = one_tells k (size_of q) h
+lies q (AddressLow k) h = one_tells k (size_of q) h
+lies q (AddressHigh k) h = one_tells k (size_of q) h
+lies q (DescLength k) h = one_tells k (size_of q) h
+lies q (DescFlags k) h = one_tells k (size_of q) h
+
+-- Slots
+
+slot_whole : (x : ℕ) → (x + 63) / 64 * 64 ≡ 4 * ((x + 63) / 64 * 64 / 4)
+slot_whole x = omega arith
+
+-- a slot begins at a whole word
+pub slot_start : (q : Sizes) (i : ℕ) → place_of q (Slot i) ≡ 4 * (payload_of q / 4 + slot_of q / 4 * i)
+slot_start q i = let whole : slot_of q ≡ 4 * (slot_of q / 4) = slot_whole (18 + q.mtu) in let product : slot_of q * i ≡ 4 * (slot_of q / 4 * i) = ap (λ x. x * i) whole ∙ mul_assoc 4 (slot_of q / 4) i in omega arith
+
+slot_word : (q : Sizes) (i j : ℕ) → field_word q (SlotWord i j) ≡ payload_of q / 4 + slot_of q / 4 * i + j
+slot_word q i j = let start = slot_start q i in omega arith
+
+slots_fit : (slot i c : ℕ) → i < c → slot * i + slot ≤ slot * c
+slots_fit slot i c lt = let h : slot * (i + 1) ≤ slot * c = mul-le-mul_left slot (omega arith) in omega arith
+
+-- it is in range
+pub slot_good : (ground : Ground) → IsGround ground → (i : ℕ) → i < limit_of ground.sizes → IsDescAddress ground.sizes (place_of ground.sizes (Slot i)) × (place_of ground.sizes (Slot i) + slot_of ground.sizes ≤ ground.sizes.out)
+slot_good ground is i low = let b = numbers ground is in let slots = b.slots in let fit = slots_fit (slot_of ground.sizes) i (limit_of ground.sizes) low in let start = slot_start ground.sizes i in let mtu = is.queue.mtu_least in
+    ((omega arith, omega arith, omega arith), omega arith)
+
+same_slot : (slot i j k l : ℕ) → j < slot → l < slot → slot * i + j ≡ slot * k + l → (i ≡ k) × (j ≡ l)
+same_slot slot i j k l jl ll e = let same : i ≡ k = dite (dec_lt i k)
+    (λ lt. let h : slot * (i + 1) ≤ slot * k = mul-le-mul_left slot (omega arith) in absurd (omega arith))
+    (λ ge. dite (dec_lt k i) (λ lt. let h : slot * (k + 1) ≤ slot * i = mul-le-mul_left slot (omega arith) in absurd (omega arith)) (λ le. omega arith)) in
+    (same, let f : slot * i ≡ slot * k = ap (λ n. slot * n) same in omega arith)
+
+-- Where the fields stand
+
+pub inside : (ground : Ground) → IsGround ground → (f : Field) → is_field ground.sizes f ≡ true → field_word ground.sizes f < ground.words
+inside ground is f h = placed f (lies ground.sizes f h)
+  where
+    placed : (f : Field) → Lies ground.sizes f → field_word ground.sizes f < ground.words
+    placed (SlotWord i j) l = let good = (slot_good ground is i l.0).1 in let words = is.words in let start = slot_start ground.sizes i in let lt = l.1 in let whole : slot_of ground.sizes ≡ 4 * (slot_of ground.sizes / 4) = slot_whole (18 + ground.sizes.mtu) in omega arith
+    placed AvailIndex l = let rings = (numbers ground is).rings in let words = is.words in omega arith
+    placed UsedIndex l = let rings = (numbers ground is).rings in let words = is.words in omega arith
+    placed (AvailEntry k) l = let rings = (numbers ground is).rings in let words = is.words in omega arith
+    placed (UsedId k) l = let rings = (numbers ground is).rings in let words = is.words in omega arith
+    placed (UsedLength k) l = let rings = (numbers ground is).rings in let words = is.words in omega arith
+    placed (AddressLow i) l = let rings = (numbers ground is).rings in let words = is.words in omega arith
+    placed (AddressHigh i) l = let rings = (numbers ground is).rings in let words = is.words in omega arith
+    placed (DescLength i) l = let rings = (numbers ground is).rings in let words = is.words in omega arith
+    placed (DescFlags i) l = let rings = (numbers ground is).rings in let words = is.words in omega arith
+
+-- two fields of one word are two entries
+abbrev pub Entries : Field → Field → Type 0
+Entries (AvailEntry k) (AvailEntry l) = l / 2 ≡ k / 2
+Entries s t = ⊥
+
+shares : (q : Sizes) (s t : Field) → limit_of q ≤ size_of q → Lies q s → Lies q t → t ≢ s → field_word q t ≡ field_word q s → Entries s t
+shares q (AvailEntry k) (AvailEntry l) few ls lt ne e = omega arith
+shares q (SlotWord i j) (SlotWord k l) few ls lt ne e = let a = ls.1 in let b = lt.1 in let x = slot_word q i j in let y = slot_word q k l in let f = same_slot (slot_of q / 4) k l i j b a (omega arith) in absurd (ne (let g = f.0 in let h = f.1 in cc))
+shares q AvailIndex AvailIndex few ls lt ne e = absurd (ne refl)
+shares q UsedIndex UsedIndex few ls lt ne e = absurd (ne refl)
+shares q (UsedId k) (UsedId l) few ls lt ne e = absurd (ne (ap UsedId (let f : l ≡ k = omega arith in f)))
+shares q (UsedLength k) (UsedLength l) few ls lt ne e = absurd (ne (ap UsedLength (let f : l ≡ k = omega arith in f)))
+shares q (AddressLow k) (AddressLow l) few ls lt ne e = absurd (ne (ap AddressLow (let f : l ≡ k = omega arith in f)))
+shares q (AddressHigh k) (AddressHigh l) few ls lt ne e = absurd (ne (ap AddressHigh (let f : l ≡ k = omega arith in f)))
+shares q (DescLength k) (DescLength l) few ls lt ne e = absurd (ne (ap DescLength (let f : l ≡ k = omega arith in f)))
+shares q (DescFlags k) (DescFlags l) few ls lt ne e = absurd (ne (ap DescFlags (let f : l ≡ k = omega arith in f)))
+shares q (SlotWord i j) t few ls lt ne e = let x = slot_word q i j in absurd (omega arith)
+shares q s (SlotWord i j) few ls lt ne e = let x = slot_word q i j in absurd (omega arith)
+shares q s t few ls lt ne e = absurd (omega arith)
+
+-- Values
+
+if_same : (b : Bool) (x y : ℕ) → (b ≡ true → x ≡ y) → (if b then x else 0) ≡ (if b then y else 0)
+if_same true x y h = h refl
+if_same false x y h = refl
+
+-- what is read at the word of a field
+pub field_read : (ground : Ground) (memory : ℕ → ℕ) (p : ℕ) (f : Field) (value : ℕ) → is_field ground.sizes f ≡ true → value ≡ memory (section_of ground p + field_word ground.sizes f) → part_of f value ≡ fields ground memory p f
+unfolding fields
+field_read ground memory p f value spot met = ap (part_of f) met ∙ sym (yes (is_field ground.sizes f) (part_of f (memory (section_of ground p + field_word ground.sizes f))) 0 spot)
+
+-- the fields of a section whose words stay
+pub fields_same : (ground : Ground) (memory after : ℕ → ℕ) (p : ℕ) → IsGround ground → ((j : ℕ) → j < ground.words → after (section_of ground p + j) ≡ memory (section_of ground p + j)) → (f : Field) → fields ground after p f ≡ fields ground memory p f
+unfolding fields
+fields_same ground memory after p is same f = if_same (is_field ground.sizes f) _ _ (λ h. ap (part_of f) (same (field_word ground.sizes f) (inside ground is f h)))
+
+either : (b : Bool) (n : ℕ) → (if b then n else n) ≡ n
+either true n = refl
+either false n = refl
+
+-- the fields of a section of nothing but 0
+blank_part : (f : Field) → part_of f 0 ≡ 0
+blank_part (AvailEntry k) = either (k % 2 == 0) 0
+blank_part f = refl
+
+pub fields_blank : (ground : Ground) (memory : ℕ → ℕ) (p : ℕ) (f : Field) → IsGround ground → ((j : ℕ) → j < ground.words → memory (section_of ground p + j) ≡ 0) → fields ground memory p f ≡ 0
+unfolding fields
+fields_blank ground memory p f is none = if_same (is_field ground.sizes f) _ 0 (λ h. ap (part_of f) (none (field_word ground.sizes f) (inside ground is f h)) ∙ blank_part f) ∙ either (is_field ground.sizes f) 0
+
+-- Stores
+
+-- the words of the two sections, and those of the states
+pub sections_apart : (ground : Ground) (p i j : ℕ) → p < 2 → i < ground.words → j < ground.words → section_of ground (1 - p) + j ≢ section_of ground p + i
+sections_apart ground zero i j p2 il jl e = omega arith
+sections_apart ground (suc zero) i j p2 il jl e = omega arith
+sections_apart ground (suc (suc p)) i j p2 il jl e = omega arith
+
+-- a change of the own words leaves the other's
+pub theirs_stay : (ground : Ground) (memory after : ℕ → ℕ) (p : ℕ) → IsGround ground → p < 2 → OnlyOwnChange ground memory after p → IsUntouched ground memory after (1 - p)
+theirs_stay ground memory after p is p2 only = record {
+  state = only (1 - p) (λ e. omega arith) (λ j lt e. let first = is.first in omega arith);
+  section = λ j lt. only (section_of ground (1 - p) + j) (λ e. let first = is.first in omega arith) (λ i il e. sections_apart ground p i j p2 il lt e);
+}
+
+-- end p puts n into a field of its section
+pub record Put (ground : Ground) (memory after : ℕ → ℕ) (p : ℕ) (f : Field) (n : ℕ) : Type 0 where
+  pub here : fields ground after p f ≡ n
+  pub beside : (t : Field) → t ≢ f → fields ground after p t ≡ fields ground memory p t
+  pub state : after p ≡ memory p
+  pub only : OnlyOwnChange ground memory after p
+
+module _ (ground : Ground) (is : IsGround ground) (memory after : ℕ → ℕ) (p : ℕ) (p2 : p < 2) (f : Field) (v n : ℕ) (spot : is_field ground.sizes f ≡ true) (stored : Stored memory after (section_of ground p + field_word ground.sizes f) v)
+    (here : part_of f v ≡ n) (others : (t : Field) → t ≢ f → is_field ground.sizes t ≡ true → Entries f t → part_of t v ≡ part_of t (memory (section_of ground p + field_word ground.sizes f))) where
+  same_word : (t : Field) → t ≢ f → is_field ground.sizes t ≡ true → part_of t (after (section_of ground p + field_word ground.sizes t)) ≡ part_of t (memory (section_of ground p + field_word ground.sizes t))
+  same_word t ne h = dite (ℕ_discrete (field_word ground.sizes t) (field_word ground.sizes f))
+      (λ e. let two : Entries f t = shares ground.sizes f t (numbers ground is).limit_most (lies ground.sizes f spot) (lies ground.sizes t h) ne e in let w = ap (λ k. section_of ground p + k) e in
+      ap (λ k. part_of t (after k)) w ∙ (ap (part_of t) stored.here ∙ (others t ne h two ∙ ap (λ k. part_of t (memory k)) (sym w))))
+      (λ ne. ap (part_of t) (stored.beside (section_of ground p + field_word ground.sizes t) (λ e. omega arith)))
+
+  pub put_of : Put ground memory after p f n
+  unfolding fields
+  put_of = record {
+    here = yes (is_field ground.sizes f) (part_of f (after (section_of ground p + field_word ground.sizes f))) 0 spot ∙ (ap (part_of f) stored.here ∙ here);
+    beside = λ t ne. if_same (is_field ground.sizes t) _ _ (same_word t ne);
+    state = stored.beside p (λ e. let h = is.first in omega arith);
+    only = λ w ne apart. stored.beside w (apart (field_word ground.sizes f) (inside ground is f spot));
+  }
+
+-- the words that an end wrote last, after one more write
+pub written_kept : (memory after : ℕ → ℕ) (own x v words : ℕ) (written : ℕ → ℕ) → Stored memory after x v → ((j : ℕ) → j < words → memory (own + j) ≡ written (own + j)) →
+    (j : ℕ) → j < words → after (own + j) ≡ (if own + j == x then v else written (own + j))
+written_kept memory after own x v words written stored same j lt = dite (ℕ_discrete (own + j) x)
+    (λ e. ap after e ∙ (stored.here ∙ sym (yes (own + j == x) v (written (own + j)) (eq-eqb (own + j) x e))))
+    (λ ne. stored.beside (own + j) ne ∙ (same j lt ∙ sym (no (own + j == x) v (written (own + j)) (ne_eqb (own + j) x ne))))

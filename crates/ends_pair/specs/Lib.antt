@@ -1,0 +1,10 @@
+pub mod Fields
+pub mod Ground
+pub mod Steps
+pub mod Alone
+pub mod Pair
+pub mod Whole
+pub mod Laws
+pub mod Sides
+pub mod Runs
+pub mod Frames

@@ -1,0 +1,6 @@
+pub mod CaptureFile
+pub mod Deliveries
+pub mod Faults
+pub mod Feed
+pub mod Offers
+pub mod Reading

@@ -1,0 +1,8 @@
+-- What is known of a frame that is offered.
+use Rattle.std.specs.Prelude.{ℕ, ◌<◌, ◌≤◌, List, length, slice_index}
+
+-- it is of bytes, 14 to 16,402 of them
+pub record IsFrame (frame : List ℕ) : Type 0 where
+  pub least : 14 ≤ length frame
+  pub most : length frame ≤ 16402
+  pub bytes : (i : ℕ) → slice_index frame i < 256

@@ -1,0 +1,211 @@
+//! The scenario that offers the frames of a capture.
+ghost use Rattle.std.specs.Prelude.{◌≡◌, ◌+◌, ◌-◌, ◌*◌, ◌<◌, ◌≤◌, ◌++◌, All, IfOk, OnOk, OnErr, IsErrOf, IfSome, IfNone, OnSome, true, length, map, sum_by};
+ghost use Rattle.section_map.specs.Faults.{shape_of};
+ghost use Rattle.scenario_text.specs.declared.acts.Act.TheVariants.{Offer};
+ghost use Rattle.scenario_text.specs.Acts.{turns_of};
+ghost use Rattle.scenario_text.specs.Spelling.{world_of};
+ghost use Rattle.frame_capture.specs.Feed.{is_offered, offered_frames, weight, round_count, act_count, rounds, feed_acts, feed_world, IsTooLarge};
+ghost use Rattle.frame_capture.specs.Offers.{IsFrame};
+
+use crate::packets::{Capture, Packet};
+use ivs_base::{Frame, NoMemory};
+use pci_space::Wiring;
+use scenario_text::{Act, Acts, Flags, Scenario};
+use section_map::Geometry;
+use split_ring::Queue;
+use std::alloc::Global;
+use thiserror::Error;
+
+/// How many steps a peer makes in its turn.
+const STEPS: u32 = 1000;
+
+/// The most acts of a scenario, where a turn counts for its steps.
+const MOST_ACTS: u128 = 4_000_000;
+
+/// Why a capture makes no scenario.
+#[derive(Clone, Copy, Debug, PartialEq, Eq, Error)]
+pub enum FeedFault {
+    /// The scenario would have more than 4,000,000 acts, or a text of more than 16,777,216 bytes.
+    #[error("the capture has too many frames for a scenario")]
+    TooLarge,
+    /// Memory ran out.
+    #[error("out of memory")]
+    NoMemory,
+}
+
+impl From<NoMemory> for FeedFault {
+    ghost use Rattle.frame_capture.specs.declared.feeding.FeedFault.TheVariants.{NoMemory as OutOfMemory};
+
+    ghost from_gives = { λ _ e. e ≡ OutOfMemory };
+
+    fn from(_e: NoMemory) -> FeedFault {
+        FeedFault::NoMemory
+    }
+}
+
+/// How much a scenario takes to offer its frames.
+#[derive(Clone, Copy, Debug)]
+struct Plan {
+    frames: u64,
+    rounds: u32,
+}
+
+/// Is the packet's frame offered?
+fn is_offered(packet: &Packet) -> bool
+    ensures { result ≡ is_offered packet.now }
+{
+    let size = packet.frame.bytes().len();
+    size == packet.original as usize && 14 <= size && size <= 16_402
+}
+
+/// How many frames are offered, and the sum of their weights.
+fn weigh(packets: &[Packet]) -> (u64, u128)
+    ensures frames { result.0 ≡ length (offered_frames packets.now) }
+    ensures weight { result.1 ≡ sum_by weight (offered_frames packets.now) }
+    ensures most { result.1 ≤ 4113 * result.0 }
+{
+    let mut frames = 0;
+    let mut weight = 0;
+    for packet in packets {
+        if is_offered(packet) {
+            frames += 1;
+            weight += (packet.frame.bytes().len() as u128 + 3) / 4 + 12;
+        }
+    }
+    (frames, weight)
+}
+
+/// The plan for these packets, if a scenario of it isn't too large.
+fn plan_of(packets: &[Packet]) -> Option<Plan>
+    ensures frames { IfSome result (λ plan. plan.frames ≡ length (offered_frames packets.now)) }
+    ensures rounds { IfSome result (λ plan. plan.rounds ≡ round_count (offered_frames packets.now)) }
+    ensures few { OnSome result (act_count (offered_frames packets.now) ≤ 4000000) }
+    ensures many { IfNone result (4000000 < act_count (offered_frames packets.now)) }
+{
+    let (frames, weight) = weigh(packets);
+    let rounds = 300 + u128::from(frames) / 14 + weight / 500;
+    if 2 + u128::from(frames) + 2000 * rounds > MOST_ACTS {
+        return None;
+    }
+    Some(Plan {
+        frames,
+        rounds: rounds as u32,
+    })
+}
+
+/// The offer of the packet's frame.
+fn offer(alloc: Global, packet: &Packet, peer: u32) -> Result<Act, NoMemory>
+    requires { is_offered packet.now ≡ true }
+    ensures act { IfOk result (λ act. act ≡ Offer peer packet.now.frame) }
+    ensures frame { OnOk result (IsFrame packet.now.frame) }
+{
+    let bytes = packet.frame.bytes();
+    let frame = Frame::of(alloc, bytes)?;
+    let _len = bytes.len();
+    Ok(Act::Offer { peer, frame })
+}
+
+/// Puts the offers of the packets' frames last.
+fn push_offers(
+    alloc: Global,
+    acts: &mut Acts,
+    packets: &[Packet],
+    peer: u32,
+) -> Result<(), NoMemory>
+    ensures put { OnOk result (acts.new ≡ acts.old ++ map (λ frame. Offer peer frame) (offered_frames packets.now)) }
+    ensures frames { OnOk result (All IsFrame (offered_frames packets.now)) }
+{
+    for packet in packets {
+        if is_offered(packet) {
+            let act = offer(alloc, packet, peer)?;
+            acts.push(act)?;
+        }
+    }
+    Ok(())
+}
+
+/// Puts so many rounds last, in each of which both peers take a turn.
+fn push_rounds(acts: &mut Acts, count: u32) -> Result<(), NoMemory>
+    ensures { OnOk result (acts.new ≡ acts.old ++ rounds count) }
+{
+    for _ in 0..count {
+        acts.push(Act::Turn {
+            peer: 0,
+            steps: STEPS,
+        })?;
+        acts.push(Act::Turn {
+            peer: 1,
+            steps: STEPS,
+        })?;
+    }
+    Ok(())
+}
+
+/// The acts in which the peer offers the packets' frames.
+fn acts(alloc: Global, packets: &[Packet], peer: u32, plan: Plan) -> Result<Acts, NoMemory>
+    requires peer { peer < 2 }
+    requires frames { plan.frames ≡ length (offered_frames packets.now) }
+    requires rounds { plan.rounds ≡ round_count (offered_frames packets.now) }
+    ensures acts { IfOk result (λ acts. acts ≡ feed_acts peer (offered_frames packets.now)) }
+    ensures frames { OnOk result (All IsFrame (offered_frames packets.now)) }
+{
+    let mut acts = Acts::new(alloc);
+    acts.push(Act::Auto { peer, expect: 0 })?;
+    acts.push(Act::Auto {
+        peer: 1 - peer,
+        expect: plan.frames,
+    })?;
+    push_offers(alloc, &mut acts, packets, peer)?;
+    push_rounds(&mut acts, plan.rounds)?;
+    Ok(acts)
+}
+
+/// The region: a page for the table, and 127 for each of two peers.
+fn region() -> Geometry
+    ensures { result ≡ shape_of 2 4096 0 520192 }
+{
+    match Geometry::new(2, 4096, 0, 520_192) {
+        Ok(geometry) => geometry,
+        Err(_) => unreachable!(),
+    }
+}
+
+/// The queue of such a section.
+fn section() -> Queue
+    ensures { result ≡ record { out = 520192; mtu = 16384 } }
+{
+    match Queue::of(520_192, 16_384) {
+        Ok(queue) => queue,
+        Err(_) => unreachable!(),
+    }
+}
+
+/// The scenario in which the peer, 0 or 1, offers the capture's frames: those of packets that weren't shortened, of 14 to
+/// 16,402 bytes. Both peers choose their calls, and after the offers come 300 rounds of turns, one more for each 14 frames
+/// and one more for each 500 words, where each frame counts for 12 words more. That these are enough isn't promised.
+///
+/// TooLarge comes exactly where that scenario would have more than 4,000,000 acts or a text of more than 16,777,216 bytes.
+/// NoMemory comes only where memory ran out.
+pub fn scenario_of(alloc: Global, capture: &Capture, peer: u32) -> Result<Scenario, FeedFault>
+    requires { peer < 2 }
+    ensures made { IfOk result (λ scenario. world_of scenario ≡ feed_world peer (offered_frames capture.now.packets)) }
+    ensures fits { OnOk result (¬ IsTooLarge (feed_world peer (offered_frames capture.now.packets))) }
+    ensures large { IsErrOf result FeedFault.TooLarge → IsTooLarge (feed_world peer (offered_frames capture.now.packets)) }
+{
+    let packets = capture.packets.items();
+    let Some(plan) = plan_of(packets) else {
+        return Err(FeedFault::TooLarge);
+    };
+    let mut honest = Flags::new(alloc);
+    honest.push(true)?;
+    honest.push(true)?;
+    let acts = acts(alloc, packets, peer, plan)?;
+    Ok(Scenario {
+        geometry: region(),
+        queue: section(),
+        wiring: Wiring::Msix(2),
+        honest,
+        acts,
+        version: 1,
+    })
+}

@@ -1,0 +1,54 @@
+//! The byte order of a file.
+ghost use Rattle.std.specs.Prelude.{◌≡◌, ◌+◌, ◌≤◌, length, IfSome, IfNone};
+ghost use Rattle.frame_capture.specs.CaptureFile.{IsInOrder, number_at};
+
+use byteorder::{BigEndian, ByteOrder, LittleEndian};
+
+/// What a file begins with, in its byte order.
+const MAGIC: u32 = 0xa1b2_c3d4;
+
+/// The byte order of all numbers of a file.
+#[derive(Clone, Copy, Debug, PartialEq, Eq)]
+pub enum Order {
+    Little,
+    Big,
+}
+
+impl Order {
+    /// The order in which these bytes begin with the magic number, if there is one.
+    pub fn of(bytes: &[u8]) -> Option<Order>
+        requires { 4 ≤ length bytes.now }
+        ensures found { IfSome result (λ order. IsInOrder order bytes.now) }
+        ensures none { IfNone result ((order : Order) → ¬ IsInOrder order bytes.now) }
+    {
+        if LittleEndian::read_u32(bytes) == MAGIC {
+            Some(Order::Little)
+        } else if BigEndian::read_u32(bytes) == MAGIC {
+            Some(Order::Big)
+        } else {
+            None
+        }
+    }
+
+    /// The number of 16 bits at a place.
+    pub fn u16_at(self, bytes: &[u8], place: usize) -> u16
+        requires { place + 2 ≤ length bytes.now }
+        ensures { result ≡ number_at self 2 place bytes.now }
+    {
+        match self {
+            Order::Little => LittleEndian::read_u16(&bytes[place..]),
+            Order::Big => BigEndian::read_u16(&bytes[place..]),
+        }
+    }
+
+    /// The number of 32 bits at a place.
+    pub fn u32_at(self, bytes: &[u8], place: usize) -> u32
+        requires { place + 4 ≤ length bytes.now }
+        ensures { result ≡ number_at self 4 place bytes.now }
+    {
+        match self {
+            Order::Little => LittleEndian::read_u32(&bytes[place..]),
+            Order::Big => BigEndian::read_u32(&bytes[place..]),
+        }
+    }
+}

@@ -1,0 +1,73 @@
+//! Captured frames as values.
+ghost use Rattle.std.specs.Prelude.{◌≡◌, ◌++◌, [], ◌∷◌, OnOk, OnErr};
+
+use ivs_base::{Frame, NoMemory};
+use std::alloc::Global;
+use std::marker::Model;
+
+/// A frame that was captured, and when.
+#[derive(Debug, Drop)]
+pub struct Packet {
+    /// The whole seconds of its time.
+    pub seconds: u32,
+    /// The microseconds on top of them; a file may have more than a second of them.
+    pub micros: u32,
+    /// How many bytes the frame had. Where that isn't the length of `frame`, the capture was shortened.
+    pub original: u32,
+    /// The bytes that were captured.
+    pub frame: Frame,
+}
+
+/// Packets in their order.
+#[derive(Debug, Drop)]
+pub struct Packets {
+    items: Vec<Packet>,
+}
+
+impl Model for Packets {
+    ghost use Rattle.std.specs.Prelude.{List};
+    ghost use Rattle.frame_capture.specs.declared.packets.Packet.{Packet};
+
+    ghost Value = { List Packet };
+
+    ghost view = { λ packets. packets.items.items };
+}
+
+impl Packets {
+    /// The empty list. It takes no memory.
+    pub fn new(alloc: Global) -> Self
+        ensures { result ≡ [] }
+    {
+        Packets {
+            items: Vec::new(alloc),
+        }
+    }
+
+    /// Puts the packet last. After NoMemory, which comes only where memory ran out, the list is unchanged and the
+    /// packet is dropped.
+    pub fn push(&mut self, item: Packet) -> Result<(), NoMemory>
+        ensures ok { OnOk result (self.new ≡ self.old ++ item ∷ []) }
+        ensures err { OnErr result (self.new ≡ self.old) }
+    {
+        match self.items.push(item) {
+            Ok(()) => Ok(()),
+            Err(_) => Err(NoMemory),
+        }
+    }
+
+    /// The whole list.
+    pub fn items(&self) -> &[Packet]
+        ensures { result.now ≡ self.now }
+    {
+        self.items.as_slice()
+    }
+}
+
+/// What a capture file says.
+#[derive(Debug, Drop)]
+pub struct Capture {
+    /// The most bytes of a frame that were captured.
+    pub snaplen: u32,
+    /// What was captured, in its order.
+    pub packets: Packets,
+}

@@ -1,0 +1,130 @@
+//! Reading a capture file.
+ghost use Rattle.std.specs.Prelude.{◌≡◌, ◌≤◌, ◌++◌, ◌<◌, All, IfOk, IfErr, length, drop};
+ghost use Rattle.frame_capture.specs.CaptureFile.{packet_bytes, packets_bytes, IsPacket, IsCaptureFile};
+ghost use Rattle.frame_capture.specs.Faults.{IsTooLong, IsCut, IsFirstBad, IsCaptureFault};
+ghost use Rattle.frame_capture.specs.Reading.{StartsWith, IsDamage, fault_at, IsPacketsFault};
+
+use crate::faults::CaptureFault;
+use crate::order::Order;
+use crate::packets::{Capture, Packet, Packets};
+use byteorder::{ByteOrder, LittleEndian};
+use ivs_base::{Frame, NoMemory};
+use std::alloc::Global;
+
+/// The bytes before the packets.
+const HEADER: usize = 24;
+
+/// The bytes of a packet before those of its frame.
+const PACKET_HEADER: usize = 16;
+
+/// The most bytes of a frame that a packet has here.
+const MOST: usize = 262_144;
+
+/// Why bytes begin with no packet.
+#[derive(Clone, Copy, Debug)]
+pub enum Damage {
+    /// The captured length is above the most.
+    TooLong,
+    /// The bytes end inside the packet.
+    Cut,
+    /// Memory ran out.
+    NoMemory,
+}
+
+impl From<NoMemory> for Damage {
+    ghost use Rattle.frame_capture.specs.declared.reading.Damage.TheVariants.{NoMemory as OutOfMemory};
+
+    ghost from_gives = { λ _ e. e ≡ OutOfMemory };
+
+    fn from(_e: NoMemory) -> Damage {
+        Damage::NoMemory
+    }
+}
+
+impl Damage {
+    /// The fault of the packet with this number.
+    fn at(self, number: u64) -> CaptureFault
+        ensures { result ≡ fault_at self number }
+    {
+        match self {
+            Damage::TooLong => CaptureFault::BadPacket(number),
+            Damage::Cut => CaptureFault::CutPacket(number),
+            Damage::NoMemory => CaptureFault::NoMemory,
+        }
+    }
+}
+
+/// The packet that these bytes begin with.
+fn read_packet(alloc: Global, order: Order, bytes: &[u8]) -> Result<Packet, Damage>
+    requires { 0 < length bytes.now }
+    ensures packet { IfOk result (λ p. StartsWith order p bytes.now) }
+    ensures damage { IfErr result (IsDamage order bytes.now) }
+{
+    if bytes.len() < PACKET_HEADER {
+        return Err(Damage::Cut);
+    }
+    let size = order.u32_at(bytes, 8) as usize;
+    if size > MOST {
+        return Err(Damage::TooLong);
+    }
+    if bytes.len() < PACKET_HEADER + size {
+        return Err(Damage::Cut);
+    }
+    let frame = Frame::of(alloc, &bytes[PACKET_HEADER..PACKET_HEADER + size])?;
+    Ok(Packet {
+        seconds: order.u32_at(bytes, 0),
+        micros: order.u32_at(bytes, 4),
+        original: order.u32_at(bytes, 12),
+        frame,
+    })
+}
+
+/// The packets that these bytes are, up to their end.
+fn read_packets(alloc: Global, order: Order, bytes: &[u8]) -> Result<Packets, CaptureFault>
+    ensures each { IfOk result (λ ps. All IsPacket ps) }
+    ensures spelled { IfOk result (λ ps. bytes.now ≡ packets_bytes order ps) }
+    ensures fault { IfErr result (IsPacketsFault order bytes.now) }
+{
+    let mut all = Packets::new(alloc);
+    let mut left = bytes;
+    while !left.is_empty() {
+        let packet = match read_packet(alloc, order, left) {
+            Ok(packet) => packet,
+            Err(damage) => return Err(damage.at(all.items().len() as u64 + 1)),
+        };
+        left = &left[PACKET_HEADER + packet.frame.bytes().len()..];
+        all.push(packet)?;
+    }
+    Ok(all)
+}
+
+/// The capture that a file is of.
+///
+/// The first thing that is wrong is the error, in this order: Short, BadMagic, BadVersion, BadLinkType; then, packet by
+/// packet, CutPacket where its 16 bytes aren't there, BadPacket where its captured length is above 262,144, CutPacket
+/// where its bytes aren't all there. Zone and figures may be any, and the captured length may differ from the original one.
+pub fn parse(alloc: Global, bytes: &[u8]) -> Result<Capture, CaptureFault>
+    ensures file { IfOk result (λ capture. IsCaptureFile capture bytes.now) }
+    ensures fault { IfErr result (IsCaptureFault bytes.now) }
+{
+    if bytes.len() < HEADER {
+        return Err(CaptureFault::Short(bytes.len() as u64));
+    }
+    let Some(order) = Order::of(bytes) else {
+        return Err(CaptureFault::BadMagic(LittleEndian::read_u32(bytes)));
+    };
+    let major = order.u16_at(bytes, 4);
+    let minor = order.u16_at(bytes, 6);
+    if major != 2 || minor != 4 {
+        return Err(CaptureFault::BadVersion { major, minor });
+    }
+    let link_type = order.u32_at(bytes, 20);
+    if link_type != 1 {
+        return Err(CaptureFault::BadLinkType(link_type));
+    }
+    let packets = read_packets(alloc, order, &bytes[HEADER..])?;
+    Ok(Capture {
+        snaplen: order.u32_at(bytes, 16),
+        packets,
+    })
+}

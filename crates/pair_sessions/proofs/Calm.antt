@@ -1,0 +1,402 @@
+-- Runs of two honest ends without stops and resets.
+use Rattle.std.proofs.Common.{◌≡◌, ◌≢◌, ℕ, zero, suc, ◌+◌, ◌-◌, ◌%◌, ◌<◌, ◌≤◌, ◌⊎◌, inl, inr, ⊎_elim, Bool, true, false, List, [], ◌∷◌, ◌++◌, length, map, refl, sym, ap, ◌∙◌, subst, arith}
+use mathlib.Core.Logic.{dite}
+use native.Mathlib.Decide.{ℕ_discrete}
+use Rattle.std.specs.Prelude.{◌==◌, nat_le, if◌then◌else◌, Option}
+use Rattle.std.specs.List.{AllByRecursion}
+use Rattle.split_ring.specs.declared.steps.Access.{Access}
+use Rattle.split_ring.specs.declared.steps.Access.TheVariants as access
+use Rattle.split_ring.specs.Layout.{Sizes, size_of, limit_of}
+use Rattle.split_ring.specs.Spelling.{low_half, entry_half}
+use Rattle.link_handshake.specs.declared.Phase.{Phase}
+use Rattle.link_handshake.specs.declared.Phase.TheVariants.{Reset, Init, Ready, Run}
+use Rattle.link_handshake.specs.declared.Move.TheVariants.{Stay}
+use Rattle.link_handshake.specs.PhaseTable.{move_on, state_of}
+use Rattle.link_handshake.specs.Standing.{Standing, move_of}
+use Rattle.call_grammar.specs.Steps.{Mark, Saw, Reclaim, Full, Accept, Look, Deliver, Return, Done, Down, Refuse, Over}
+use Rattle.call_grammar.specs.Ends.{End, fresh}
+use Rattle.call_grammar.specs.Words.{words_for, address_of}
+use Rattle.call_grammar.specs.Rows.{MovesTo}
+use Rattle.call_grammar.specs.Calls.{Call, Tick, Stop, Offer, Poll, in_run, job_of}
+use Rattle.call_grammar.specs.Ticks.{Who}
+use Rattle.call_grammar.specs.Offers.{Job, descriptor_of, returned_by}
+use Rattle.call_grammar.specs.Polls.{is_entry, is_address, is_length, published_by}
+use Rattle.call_grammar.specs.Places.{Place, Closed, AtState, Clearing, Setting, Refusing, Downed, AtUsedIndex, AtUsedId, Filling, WritingLow, WritingHigh, WritingLength, WritingFlags, WritingEntry, WritingIndex, RingingOffer, AtAvailIndex, AtEntry, AtLow, AtHigh, AtLength, AtFlags, AtWord, GivingId, GivingLength, GivingIndex, RingingPoll, clear_place, tick_place, fill_place, ids_place, items_place, words_place, first_place, access_at, next_place, step_at}
+use Rattle.link_machine.specs.LinkMachine.{Side, fresh_side, Told, Wrote, Marked, WasReset, MarkRow, Row, Log, no_sessions, log_after, MachineRuns}
+use Rattle.link_machine.specs.LinkMachine as machine
+use Rattle.link_machine.proofs.MachineLaws.{SawSome, Half, Kind, falls_to, inits, opens, runs, sees, accepts, delivers, counts, kind_of, half_of}
+use Rattle.ends_pair.specs.Ground.{Ground, IsGround, who_of}
+use Rattle.ends_pair.specs.Steps.{OnlyComes, Meets}
+use Rattle.ends_pair.specs.Alone.{Holds}
+use Rattle.ends_pair.specs.Sides.{told_of, told_by, RowsAlong, SawFor, SeenIs, SideIs}
+use Rattle.ends_pair.specs.Runs.{HonestRuns}
+use Rattle.ends_pair.specs.Runs as honest
+use Rattle.ends_pair.proofs.RowsKept.{follow_lem}
+use Rattle.ends_pair.proofs.RunsKept.{whole_lem, changed, changed_here, changed_beside, side_like}
+use Rattle.pair_sessions.specs.Once.{CalmRuns, starts, begins, steps, others, IsStill, IsOnce, CalmRunsDeliver}
+use Rattle.pair_sessions.proofs.Numbering.{state_at}
+
+-- Sides
+
+-- what a side p and its log keep beside what every run keeps, against the other side q
+record Calm (p q : Side) (l : Log) : Type 0 where
+  most : l.opened ≤ 1
+  stays : 1 ≤ l.opened → 2 ≤ p.state
+  none : l.opened ≡ 0 → (p.accepted ≡ []) × (p.delivered ≡ [])
+  low : p.state ≡ 0 → (q.state ≡ 0) ⊎ ((q.state ≡ 1) × ¬ SawSome q.seen)
+
+mine_lem : (p q new : Side) (l m l' : Log) → Kind p q l m new l' → (new.state ≡ 0 → p.state ≡ 0) → Half p q l m → Calm p q l → Calm new q l'
+mine_lem p q new l m l' (falls_to s n k ks ended) up h c = let z = up s in let o = ks.opened in record {
+  most = let most = c.most in omega arith;
+  stays = λ one. absurd (let two = c.stays (omega arith) in omega arith);
+  none = λ e. let old = c.none (sym o ∙ e) in (k.accepted ∙ old.0, k.delivered ∙ old.1);
+  low = λ e. c.low z;
+}
+mine_lem p q new l m l' (inits z low s n k ks ended) up h c = let o = ks.opened in record {
+  most = let most = c.most in omega arith;
+  stays = λ one. absurd (let two = c.stays (omega arith) in omega arith);
+  none = λ e. let old = c.none (sym o ∙ e) in (k.accepted ∙ old.0, k.delivered ∙ old.1);
+  low = λ e. absurd (omega arith);
+}
+mine_lem p q new l m l' (opens z some s n a d opened carried earlier ended) up h c = record {
+  most = let most = c.most in dite (ℕ_discrete l.opened 1) (λ e. absurd (let two = c.stays (omega arith) in omega arith)) (λ ne. omega arith);
+  stays = λ one. omega arith;
+  none = λ e. absurd (omega arith);
+  low = λ e. absurd (omega arith);
+}
+mine_lem p q new l m l' (runs z high s n k opened carried earlier ended) up h c = record {
+  most = let most = c.most in omega arith;
+  stays = λ one. omega arith;
+  none = λ e. absurd (let one = h.one (omega arith) in omega arith);
+  low = λ e. absurd (omega arith);
+}
+mine_lem p q new l m l' (sees s n k same) up h c = subst (Calm new q) (sym same) record {
+  most = c.most;
+  stays = λ one. let two = c.stays one in let e = s in omega arith;
+  none = λ e. let old = c.none e in (k.accepted ∙ old.0, k.delivered ∙ old.1);
+  low = λ e. c.low (sym s ∙ e);
+}
+mine_lem p q new l m l' (accepts z frame s n a d same) up h c = subst (Calm new q) (sym same) record {
+  most = c.most;
+  stays = λ one. omega arith;
+  none = λ e. absurd (let one = h.one (omega arith) in omega arith);
+  low = λ e. absurd (omega arith);
+}
+mine_lem p q new l m l' (delivers z frame s n a d next same) up h c = subst (Calm new q) (sym same) record {
+  most = c.most;
+  stays = λ one. omega arith;
+  none = λ e. absurd (let one = h.one (omega arith) in omega arith);
+  low = λ e. absurd (omega arith);
+}
+mine_lem p q new l m l' (counts s n k same) up h c = subst (Calm new q) (sym same) record {
+  most = c.most;
+  stays = λ one. let two = c.stays one in let e = s in omega arith;
+  none = λ e. let old = c.none e in (k.accepted ∙ old.0, k.delivered ∙ old.1);
+  low = λ e. c.low (sym s ∙ e);
+}
+
+-- while the other is in RESET, the side that moves doesn't leave INIT
+low_lem : (p q new : Side) (l m l' : Log) → Kind p q l m new l' → q.state ≡ 0 → (p.state ≡ 0) ⊎ ((p.state ≡ 1) × ¬ SawSome p.seen) → (new.state ≡ 0) ⊎ ((new.state ≡ 1) × ¬ SawSome new.seen)
+low_lem p q new l m l' (falls_to s n k ks ended) z old = inl s
+low_lem p q new l m l' (inits was low s n k ks ended) z old = inr (s, λ some. subst SawSome n some)
+low_lem p q new l m l' (opens was some s n a d opened carried earlier ended) z (inl e) = absurd (omega arith)
+low_lem p q new l m l' (opens was some s n a d opened carried earlier ended) z (inr e) = absurd (e.1 some)
+low_lem p q new l m l' (runs was high s n k opened carried earlier ended) z (inl e) = absurd (omega arith)
+low_lem p q new l m l' (runs was high s n k opened carried earlier ended) z (inr e) = absurd (let f = e.0 in omega arith)
+low_lem p q new l m l' (sees s n k same) z (inl e) = inl (s ∙ e)
+low_lem p q new l m l' (sees s n k same) z (inr e) = inr (s ∙ e.0, λ some. let one : 1 ≤ q.state = subst SawSome n some in omega arith)
+low_lem p q new l m l' (accepts was frame s n a d same) z (inl e) = absurd (omega arith)
+low_lem p q new l m l' (accepts was frame s n a d same) z (inr e) = absurd (let f = e.0 in omega arith)
+low_lem p q new l m l' (delivers was frame s n a d next same) z (inl e) = absurd (omega arith)
+low_lem p q new l m l' (delivers was frame s n a d next same) z (inr e) = absurd (let f = e.0 in omega arith)
+low_lem p q new l m l' (counts s n k same) z (inl e) = inl (s ∙ e)
+low_lem p q new l m l' (counts s n k same) z (inr e) = inr (s ∙ e.0, λ some. e.1 (subst SawSome n some))
+
+theirs_lem : (p q new : Side) (l m l' : Log) → Kind p q l m new l' → Calm q p m → Calm q new m
+theirs_lem p q new l m l' kind o = record { most = o.most; stays = o.stays; none = o.none; low = λ z. low_lem p q new l m l' kind z (o.low z) }
+
+-- What is told
+
+-- no write of 0 and no reset
+abbrev IsUp : Told → Type 0
+IsUp (Wrote zero) = ⊥
+IsUp (Wrote (suc n)) = Unit {0}
+IsUp (Marked mark) = Unit {0}
+IsUp WasReset = ⊥
+
+mark_state : (sizes : Sizes) (p q : Side) (mark : Mark) (new : Side) → MarkRow sizes true p q mark new → new.state ≡ p.state
+mark_state sizes p q (Saw value) new row = ap (λ (s : Side). s.state) row.1
+mark_state sizes p q (Accept frame) new row = ap (λ (s : Side). s.state) row.2
+mark_state sizes p q (Reclaim count) new row = ap (λ (s : Side). s.state) row.2
+mark_state sizes p q Full new row = ap (λ (s : Side). s.state) row.2
+mark_state sizes p q (Look count) new row = ap (λ (s : Side). s.state) row.2
+mark_state sizes p q (Deliver frame) new row = ap (λ (s : Side). s.state) row.3
+mark_state sizes p q Return new row = ap (λ (s : Side). s.state) row.2
+mark_state sizes p q Done new row = ap (λ (s : Side). s.state) row.2
+mark_state sizes p q Down new row = ap (λ (s : Side). s.state) row.1
+mark_state sizes p q (Refuse refused) new row = ap (λ (s : Side). s.state) row.3
+mark_state sizes p q Over new row = ap (λ (s : Side). s.state) row
+
+stays_up : (sizes : Sizes) (p q : Side) (told : Told) (new : Side) → Row sizes true true p q told new → IsUp told → new.state ≡ 0 → p.state ≡ 0
+stays_up sizes p q (Wrote zero) new row up e = absurd up
+stays_up sizes p q (Wrote (suc n)) new row up e = absurd (let s = ap (λ (x : Side). x.state) row.1 in omega arith)
+stays_up sizes p q (Marked mark) new row up e = sym (mark_state sizes p q mark new row.1) ∙ e
+stays_up sizes p q WasReset new row up e = absurd up
+
+-- the sides and logs after what p tells
+record Along (sizes : Sizes) (sides : ℕ → Side) (p : ℕ) (new : Side) : Type 0 where
+  sides' : ℕ → Side
+  logs' : ℕ → Log
+  run : MachineRuns sizes (λ p. true) sides' logs'
+  calm : (q : ℕ) → q < 2 → Calm (sides' q) (sides' (1 - q)) (logs' q)
+  side_is : sides' p ≡ new
+  sides_stay : (q : ℕ) → q ≢ p → sides' q ≡ sides q
+
+calm_like : (p p' q q' : Side) (l l' : Log) → p' ≡ p → q' ≡ q → l' ≡ l → Calm p q l → Calm p' q' l'
+calm_like p p' q q' l l' e f g c = subst (λ x. Calm x q' l') (sym e) (subst (λ x. Calm p x l') (sym f) (subst (Calm p q) (sym g) c))
+
+module _ (sizes : Sizes) (p : ℕ) (p2 : p < 2) where
+  row_step : (sides : ℕ → Side) (logs : ℕ → Log) (told : Told) (new : Side) → MachineRuns sizes (λ p. true) sides logs → ((q : ℕ) → q < 2 → Calm (sides q) (sides (1 - q)) (logs q)) → IsUp told → Row sizes true true (sides p) (sides (1 - p)) told new → Along sizes sides p new
+  row_step sides logs told new r calm up row = let l = log_after (logs p) (logs (1 - p)) (sides p) told in let ne : 1 - p ≢ p = λ e. omega arith in let o2 : 1 - p < 2 = omega arith in let back : 1 - (1 - p) ≡ p = omega arith in
+      let kind = kind_of sizes (sides p) (sides (1 - p)) (logs p) (logs (1 - p)) told new row in
+      let mine = mine_lem (sides p) (sides (1 - p)) new (logs p) (logs (1 - p)) l kind (stays_up sizes (sides p) (sides (1 - p)) told new row up) (half_of sizes (λ p. true) sides logs refl refl r p p2) (calm p p2) in
+      let theirs = theirs_lem (sides p) (sides (1 - p)) new (logs p) (logs (1 - p)) l kind (subst (λ k. Calm (sides (1 - p)) (sides k) (logs (1 - p))) back (calm (1 - p) o2)) in record {
+        sides' = changed sides p new;
+        logs' = changed logs p l;
+        run = machine.goes sides (changed sides p new) logs (changed logs p l) p told r p2 (subst (λ (x : Side). Row sizes true true (sides p) (sides (1 - p)) told x) (sym (changed_here sides p new)) row)
+            (changed_beside sides p (1 - p) new ne) (changed_here logs p l) (changed_beside logs p (1 - p) l ne);
+        calm = λ q q2. dite (ℕ_discrete q p)
+            (λ e. let f : 1 - q ≡ 1 - p = omega arith in calm_like new (changed sides p new q) (sides (1 - p)) (changed sides p new (1 - q)) l (changed logs p l q) (ap (changed sides p new) e ∙ changed_here sides p new) (ap (changed sides p new) f ∙ changed_beside sides p (1 - p) new ne) (ap (changed logs p l) e ∙ changed_here logs p l) mine)
+            (λ other. let e : q ≡ 1 - p = omega arith in let f : 1 - q ≡ p = omega arith in calm_like (sides (1 - p)) (changed sides p new q) new (changed sides p new (1 - q)) (logs (1 - p)) (changed logs p l q) (ap (changed sides p new) e ∙ changed_beside sides p (1 - p) new ne) (ap (changed sides p new) f ∙ changed_here sides p new) (ap (changed logs p l) e ∙ changed_beside logs p (1 - p) l ne) theirs);
+        side_is = changed_here sides p new;
+        sides_stay = λ q ne. changed_beside sides p q new ne;
+      }
+
+  along : (tolds : List Told) (sides : ℕ → Side) (logs : ℕ → Log) (new : Side) → MachineRuns sizes (λ p. true) sides logs → ((q : ℕ) → q < 2 → Calm (sides q) (sides (1 - q)) (logs q)) → AllByRecursion IsUp tolds → RowsAlong sizes true (sides (1 - p)) (sides p) tolds new → Along sizes sides p new
+  along [] sides logs new r calm up rows = record { sides' = sides; logs' = logs; run = r; calm = calm; side_is = sym rows; sides_stay = λ q ne. refl }
+  along (told ∷ tolds) sides logs new r calm up rows = let a = row_step sides logs told rows.0 r calm up.0 rows.1 in let ne : 1 - p ≢ p = λ e. omega arith in
+      let b = along tolds a.sides' a.logs' new a.run a.calm up.1 (subst (λ (x : Side). RowsAlong sizes true x (a.sides' p) tolds new) (sym (a.sides_stay (1 - p) ne)) (subst (λ (x : Side). RowsAlong sizes true (sides (1 - p)) x tolds new) (sym a.side_is) rows.2)) in record {
+        sides' = b.sides';
+        logs' = b.logs';
+        run = b.run;
+        calm = b.calm;
+        side_is = b.side_is;
+        sides_stay = λ q ne. b.sides_stay q ne ∙ a.sides_stay q ne;
+      }
+
+-- Places
+
+-- the end is about to set 0, by a tick or a Stop
+abbrev IsDown : Place → Type 0
+IsDown (Setting zero) = Unit {0}
+IsDown place = ⊥
+
+marks_up : (marks : List Mark) → AllByRecursion IsUp (map Marked marks)
+marks_up [] = tt
+marks_up (mark ∷ marks) = (tt, marks_up marks)
+
+access_up : (a : Access) (marks : List Mark) → (a ≡ access.State 0 → ⊥) → AllByRecursion IsUp (told_of a ++ map Marked marks)
+access_up (access.Read word) marks up = marks_up marks
+access_up (access.Write word value) marks up = marks_up marks
+access_up (access.State zero) marks up = absurd (up refl)
+access_up (access.State (suc n)) marks up = (tt, marks_up marks)
+access_up (access.Ring target vector) marks up = marks_up marks
+access_up access.Nothing marks up = marks_up marks
+
+tolds_up : (who : Who) (place : Place) (value : ℕ) → ¬ IsDown place → place ≢ Refusing → AllByRecursion IsUp (told_by (step_at who place value))
+tolds_up who place value up sound = access_up (access_at who place) (step_at who place value).marks (λ e. ⊎_elim (λ is. up (subst IsDown (sym is) tt)) (λ is. sound is.0) (state_at who place 0 e))
+
+test_up : (b : Bool) (x y : Place) → ¬ IsDown x → ¬ IsDown y → ¬ IsDown (if b then x else y)
+test_up true x y mine theirs = mine
+test_up false x y mine theirs = theirs
+
+clear_up : (at count state : ℕ) → state ≡ 2 → ¬ IsDown (clear_place at count state)
+clear_up at zero state is down = let e : IsDown (Setting 2) = subst (λ k. IsDown (Setting k)) is down in e
+clear_up at (suc more) state is down = down
+
+fill_up : (job : Job) (at count : ℕ) → ¬ IsDown (fill_place job at count)
+fill_up job at zero down = down
+fill_up job at (suc more) down = down
+
+ids_up : (who : Who) (job : Job) (freed count : ℕ) → ¬ IsDown (ids_place who job freed count)
+ids_up who job freed zero = test_up (job.number == freed + limit_of who.sizes) Closed (fill_place job 0 (words_for (length job.frame))) (λ d. d) (fill_up job 0 (words_for (length job.frame)))
+ids_up who job freed (suc more) = λ d. d
+
+items_up : (number count : ℕ) → ¬ IsDown (items_place number count)
+items_up number zero down = down
+items_up number (suc more) down = down
+
+words_up : (number more entry address bytes : ℕ) (read : List ℕ) (count : ℕ) → ¬ IsDown (words_place number more entry address bytes read count)
+words_up number more entry address bytes read zero down = down
+words_up number more entry address bytes read (suc words) down = down
+
+-- only a tick that saw 0 in READY or RUN leads there
+next_up : (ground : Ground) (p : ℕ) (memory : ℕ → ℕ) (end : End) (place : Place) (value : ℕ) → Holds ground memory p end place → ((handshake : Standing) → place ≡ AtState handshake → ¬ IsDown (tick_place (who_of ground p) (move_of handshake value))) → ¬ IsDown (next_place (who_of ground p) place value)
+next_up ground p memory end Closed value h tick = λ d. d
+next_up ground p memory end (AtState handshake) value h tick = tick handshake refl
+next_up ground p memory end (Clearing at more state) value h tick = clear_up (at + 1) more state h.1
+next_up ground p memory end (Setting state) value h tick = λ d. d
+next_up ground p memory end Refusing value h tick = λ d. d
+next_up ground p memory end Downed value h tick = λ d. d
+next_up ground p memory end (AtUsedIndex job freed) value h tick = test_up (nat_le (returned_by freed value) (job.number - freed)) (ids_place (who_of ground p) job freed (returned_by freed value)) Refusing (ids_up (who_of ground p) job freed (returned_by freed value)) (λ d. d)
+next_up ground p memory end (AtUsedId job freed more) value h tick = test_up (value == descriptor_of (who_of ground p) freed) (ids_place (who_of ground p) job (freed + 1) more) Refusing (ids_up (who_of ground p) job (freed + 1) more) (λ d. d)
+next_up ground p memory end (Filling job at more) value h tick = fill_up job (at + 1) more
+next_up ground p memory end (WritingLow job) value h tick = λ d. d
+next_up ground p memory end (WritingHigh job) value h tick = λ d. d
+next_up ground p memory end (WritingLength job) value h tick = λ d. d
+next_up ground p memory end (WritingFlags job) value h tick = λ d. d
+next_up ground p memory end (WritingEntry job) value h tick = λ d. d
+next_up ground p memory end (WritingIndex job) value h tick = λ d. d
+next_up ground p memory end RingingOffer value h tick = λ d. d
+next_up ground p memory end (AtAvailIndex taken) value h tick = test_up (nat_le (published_by taken value) (size_of ground.sizes)) (if published_by taken value == 0 then Closed else items_place taken (published_by taken value)) Refusing
+    (test_up (published_by taken value == 0) Closed (items_place taken (published_by taken value)) (λ d. d) (items_up taken (published_by taken value))) (λ d. d)
+next_up ground p memory end (AtEntry number more) value h tick = let e = entry_half (number % size_of ground.sizes) value in test_up (is_entry ground.sizes e) (AtLow number more e) Refusing (λ d. d) (λ d. d)
+next_up ground p memory end (AtLow number more entry) value h tick = λ d. d
+next_up ground p memory end (AtHigh number more entry low) value h tick = test_up (is_address ground.sizes (address_of low value)) (AtLength number more entry (address_of low value)) Refusing (λ d. d) (λ d. d)
+next_up ground p memory end (AtLength number more entry address) value h tick = test_up (is_length ground.sizes address value) (AtFlags number more entry address value) Refusing (λ d. d) (λ d. d)
+next_up ground p memory end (AtFlags number more entry address bytes) value h tick = test_up (low_half value == 0) (words_place number more entry address bytes [] (words_for bytes)) Refusing (words_up number more entry address bytes [] (words_for bytes)) (λ d. d)
+next_up ground p memory end (AtWord number more entry address bytes read words) value h tick = words_up number more entry address bytes (read ++ value ∷ []) words
+next_up ground p memory end (GivingId number more entry) value h tick = λ d. d
+next_up ground p memory end (GivingLength number more) value h tick = λ d. d
+next_up ground p memory end (GivingIndex number more) value h tick = items_up (number + 1) more
+next_up ground p memory end RingingPoll value h tick = λ d. d
+
+tick_up : (who : Who) (phase : Phase) (value : ℕ) → (2 ≤ state_of phase → 1 ≤ value) → ¬ IsDown (tick_place who (move_on phase value))
+tick_up who Reset zero some = λ d. d
+tick_up who Reset (suc zero) some = λ d. d
+tick_up who Reset (suc (suc more)) some = λ d. d
+tick_up who Init zero some = λ d. d
+tick_up who Init (suc more) some = clear_up who.own who.words 2 refl
+tick_up who Ready zero some = λ d. let one : 1 ≤ 0 = some (omega arith) in omega arith
+tick_up who Ready (suc zero) some = λ d. d
+tick_up who Ready (suc (suc more)) some = λ d. d
+tick_up who Run zero some = λ d. let one : 1 ≤ 0 = some (omega arith) in omega arith
+tick_up who Run (suc more) some = λ d. d
+
+move_up : (who : Who) (handshake : Standing) (value : ℕ) → (2 ≤ state_of handshake.phase → 1 ≤ value) → ¬ IsDown (tick_place who (move_of handshake value))
+move_up who handshake value some = by_mark handshake.mark
+  where
+    by_mark : (b : Bool) → ¬ IsDown (tick_place who (if b then Stay else move_on handshake.phase value))
+    by_mark true = λ d. d
+    by_mark false = tick_up who handshake.phase value some
+
+first_up : (who : Who) (end : End) (call : Call) → call ≢ Stop → ¬ IsDown (first_place who end call)
+first_up who end Tick ne = λ d. d
+first_up who end Stop ne = absurd (ne refl)
+first_up who end (Offer frame) ne = test_up (in_run end.handshake.phase) (AtUsedIndex (job_of who end frame) end.freed) Downed (λ d. d) (λ d. d)
+first_up who end Poll ne = test_up (in_run end.handshake.phase) (AtAvailIndex (length end.delivered)) Downed (λ d. d) (λ d. d)
+
+-- Runs
+
+honest_lem : (ground : Ground) (memory : ℕ → ℕ) (ends : ℕ → End) (places : ℕ → Place) → CalmRuns ground memory ends places → HonestRuns ground memory ends places
+honest_lem ground _ _ _ (starts memory ends places none new closed) = honest.starts memory ends places none new closed
+honest_lem ground _ _ _ (begins memory ends after_ends places after_places p call run p2 ne begun) = honest.begins memory ends after_ends places after_places p call (honest_lem ground memory ends places run) p2 refl begun
+honest_lem ground _ _ _ (steps memory after ends after_ends places after_places p value run p2 step) = honest.steps memory after ends after_ends places after_places p value (honest_lem ground memory ends places run) p2 refl step
+honest_lem ground _ _ _ (others memory after ends places run keep) = honest.others memory after ends places (honest_lem ground memory ends places run) (λ q q2 _. keep q q2)
+
+-- the ends are calm sides, and none is about to set 0
+record AreCalm (ground : Ground) (ends : ℕ → End) (places : ℕ → Place) : Type 0 where
+  sides : ℕ → Side
+  logs : ℕ → Log
+  run : MachineRuns ground.sizes (λ p. true) sides logs
+  are : (p : ℕ) → p < 2 → SideIs (ends p) (places p) (sides p)
+  calm : (p : ℕ) → p < 2 → Calm (sides p) (sides (1 - p)) (logs p)
+  up : (p : ℕ) → p < 2 → ¬ IsDown (places p)
+
+moved : (ground : Ground) (ends after_ends : ℕ → End) (places after_places : ℕ → Place) (p : ℕ) (end : End) (place : Place) (new : Side) → p < 2 → (r : AreCalm ground ends places) → Along ground.sizes r.sides p new → SideIs end place new → ¬ IsDown place →
+    OnlyComes ends after_ends places after_places p end place → AreCalm ground after_ends after_places
+moved ground ends after_ends places after_places p end place new p2 r x is up only = record {
+  sides = x.sides';
+  logs = x.logs';
+  run = x.run;
+  calm = x.calm;
+  are = λ q q2. dite (ℕ_discrete q p)
+      (λ e. side_like end (after_ends q) place (after_places q) new (x.sides' q) (ap after_ends e ∙ only.end_is) (ap after_places e ∙ only.place_is) (ap x.sides' e ∙ x.side_is) is)
+      (λ ne. side_like (ends q) (after_ends q) (places q) (after_places q) (r.sides q) (x.sides' q) (only.ends_stay q ne) (only.places_stay q ne) (x.sides_stay q ne) (r.are q q2));
+  up = λ q q2. dite (ℕ_discrete q p)
+      (λ e. subst (λ x. ¬ IsDown x) (sym (ap after_places e ∙ only.place_is)) up)
+      (λ ne. subst (λ x. ¬ IsDown x) (sym (only.places_stay q ne)) (r.up q q2));
+}
+
+calm_lem : (ground : Ground) (memory : ℕ → ℕ) (ends : ℕ → End) (places : ℕ → Place) → IsGround ground → CalmRuns ground memory ends places → AreCalm ground ends places
+calm_lem ground _ _ _ is (starts memory ends places none new closed) = record {
+  sides = λ p. fresh_side;
+  logs = λ p. no_sessions;
+  run = machine.starts (λ p. fresh_side) (λ p. no_sessions) (λ p. refl) (λ p. refl);
+  are = λ p p2. side_like fresh (ends p) Closed (places p) fresh_side fresh_side (new p) (closed p) refl follow_lem.starts;
+  calm = λ p p2. record { most = omega arith; stays = λ one. absurd (omega arith); none = λ e. (refl, refl); low = λ e. inl refl };
+  up = λ p p2 d. subst IsDown (closed p) d;
+}
+calm_lem ground _ _ _ is (begins memory ends after_ends places after_places p call run p2 ne begun) = let r = calm_lem ground memory ends places is run in
+    moved ground ends after_ends places after_places p (ends p) (first_place (who_of ground p) (ends p) call) (r.sides p) p2 r
+    record { sides' = r.sides; logs' = r.logs; run = r.run; calm = r.calm; side_is = refl; sides_stay = λ q ne. refl }
+    (follow_lem.begins (who_of ground p) (ends p) call (r.sides p) (subst (λ (x : Place). SideIs (ends p) x (r.sides p)) begun.closed (r.are p p2))) (first_up (who_of ground p) (ends p) call ne) begun.comes
+calm_lem ground _ _ _ is (steps memory after ends after_ends places after_places p value run p2 step) = let r = calm_lem ground memory ends places is run in let o2 : 1 - p < 2 = omega arith in
+    let held = whole_lem ground (λ p. true) memory ends places is (honest_lem ground memory ends places run) in let who = who_of ground p in
+    let state : (r.sides (1 - p)).state ≡ memory (1 - p) = (r.are (1 - p) o2).state ∙ sym (held.alone (1 - p) o2 refl).state in
+    let f = follow_lem.steps ground (λ p. true) memory ends places p value (r.sides p) (r.sides (1 - p)) is p2 refl held (r.are p p2) state (λ _. r.are (1 - p) o2) step.opened step.meets in
+    moved ground ends after_ends places after_places p _ (next_place who (places p) value) f.0 p2 r
+    (along ground.sizes p p2 (told_by (step_at who (places p) value)) r.sides r.logs f.0 r.run r.calm (tolds_up who (places p) value (r.up p p2) ((held.pair refl refl).sound p p2).1) f.1) f.2
+    (next_up ground p memory (ends p) (places p) value (held.alone p p2 refl).holds (λ handshake at. move_up who handshake value (λ high. some r handshake at (subst (λ x. Holds ground memory p (ends p) x) at (held.alone p p2 refl).holds) state (subst (λ x. Meets memory (access_at who x) value) at step.meets) high))) step.comes
+  where
+    some : (r : AreCalm ground ends places) (handshake : Standing) → places p ≡ AtState handshake → handshake ≡ (ends p).handshake → (r.sides (1 - p)).state ≡ memory (1 - p) → value ≡ memory (1 - p) → 2 ≤ state_of handshake.phase → 1 ≤ value
+    some r handshake at same state met high = let o2 : 1 - p < 2 = omega arith in let back : 1 - (1 - p) ≡ p = omega arith in
+        let mine : (r.sides p).state ≡ state_of handshake.phase = (r.are p p2).state ∙ ap (λ (h : Standing). state_of h.phase) (sym same) in
+        dite (ℕ_discrete value 0)
+        (λ e. let low : ((r.sides p).state ≡ 0) ⊎ (((r.sides p).state ≡ 1) × ¬ SawSome (r.sides p).seen) = subst (λ k. ((r.sides k).state ≡ 0) ⊎ (((r.sides k).state ≡ 1) × ¬ SawSome (r.sides k).seen)) back ((r.calm (1 - p) o2).low (state ∙ (sym met ∙ e))) in
+        ⊎_elim (λ z. absurd (omega arith)) (λ z. absurd (let one = z.0 in omega arith)) low)
+        (λ ne. omega arith)
+calm_lem ground _ _ _ is (others memory after ends places run keep) = calm_lem ground memory ends places is run
+
+-- What follows
+
+phase_reset : (phase : Phase) → state_of phase ≡ 0 → phase ≡ Reset
+phase_reset Reset e = refl
+phase_reset Init e = absurd (omega arith)
+phase_reset Ready e = absurd (omega arith)
+phase_reset Run e = absurd (omega arith)
+
+phase_init : (phase : Phase) → state_of phase ≡ 1 → phase ≡ Init
+phase_init Reset e = absurd (omega arith)
+phase_init Init e = refl
+phase_init Ready e = absurd (omega arith)
+phase_init Run e = absurd (omega arith)
+
+-- in INIT a tick that moves saw some
+saw_some : (value state : ℕ) → MovesTo Init value state → 1 ≤ value
+saw_some zero state (inl e) = absurd (cc)
+saw_some zero state (inr e) = absurd (cc)
+saw_some (suc n) state moves = omega arith
+
+saw_for : (end : End) (seen : Option ℕ) (state : ℕ) → end.handshake.phase ≡ Init → SawFor end seen state → SawSome seen
+saw_for end seen state init saw = subst SawSome (sym saw.1) (saw_some saw.0 state (subst (λ x. MovesTo x saw.0 state) init saw.2))
+
+still_is : (end : End) (place : Place) (side : Side) → end.handshake.phase ≡ Init → SideIs end place side → ¬ SawSome side.seen → IsStill place
+still_is end place side init si none = record {
+  clears = λ at more state e. none (saw_for end side.seen state init (subst (λ x. SeenIs end x side.seen) e si.seen));
+  sets = λ e. ⊎_elim (λ z. absurd (let two : 2 ≡ 0 = z in omega arith)) (λ saw. none (saw_for end side.seen 2 init saw)) (subst (λ x. SeenIs end x side.seen) e si.seen);
+}
+
+pub deliver_lem : CalmRunsDeliver
+deliver_lem ground memory ends places is run = let r = calm_lem ground memory ends places is run in (r.sides, r.logs, r.run, λ p p2. (r.are p p2, once r p p2, prefix r p p2))
+  where
+    once : (r : AreCalm ground ends places) (p : ℕ) → p < 2 → IsOnce (ends p) (ends (1 - p)) (places p) (places (1 - p)) (r.logs p)
+    once r p p2 = let o2 : 1 - p < 2 = omega arith in let c = r.calm p p2 in let mine = r.are p p2 in let theirs = r.are (1 - p) o2 in record {
+      most = c.most;
+      stays = λ one. let two = c.stays one in let s = mine.state in omega arith;
+      counted = λ two. (half_of ground.sizes (λ p. true) r.sides r.logs refl refl r.run p p2).one (let s = mine.state in omega arith);
+      none = λ e. let old = c.none e in (sym mine.accepted ∙ old.0, sym mine.delivered ∙ old.1);
+      up = λ e. r.up p p2 (subst IsDown (sym e) tt);
+      low = λ reset. ⊎_elim (λ z. inl (phase_reset (ends (1 - p)).handshake.phase (sym theirs.state ∙ z)))
+          (λ z. let init = phase_init (ends (1 - p)).handshake.phase (sym theirs.state ∙ z.0) in inr (init, still_is (ends (1 - p)) (places (1 - p)) (r.sides (1 - p)) init theirs z.1))
+          (c.low (mine.state ∙ ap state_of reset));
+    }
+
+    prefix : (r : AreCalm ground ends places) (p : ℕ) → p < 2 → (rest : List (List ℕ)) × ((ends p).accepted ≡ (ends (1 - p)).delivered ++ rest)
+    prefix r p p2 = let o2 : 1 - p < 2 = omega arith in let back : 1 - (1 - p) ≡ p = omega arith in let s = r.sides (1 - p) in
+        let h = half_of ground.sizes (λ p. true) r.sides r.logs refl refl r.run (1 - p) o2 in let few = h.few in let c = r.calm (1 - p) o2 in
+        let mine = r.are p p2 in let theirs = r.are (1 - p) o2 in
+        dite (ℕ_discrete s.state 3)
+        (λ e. let f = h.prefix (inl (inl e)) in (f.0, sym mine.accepted ∙ (ap (λ k. (r.sides k).accepted) (sym back) ∙ (f.1 ∙ ap (λ (x : List (List ℕ)). x ++ f.0) theirs.delivered))))
+        (λ ne. let none : s.delivered ≡ [] = dite (ℕ_discrete s.state 2) (λ e. (h.ready e).1) (λ other. (c.none (dite (ℕ_discrete (r.logs (1 - p)).opened 0) (λ z. z) (λ some. absurd (let two = c.stays (omega arith) in omega arith)))).1) in
+        ((ends p).accepted, ap (λ (x : List (List ℕ)). x ++ (ends p).accepted) (sym none ∙ theirs.delivered)))

@@ -1,0 +1,4 @@
+pub mod Hands
+pub mod Following
+pub mod Reaching
+pub mod Once

@@ -1,0 +1,78 @@
+-- A sample reads each field once.
+use Rattle.std.proofs.Common.{◌≡◌, ◌≢◌, ℕ, zero, suc, ◌+◌, ◌<◌, ◌≤◌, Bool, true, false, inl, inr, List, [], ◌∷◌, ◌++◌, length, take, map, refl, sym, ap, ◌∙◌, subst, arith}
+use Rattle.std.specs.Prelude.{◌==◌, nat_lt, if◌then◌else◌, Option}
+use Rattle.split_ring.specs.declared.steps.Access.TheVariants.{Read}
+use Rattle.call_grammar.specs.ReadsOnce.{read_by, reads_of, IsNone, AreDistinct}
+use Rattle.call_grammar.specs.Words.{words_for, word_bytes}
+use Rattle.sampling_port.specs.Layout.{length_place, data_place}
+use Rattle.sampling_port.specs.Marks.{PortMark}
+use Rattle.sampling_port.specs.Trees.{PortTree, Ended, PortStep, port_step, Makes, unmarked_step}
+use Rattle.sampling_port.specs.Calls.{sample, read_length, read_words, look_again, is_length}
+use Rattle.sampling_port.specs.Laws.{IsReadOnce, FieldsAreReadOnce}
+use Rattle.sampling_port.proofs.Reaching.{length_place_least}
+
+abbrev reads : List PortStep → List ℕ
+reads steps = reads_of (map unmarked_step steps)
+
+-- so many words from this one on
+abbrev words_from : ℕ → ℕ → ℕ → List ℕ
+words_from base at zero = []
+words_from base at (suc more) = (base + at) ∷ words_from base (at + 1) more
+
+none_from : (word base at count : ℕ) → word < base + at → IsNone word (words_from base at count)
+none_from word base at zero low = tt
+none_from word base at (suc more) low = ((λ e. omega arith), none_from word base (at + 1) more (omega arith))
+
+distinct_from : (base at count : ℕ) → AreDistinct (words_from base at count)
+distinct_from base at zero = tt
+distinct_from base at (suc more) = (none_from (base + at) base (at + 1) more (omega arith), distinct_from base (at + 1) more)
+
+-- the read that a step makes
+first_read : (step : PortStep) (word value : ℕ) (mark : Option PortMark) (steps : List PortStep) → step ≡ port_step (Read word) value mark → reads (step ∷ steps) ≡ word ∷ reads steps
+first_read step word value mark steps e = ap (λ (s : PortStep). read_by s.access ++ reads steps) e
+
+again_reads : (theirs number : ℕ) (message : List ℕ) (steps : List PortStep) → Makes (look_again theirs number message) steps → reads steps ≡ theirs ∷ []
+again_reads theirs number message [] m = absurd m
+again_reads theirs number message (step ∷ steps) m = first_read step theirs m.0 _ steps m.1 ∙ ap (λ (l : List PortStep). theirs ∷ reads l) m.2
+
+words_read : (theirs most number bytes : ℕ) (read : List ℕ) (at count : ℕ) (steps : List PortStep) → Makes (read_words theirs most number bytes read at count) steps →
+    reads steps ≡ words_from (theirs + data_place most number) at count ++ theirs ∷ []
+words_read theirs most number bytes read at zero steps m = again_reads theirs number read steps m
+words_read theirs most number bytes read at (suc more) [] m = absurd m
+words_read theirs most number bytes read at (suc more) (step ∷ steps) m =
+    first_read step (theirs + data_place most number + at) m.0 _ steps m.1
+    ∙ ap (λ (l : List ℕ). (theirs + data_place most number + at) ∷ l) (words_read theirs most number bytes (take bytes (read ++ word_bytes m.0)) (at + 1) more steps m.2)
+
+-- the reads after the first look: the length alone, or the length, the words and the sequence again
+after_length : (theirs most number value : ℕ) (steps : List PortStep) (b : Bool) →
+    Makes (if b then read_words theirs most number value [] 0 (words_for value) else Ended) steps → IsReadOnce theirs (theirs ∷ (theirs + length_place most number) ∷ reads steps)
+after_length theirs most number value steps true m =
+    let first = theirs + length_place most number in
+    let words = words_from (theirs + data_place most number) 0 (words_for value) in
+    let least = length_place_least most number in
+    inr (
+      first ∷ words,
+      ap (λ (l : List ℕ). theirs ∷ first ∷ l) (words_read theirs most number value [] 0 (words_for value) steps m),
+      (((λ e. omega arith), none_from theirs _ 0 (words_for value) (omega arith)), (none_from first _ 0 (words_for value) (omega arith), distinct_from _ 0 (words_for value))),
+    )
+after_length theirs most number value steps false m =
+    let least = length_place_least most number in
+    let none : reads steps ≡ [] = ap reads m in
+    inl (subst (λ (l : List ℕ). AreDistinct (theirs ∷ (theirs + length_place most number) ∷ l)) (sym none) (((λ e. omega arith), tt), (tt, tt)))
+
+message_once : (theirs most number : ℕ) (steps : List PortStep) → Makes (read_length theirs most number) steps → IsReadOnce theirs (theirs ∷ reads steps)
+message_once theirs most number [] m = absurd m
+message_once theirs most number (step ∷ steps) m =
+    subst (λ (l : List ℕ). IsReadOnce theirs (theirs ∷ l)) (sym (first_read step (theirs + length_place most number) m.0 _ steps m.1)) (after_length theirs most number m.0 steps (is_length most m.0) m.2)
+
+ended_once : (theirs : ℕ) (steps : List PortStep) → Makes Ended steps → IsReadOnce theirs (theirs ∷ reads steps)
+ended_once theirs steps m = let none : reads steps ≡ [] = ap reads m in inl (subst (λ (l : List ℕ). AreDistinct (theirs ∷ l)) (sym none) (tt, tt))
+
+rest_once : (theirs most value : ℕ) (steps : List PortStep) (b c : Bool) → Makes (if b then Ended else if c then Ended else read_length theirs most value) steps → IsReadOnce theirs (theirs ∷ reads steps)
+rest_once theirs most value steps true c m = ended_once theirs steps m
+rest_once theirs most value steps false true m = ended_once theirs steps m
+rest_once theirs most value steps false false m = message_once theirs most value steps m
+
+pub once : FieldsAreReadOnce
+once theirs most last [] m = absurd m
+once theirs most last (step ∷ steps) m = subst (IsReadOnce theirs) (sym (first_read step theirs m.0 _ steps m.1)) (rest_once theirs most m.0 steps (nat_lt m.0 last) (m.0 == 0) m.2)

@@ -1,0 +1,70 @@
+-- What holds of every port, and why there is none.
+use Rattle.std.specs.Prelude.{ℕ, ◌≡◌, ◌+◌, ◌*◌, ◌/◌, ◌<◌, ◌≤◌, ◌⊎◌, true, Some, None, List, [], ◌∷◌, ◌++◌, length, map, false, slice_index}
+use Rattle.section_map.specs.Geometry.{Shape, section_start}
+use Rattle.section_map.specs.MayWrite.{InSection}
+use Rattle.split_ring.specs.declared.steps.Access.{Access}
+use Rattle.split_ring.specs.declared.steps.Access.TheVariants as access
+use Rattle.call_grammar.specs.Ticks.{Who}
+use Rattle.call_grammar.specs.Reach.{StaysInReach}
+use Rattle.call_grammar.specs.ReadsOnce.{reads_of, AreDistinct}
+use Rattle.sampling_port.specs.declared.notes.PortFault.{PortFault}
+use Rattle.sampling_port.specs.declared.notes.PortFault.TheVariants.{BadMessage, TooSmall, NoMemory}
+use Rattle.sampling_port.specs.declared.place.Place.TheVariants.{Closed}
+use Rattle.sampling_port.specs.Layout.{IsMessageSize, port_words}
+use Rattle.sampling_port.specs.Marks.{marked}
+use Rattle.sampling_port.specs.Trees.{PortTree, Ended, PortStep, port_step, Goes, Makes, unmarked, unmarked_step}
+use Rattle.sampling_port.specs.Calls.{publish, sample}
+use Rattle.sampling_port.specs.Views.{PortView, IsPort, is_busy, own, theirs, access_at, note_at, port_after, left, left_at, publishing, sampling}
+
+-- why a geometry has no port for messages of so many bytes; sizes are in bytes
+abbrev pub IsPortFault : Shape → ℕ → PortFault → Type 0
+IsPortFault shape most (BadMessage found) = (¬ IsMessageSize most) × (found ≡ most)
+IsPortFault shape most (TooSmall need found) = IsMessageSize most × (need ≡ 4 * port_words most) × (found ≡ 4 * shape.out) × (found < need)
+IsPortFault shape most NoMemory = Unit {0}
+
+-- the access writes a word of the own section, or reads one of a peer's
+abbrev pub IsInReach : PortView → Access → Type 0
+IsInReach port (access.Read word) = (from : ℕ) × (from < port.shape.peers) × InSection port.shape from word
+IsInReach port (access.Write word value) = InSection port.shape port.me word
+IsInReach port (access.State state) = ⊥
+IsInReach port (access.Ring target vector) = ⊥
+IsInReach port access.Nothing = ⊥
+
+-- two peers, as the call grammar of the link sees them: the first makes the calls
+abbrev pub who_of : Shape → (me from : ℕ) → Who
+who_of shape me from = record {
+  me = me;
+  other = from;
+  own = section_start shape me;
+  theirs = section_start shape from;
+  words = shape.out;
+  sizes = record { out = 4 * shape.out; mtu = 256 };
+  vector = 0;
+}
+
+-- a publish and a sample stay in reach as the calls of a link's end do
+pub record CallsStayInReach : Type 0 where
+  pub publishes : (shape : Shape) (me from most number : ℕ) (message : List ℕ) → IsMessageSize most → port_words most ≤ shape.out → length message ≤ most →
+      StaysInReach (who_of shape me from) (unmarked (publish (section_start shape me) most number message))
+  pub samples : (shape : Shape) (me from most last : ℕ) → IsMessageSize most → port_words most ≤ shape.out →
+      StaysInReach (who_of shape me from) (unmarked (sample (section_start shape from) most last))
+
+-- a sample's reads: no word twice, or the first word once more behind those
+abbrev pub IsReadOnce : ℕ → List ℕ → Type 0
+IsReadOnce sequence reads = AreDistinct reads ⊎ ((front : List ℕ) × (reads ≡ sequence ∷ (front ++ sequence ∷ [])) × AreDistinct (sequence ∷ front))
+
+abbrev pub FieldsAreReadOnce : Type 0
+FieldsAreReadOnce = (theirs most last : ℕ) (steps : List PortStep) → Makes (sample theirs most last) steps → IsReadOnce theirs (reads_of (map unmarked_step steps))
+
+-- the step of a port that met this value: a message got is the one in hand
+abbrev pub step_of_port : PortView → ℕ → PortStep
+step_of_port port value = port_step (access_at port port.place) value (marked port.hand (note_at port port.place value))
+
+-- a port goes along its call, and along nothing else
+pub record PortsFollowCalls : Type 0 where
+  pub publishes : (port : PortView) (message : List ℕ) → left (publishing port message) ≡ publish (own port) port.most (port.published + 1) message
+  pub samples : (port : PortView) (from : ℕ) → left (sampling port from) ≡ sample (theirs port from) port.most (slice_index port.lasts from)
+  pub comes : (port : PortView) (value : ℕ) → is_busy port ≡ true → Goes (left port) (step_of_port port value) (left (port_after port port.place value))
+  pub goes : (port : PortView) (step : PortStep) (rest : PortTree) → Goes (left port) step rest →
+      (value : ℕ) × (step ≡ step_of_port port value) × (rest ≡ left (port_after port port.place value))
+  pub ended : (port : PortView) → is_busy port ≡ false → left port ≡ Ended

@@ -1,0 +1,28 @@
+-- What a sender does after the write of a word of the frame.
+use Rattle.std.proofs.Common.{◌≡◌, ℕ, zero, suc, ◌+◌, ◌-◌, ◌<◌, List, [], refl, sym, ap, ◌∙◌, subst, arith}
+use Rattle.std.proofs.lemmas.Grind.{common_steps}
+use Rattle.split_ring.specs.declared.steps.Note.{Note}
+use Rattle.frame_slots.specs.declared.slots.Slot as slots
+use Rattle.tx_engine.specs.declared.place.Place.{Place}
+use Rattle.tx_engine.specs.declared.place.Place.TheVariants.{Filling, WritingLow}
+use Rattle.tx_engine.specs.Sender.{Sender, IsSender}
+use Rattle.tx_engine.specs.Stands.{Takes}
+
+-- a word that isn't the last one
+fills_on : (tx : Sender) (slot : slots.Slot) (at more value : ℕ) → IsSender tx → tx.place ≡ Filling slot at (suc more) →
+    Takes tx value [] (record tx { place = Filling slot (at + 1) more })
+fills_on tx slot at more value is here = grind (arith, common_steps)
+
+-- the last word
+fills_last : (tx : Sender) (slot : slots.Slot) (at value : ℕ) → IsSender tx → tx.place ≡ Filling slot at 0 → Takes tx value [] (record tx { place = WritingLow slot })
+fills_last tx slot at value is here = grind (arith, common_steps)
+
+pub word_written : (tx new : Sender) (slot : slots.Slot) (at more value : ℕ) (place : Place) (notes : List Note) → IsSender tx → tx.place ≡ Filling slot at more →
+    (0 < more → place ≡ Filling slot (at + 1) (more - 1)) → (more ≡ 0 → place ≡ WritingLow slot) → new ≡ record tx { place = place } → notes ≡ [] → Takes tx value notes new
+word_written tx new slot at zero value place notes is here on last new_is notes_are =
+    subst (λ n. Takes tx value n new) (sym notes_are)
+    (subst (λ s. Takes tx value [] s) (sym (new_is ∙ ap (λ p. let s : Sender = record tx { place = p } in s) (last refl))) (fills_last tx slot at value is here))
+word_written tx new slot at (suc more) value place notes is here on last new_is notes_are =
+    let goes : place ≡ Filling slot (at + 1) more = on (omega arith) ∙ ap (λ m. Filling slot (at + 1) m) (omega arith) in
+    subst (λ n. Takes tx value n new) (sym notes_are)
+    (subst (λ s. Takes tx value [] s) (sym (new_is ∙ ap (λ p. let s : Sender = record tx { place = p } in s) goes)) (fills_on tx slot at more value is here))

@@ -8,8 +8,13 @@ mod failures;
 mod faults;
 mod forms;
 mod laws;
+mod own_trace;
+mod own_traces;
 mod printing;
 mod reading;
+mod run_forms;
+mod run_printing;
+mod run_trace;
 mod taking;
 #[cfg(test)]
 mod tests;
@@ -17,6 +22,10 @@ mod trace;
 
 pub use faults::{RecordCause, RecordFault};
 pub use laws::{bytes_after_end_are_bad_line, cut_is_no_end, fault_is_first};
+pub use own_trace::OwnTrace;
+pub use own_traces::OwnTraces;
 pub use printing::print;
 pub use reading::parse;
+pub use run_printing::print_run;
+pub use run_trace::RunTrace;
 pub use trace::Trace;

@@ -57,7 +57,7 @@ fn value_of(refused: &Refused) -> u64
 }
 
 /// Puts a history line last.
-fn put_history_line(out: &mut Vec<u8>, line: &Line) -> Result<(), AllocError>
+pub fn put_history_line(out: &mut Vec<u8>, line: &Line) -> Result<(), AllocError>
     ensures put { OnOk result (out.new.items ≡ out.old.items ++ line_of_row pieces_of (row_of_line line.now)) }
     ensures fits { Fits line.now }
 {

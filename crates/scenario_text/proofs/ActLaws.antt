@@ -14,11 +14,11 @@ or_assoc : (a b c : Bool) → (a || (b || c)) ≡ ((a || b) || c)
 or_assoc true b c = refl
 or_assoc false b c = refl
 
-any_added : (test : Act → Bool) (xs : List Act) (x : Act) → list_any test (xs ++ x ∷ []) ≡ (list_any test xs || test x)
+pub any_added : (test : Act → Bool) (xs : List Act) (x : Act) → list_any test (xs ++ x ∷ []) ≡ (list_any test xs || test x)
 any_added test [] x = or_false (test x)
 any_added test (y ∷ xs) x = ap (λ (b : Bool). test y || b) (any_added test xs x) ∙ or_assoc (test y) (list_any test xs) (test x)
 
-eqb_refl : (n : ℕ) → eqb n n ≡ true
+pub eqb_refl : (n : ℕ) → eqb n n ≡ true
 eqb_refl n = eq-eqb n n refl
 
 auto_at : (act : Act) (p : ℕ) → is_auto p act ≡ (is_auto (peer_of act) act && eqb (peer_of act) p)

@@ -12,3 +12,4 @@ pub mod ForwardLaws
 pub mod PrintLaws
 pub mod LawLaws
 pub mod LoadLaws
+pub mod RunningLaws

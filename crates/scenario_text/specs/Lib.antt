@@ -10,3 +10,4 @@ pub mod Answers
 pub mod Drafts
 pub mod Laws
 pub mod Loads
+pub mod Running

@@ -14,6 +14,7 @@ mod laws;
 mod loads;
 mod printing;
 mod reading;
+mod running;
 mod scenarios;
 mod stages;
 mod taking;
@@ -30,4 +31,5 @@ pub use laws::{
 pub use loads::load;
 pub use printing::{print, put_scenario};
 pub use reading::parse;
+pub use running::not_running;
 pub use scenarios::Scenario;

@@ -28,14 +28,14 @@ const MOST_TURNS: u64 = 4_000_000;
 
 impl Act {
     /// Does the peer choose its calls from here on?
-    fn is_auto(&self) -> bool
+    pub(crate) fn is_auto(&self) -> bool
         ensures { result ≡ is_auto (peer_of self.now) self.now }
     {
         matches!(self, Act::Auto { .. })
     }
 
     /// Are the peer's turns generated writes from here on?
-    fn is_storm(&self) -> bool
+    pub(crate) fn is_storm(&self) -> bool
         ensures { result ≡ is_storm (peer_of self.now) self.now }
     {
         matches!(self, Act::Storm { .. })
@@ -86,7 +86,7 @@ fn frame(
 }
 
 /// Sets the flag of the peer where it is on.
-fn mark(flags: &mut [bool; 8], peer: usize, on: bool)
+pub fn mark(flags: &mut [bool; 8], peer: usize, on: bool)
     requires { peer < 8 }
     ensures { (p : ℕ) → slice_index_or flags.new p false ≡ (slice_index_or flags.old p false || (on && (peer == p))) }
 {

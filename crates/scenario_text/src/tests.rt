@@ -1,4 +1,4 @@
-use crate::{Act, ScenarioFault, load, parse, print};
+use crate::{Act, ScenarioFault, load, not_running, parse, print};
 use std::alloc::Global;
 use std::test::Fail;
 
@@ -140,5 +140,39 @@ fn load_of_one_frame(rt: HostRuntime) -> Result<(), Fail> {
     let scenario = load(rt.alloc(), 1)?;
     let printed = print(rt.alloc(), &scenario)?;
     assert!(rt; printed == text, "the text of a load of one frame");
+    Ok(())
+}
+
+#[test]
+fn running_form(rt: HostRuntime) -> Result<(), Fail> {
+    let cases: [(&[u8], Option<u64>); 15] = [
+        (b"end\n", None),
+        (
+            b"auto 0 0\noffer 0 ffffffffffff0200000000010800\nstorm 1 7\nturn 0 20000\nturn 1 20000\nend\n",
+            None,
+        ),
+        (b"storm 1 7\nauto 0 1\nturn 1 0\nend\n", None),
+        (b"tick 0\ntick 0\nend\n", Some(11)),
+        (b"offer 0 ffffffffffff0200000000010800\nend\n", Some(11)),
+        (b"auto 0 0\npeek 1 0\nturn 0 5\nend\n", Some(12)),
+        (b"auto 0 0\nmmio 1 w 8 1\nturn 0 5\nend\n", Some(12)),
+        (b"auto 0 0\nlose 0\nturn 0 5\nend\n", Some(12)),
+        (b"turn 0 5\nauto 0 0\nend\n", Some(11)),
+        (b"auto 0 0\nturn 0 5\nstorm 1 7\nturn 1 5\nend\n", Some(12)),
+        (
+            b"auto 0 0\nstorm 1 7\nturn 0 5\nturn 1 5\noffer 0 ffffffffffff0200000000010800\nend\n",
+            Some(13),
+        ),
+        (b"auto 0 0\nturn 0 5\nturn 0 5\nreset 0\nend\n", Some(12)),
+        (b"auto 0 0\nturn 0 5\nturn 0 5\nend\n", Some(13)),
+        (b"auto 0 0\nturn 1 5\nturn 0 5\nend\n", Some(12)),
+        (b"auto 0 0\nturn 0 5\nturn 1 5\nend\n", Some(13)),
+    ];
+    for (acts, line) in cases {
+        let mut text = WITH_HOSTILE.to_vec(rt.alloc())?;
+        text.extend_from_slice(acts)?;
+        let scenario = parse(rt.alloc(), &text)?;
+        assert!(rt; not_running(&scenario) == line, "{line:?}");
+    }
     Ok(())
 }

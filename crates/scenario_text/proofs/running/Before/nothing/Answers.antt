@@ -1,0 +1,11 @@
+use Rattle.std.proofs.Common.{sym, ◌∙◌}
+use Rattle.scenario_text.proofs.ActLaws.{no_flags, no_autos, no_storms}
+use Rattle.scenario_text.proofs.RunningLaws.{no_turns}
+use Rattle.scenario_text.proofs.running.Before.nothing.Goals as goal
+
+pub returns : goal.returns
+returns c = record {
+  autos = λ p. no_flags p ∙ sym (no_autos p);
+  storms = λ p. no_flags p ∙ sym (no_storms p);
+  turns = λ p. no_flags p ∙ sym (no_turns p);
+}

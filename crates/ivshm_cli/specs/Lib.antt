@@ -5,3 +5,4 @@ pub mod Load
 pub mod Replay
 pub mod Forms
 pub mod Due
+pub mod Whole

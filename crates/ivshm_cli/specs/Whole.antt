@@ -1,0 +1,46 @@
+-- The headline whole: what holds of every record that `sim` writes, law by law.
+use Rattle.std.specs.Prelude.{ℕ, ◌≡◌, ◌≢◌, ◌-◌, ◌<◌, true, List, [], ◌∷◌, ◌++◌, length, reverse, All}
+use Rattle.section_map.specs.MayWrite.{MayWrite}
+use Rattle.split_ring.specs.declared.ranges.Refused.{Refused}
+use Rattle.ivs_base.specs.Ends.{Input, Output}
+use Rattle.scenario_text.specs.Scenario.{World, is_link}
+use Rattle.lawful_history.specs.declared.line.Line.{Line}
+use Rattle.lawful_history.specs.declared.line.Line.TheVariants as line
+use Rattle.lawful_history.specs.Memory.{WasWrittenLast}
+use Rattle.lawful_history.specs.Sides.{who_of}
+use Rattle.link_machine.specs.LinkMachine.{DeliversInOrder}
+use Rattle.history_laws.specs.Told.{side_of}
+use Rattle.history_laws.specs.Rows.{KeepsRows}
+use Rattle.history_laws.specs.Reads.{got, reads_of, IsReadFrame, IsReadBeyond}
+use Rattle.history_laws.specs.Refusals.{IsRefusal}
+use Rattle.history_laws.specs.Sessions.{log_of}
+use Rattle.history_laws.specs.Spelled.{SpellsNext}
+use Rattle.ivshm_cli.specs.Headline.{Simulates}
+
+-- A history that keeps the laws
+pub record KeepsTheLaws (world : World) (history : List Line) : Type 0 where
+  -- each peer writes its own and common words alone, and reads what was written last
+  pub writes : (before after : List Line) (peer word value : ℕ) → history ≡ before ++ line.Write peer word value ∷ after → MayWrite world.geometry peer word
+  pub reads : (before after : List Line) (peer word value : ℕ) → history ≡ before ++ line.Read peer word value ∷ after → WasWrittenLast before word value
+  -- each line of a link peer has its row of the link machine
+  pub rows : KeepsRows world (reverse history)
+  -- a delivered frame is the one that was read for its item, each field once and in range; an accepted one stands in its peer's section
+  pub once : (before after : List Line) (p : ℕ) (frame : List ℕ) → history ≡ before ++ line.Deliver p frame ∷ after →
+      IsReadFrame (who_of world p) (length (side_of (reverse before) p).delivered) (reads_of (reverse before) p) frame
+  pub spelled : (before after : List Line) (p : ℕ) (frame : List ℕ) → history ≡ before ++ line.Accept p frame ∷ after → SpellsNext world (reverse before) p frame
+  -- a value read out of range refuses the link at once, by its field; nothing else is refused, and the end stays refused until its reset
+  pub refused : (before after : List Line) (p word value : ℕ) (refused : Refused) → is_link world p ≡ true → history ≡ before ++ line.Read p word value ∷ after →
+      IsReadBeyond (who_of world p) (side_of (reverse before) p) (reads_of (reverse before) p ++ got word value ∷ []) refused.field refused.value →
+      (rest : List Line) × (after ≡ line.Refuse p refused ∷ rest)
+  pub cause : (before after : List Line) (p : ℕ) (refused : Refused) → history ≡ before ++ line.Refuse p refused ∷ after →
+      IsRefusal world (reverse before) p refused × IsReadBeyond (who_of world p) (side_of (reverse before) p) (reads_of (reverse before) p) refused.field refused.value
+  pub stays : (before between after : List Line) (p value : ℕ) (refused : Refused) → history ≡ before ++ line.Refuse p refused ∷ between ++ line.State p value ∷ after →
+      All (λ line. line ≢ line.Reset p) between → value ≡ 0
+  -- two honest link peers never refuse, and at each moment each has delivered in each session a beginning of what the other accepted
+  pub agree : (before after : List Line) (p : ℕ) (refused : Refused) → is_link world 0 ≡ true → is_link world 1 ≡ true → history ≢ before ++ line.Refuse p refused ∷ after
+  pub prefix : (before after : List Line) (p : ℕ) → is_link world 0 ≡ true → is_link world 1 ≡ true → p < 2 → history ≡ before ++ after →
+      DeliversInOrder (side_of (reverse before) p) (side_of (reverse before) (1 - p)) (log_of (reverse before) p) (log_of (reverse before) (1 - p))
+
+-- whatever record `sim` wrote, its history keeps the laws
+abbrev pub RecordsKeepTheLaws : Type 0
+RecordsKeepTheLaws = (before now : Input) (before' now' : Output) → (s : Simulates before now before' now') → KeepsTheLaws s.world s.history

@@ -1,4 +1,4 @@
-//! The ground on which the texts of scenarios and records stand: cutting bytes into lines and lines into
+//! What the texts of scenarios and records stand on: cutting bytes into lines and lines into
 //! fields, numbers in decimal, bytes as hexadecimal digits, and forms of lines as tables of pieces. It stands
 //! on `arrayvec`, `hex`, `itoa` and `memchr`. Its contracts promise that reading a form's fields and writing
 //! them are one relation, so that each value has one spelling, whatever the table of forms is.

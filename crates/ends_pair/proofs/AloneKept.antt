@@ -1,8 +1,9 @@
 -- What an end keeps alone.
-use Rattle.std.proofs.Common.{◌≡◌, ℕ, suc, zero, ◌+◌, ◌%◌, ◌<◌, Bool, true, false, List, length, refl, sym, ap, ◌∙◌, subst, arith}
+use Rattle.std.proofs.Common.{◌≡◌, ◌≢◌, ℕ, suc, zero, ◌+◌, ◌%◌, ◌<◌, Bool, true, false, List, length, refl, sym, ap, ◌∙◌, subst, arith}
 use Rattle.std.specs.Prelude.{if◌then◌else◌, nat_lt}
 use Rattle.std.proofs.lemmas.Nat.{mod_below}
 use Rattle.split_ring.specs.Layout.{size_of, word_place, Entry}
+use Rattle.split_ring.specs.declared.steps.Access.TheVariants as access
 use Rattle.link_handshake.specs.declared.Phase.{Phase}
 use Rattle.link_handshake.specs.declared.Phase.TheVariants.{Reset, Init, Ready, Run}
 use Rattle.link_handshake.specs.PhaseTable.{state_of}
@@ -19,7 +20,7 @@ use Rattle.ends_pair.proofs.Fields.{numbers, one_test, inside, field_read, field
 use Rattle.ends_pair.proofs.Forms.{comes, moves, spelled_kept, sent_kept, next_kept, filled_kept}
 use Rattle.ends_pair.proofs.ReadSteps.{StepsTo, reads_used_index, reads_id, reads_avail_index, reads_entry, reads_low, reads_high, reads_length, reads_flags, reads_word}
 use Rattle.ends_pair.proofs.WriteSteps.{puts_lem, fills, lowers, heightens, measures, unflags, enters, publishes, gives_id, gives_length, gives_index}
-use Rattle.ends_pair.proofs.TickSteps.{reads_state, clears, falls, sets}
+use Rattle.ends_pair.proofs.TickSteps.{not_phase, reads_state, clears, falls, sets}
 
 still : (ground : Ground) (p : ℕ) (memory after : ℕ → ℕ) (end : End) (place : Place) (value : ℕ) → after ≡ memory → StepsTo ground p memory end place value → StepsTo ground p after end place value
 still ground p memory after end place value e h = subst (λ (k : ℕ → ℕ). StepsTo ground p k end place value) (sym e) h
@@ -147,5 +148,38 @@ own_lem ground p memory after end place is p2 left a = by_place place left a.hol
     by_place (GivingIndex number more) left h = (puts_lem ground is p p2 memory after end (GivingIndex number more) left h).only
     by_place place left h = none left
 
+-- in RESET it writes no word
+quiet_lem : (ground : Ground) (p : ℕ) (memory : ℕ → ℕ) (end : End) (place : Place) (word value : ℕ) → Alone ground memory p end place → end.handshake.phase ≡ Reset → access_at (who_of ground p) place ≢ access.Write word value
+quiet_lem ground p memory end place word value a reset e = by_place place e a.holds reset
+  where
+    by_place : (place : Place) → access_at (who_of ground p) place ≡ access.Write word value → Holds ground memory p end place → end.handshake.phase ≡ Reset → ⊥
+    by_place Closed e h = absurd (cc)
+    by_place (AtState handshake) e h = absurd (cc)
+    by_place (Clearing at more state) e h = λ z. not_phase {a = Init} {b = Reset} (λ f. omega arith) h.0 z
+    by_place (Setting state) e h = absurd (cc)
+    by_place Refusing e h = absurd (cc)
+    by_place Downed e h = absurd (cc)
+    by_place (AtUsedIndex job freed) e h = absurd (cc)
+    by_place (AtUsedId job freed more) e h = absurd (cc)
+    by_place (Filling job at more) e h = λ z. not_phase {a = Run} {b = Reset} (λ f. omega arith) h.0 z
+    by_place (WritingLow job) e h = λ z. not_phase {a = Run} {b = Reset} (λ f. omega arith) h.0 z
+    by_place (WritingHigh job) e h = λ z. not_phase {a = Run} {b = Reset} (λ f. omega arith) h.0 z
+    by_place (WritingLength job) e h = λ z. not_phase {a = Run} {b = Reset} (λ f. omega arith) h.0 z
+    by_place (WritingFlags job) e h = λ z. not_phase {a = Run} {b = Reset} (λ f. omega arith) h.0 z
+    by_place (WritingEntry job) e h = λ z. not_phase {a = Run} {b = Reset} (λ f. omega arith) h.0 z
+    by_place (WritingIndex job) e h = λ z. not_phase {a = Run} {b = Reset} (λ f. omega arith) h.0 z
+    by_place RingingOffer e h = absurd (cc)
+    by_place (AtAvailIndex taken) e h = absurd (cc)
+    by_place (AtEntry number more) e h = absurd (cc)
+    by_place (AtLow number more entry) e h = absurd (cc)
+    by_place (AtHigh number more entry low) e h = absurd (cc)
+    by_place (AtLength number more entry address) e h = absurd (cc)
+    by_place (AtFlags number more entry address bytes) e h = absurd (cc)
+    by_place (AtWord number more entry address bytes read words) e h = absurd (cc)
+    by_place (GivingId number more entry) e h = λ z. not_phase {a = Run} {b = Reset} (λ f. omega arith) h.0 z
+    by_place (GivingLength number more) e h = λ z. not_phase {a = Run} {b = Reset} (λ f. omega arith) h.0 z
+    by_place (GivingIndex number more) e h = λ z. not_phase {a = Run} {b = Reset} (λ f. omega arith) h.0 z
+    by_place RingingPoll e h = absurd (cc)
+
 pub alone_kept : AloneIsKept
-alone_kept = record { begins = begins_lem; steps = steps_lem; own = own_lem; resets = λ ground p memory after end place is p2 stored a. falls ground p memory after end place false is p2 stored a; others = others_lem }
+alone_kept = record { begins = begins_lem; steps = steps_lem; own = own_lem; quiet = quiet_lem; resets = λ ground p memory after end place is p2 stored a. falls ground p memory after end place false is p2 stored a; others = others_lem }

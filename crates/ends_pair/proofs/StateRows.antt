@@ -1,6 +1,6 @@
 -- The rows of a tick and of a State step, and of a step that tells the machine nothing.
-use Rattle.std.proofs.Common.{◌≡◌, ℕ, zero, suc, ◌⊎◌, inl, inr, Bool, List, [], ◌∷◌, length, refl, sym, ap, ◌∙◌, subst}
-use Rattle.std.specs.Prelude.{◌==◌, if◌then◌else◌, Option, Some, map}
+use Rattle.std.proofs.Common.{◌≡◌, ℕ, zero, suc, ◌⊎◌, inl, inr, Bool, false, true, List, [], ◌∷◌, ◌++◌, refl, sym, ap, ◌∙◌, subst}
+use Rattle.std.specs.Prelude.{◌==◌, if◌then◌else◌, Some, map}
 use Rattle.link_handshake.specs.declared.Phase.{Phase}
 use Rattle.link_handshake.specs.declared.Phase.TheVariants.{Reset, Init, Ready, Run}
 use Rattle.link_handshake.specs.declared.Move.{Move}
@@ -11,31 +11,52 @@ use Rattle.call_grammar.specs.Ends.{End, with_state, noted_all}
 use Rattle.call_grammar.specs.Rows.{MovesTo}
 use Rattle.call_grammar.specs.Ticks.{Who, tick_marks}
 use Rattle.call_grammar.specs.Places.{Place, Closed, clear_place, tick_place}
-use Rattle.link_machine.specs.LinkMachine.{Side, Told, Wrote, Marked, side_with}
+use Rattle.link_machine.specs.LinkMachine.{Side, Told, Gave, Wrote, Marked, side_with, MayWriteState}
 use Rattle.ends_pair.specs.Ground.{Ground}
-use Rattle.ends_pair.specs.Sides.{RowsAlong, SeenIs, LookedIs, SideIs}
+use Rattle.ends_pair.specs.Sides.{RowsAlong, SawFor, CallIs, SideIs}
 
 -- what a step comes to for the machine
 abbrev pub Follows : Ground → Bool → Side → Side → List Told → End → Place → Type 0
 Follows ground theirs other side tolds end place = (new : Side) × RowsAlong ground.sizes theirs other side tolds new × SideIs end place new
 
+-- the end and the side, whatever the call
+pub record Same (end : End) (side : Side) : Type 0 where
+  pub state : side.state ≡ state_of end.handshake.phase
+  pub refused : side.refused ≡ end.handshake.mark
+  pub accepted : side.accepted ≡ end.accepted
+  pub delivered : side.delivered ≡ end.delivered
+  pub returned : side.returned ≡ end.returned
+  pub freed : side.freed ≡ end.freed
+
+pub same_of : {end : End} {place : Place} {side : Side} → SideIs end place side → Same end side
+same_of si = record { state = si.state; refused = si.refused; accepted = si.accepted; delivered = si.delivered; returned = si.returned; freed = si.freed }
+
+pub side_is : {end : End} {place : Place} {side : Side} → Same end side → CallIs end place side → SideIs end place side
+side_is same call = record { state = same.state; refused = same.refused; accepted = same.accepted; delivered = same.delivered; returned = same.returned; freed = same.freed; call = call }
+
 -- no row, and the same side
-pub silent : (ground : Ground) (theirs : Bool) (other side : Side) (end end' : End) (place place' : Place) → SideIs end place side → end'.handshake ≡ end.handshake → end'.accepted ≡ end.accepted → end'.delivered ≡ end.delivered → end'.returned ≡ end.returned → end'.freed ≡ end.freed →
-    SeenIs end' place' side.seen → LookedIs place' (length end'.delivered) side.looked → Follows ground theirs other side [] end' place'
-silent ground theirs other side end end' place place' is h a d r f seen looked = (
-  side,
-  refl,
-  record {
-    state = is.state ∙ ap (λ x. state_of x.phase) (sym h);
-    seen = seen;
-    refused = is.refused ∙ ap (λ x. x.mark) (sym h);
-    accepted = is.accepted ∙ sym a;
-    delivered = is.delivered ∙ sym d;
-    returned = is.returned ∙ sym r;
-    freed = is.freed ∙ sym f;
-    looked = looked;
-  },
-)
+pub silent : (ground : Ground) (theirs : Bool) (other side : Side) {end : End} {place : Place} → Same end side → CallIs end place side → Follows ground theirs other side [] end place
+silent ground theirs other side same call = (side, refl, side_is same call)
+
+-- a read is told before the marks of its step
+abbrev pub heard : Side → ℕ → Side
+heard side value = record side { read = side.read ++ value ∷ [] }
+
+abbrev pub anew : Side → Side
+anew side = record side { read = [] }
+
+pub same_heard : {end : End} {side : Side} (value : ℕ) → Same end side → Same end (heard side value)
+same_heard value same = record { state = same.state; refused = same.refused; accepted = same.accepted; delivered = same.delivered; returned = same.returned; freed = same.freed }
+
+pub same_anew : {end : End} {side : Side} → Same end side → Same end (anew side)
+same_anew same = record { state = same.state; refused = same.refused; accepted = same.accepted; delivered = same.delivered; returned = same.returned; freed = same.freed }
+
+-- a write of a word
+pub wrote : {end : End} {side : Side} (written : ℕ → ℕ) → Same end side → Same (record end { written = written }) side
+wrote written same = record { state = same.state; refused = same.refused; accepted = same.accepted; delivered = same.delivered; returned = same.returned; freed = same.freed }
+
+pub hears : (ground : Ground) (theirs : Bool) (other side : Side) (tolds : List Told) {end : End} {place : Place} (value : ℕ) → Follows ground theirs other (heard side value) tolds end place → Follows ground theirs other side (Gave value ∷ tolds) end place
+hears ground theirs other side tolds value f = (f.0, (heard side value, refl, f.1), f.2)
 
 -- Ticks
 
@@ -67,57 +88,45 @@ moves_few Run (suc v) n (inl e) = absurd (cc)
 moves_few Run zero n (inr e) = absurd (cc)
 moves_few Run (suc v) n (inr e) = absurd (cc)
 
-seen_clear : (end : End) (at count state value : ℕ) (seen : Option ℕ) → seen ≡ Some value → MovesTo end.handshake.phase value state → SeenIs end (clear_place at count state) seen
-seen_clear end at zero state value seen is moves = inr (value, is, moves)
-seen_clear end at (suc more) state value seen is moves = (value, is, moves)
+pub clear_call : (end : End) (at count state : ℕ) (side : Side) → SawFor end side.seen state → side.read ≡ [] → CallIs end (clear_place at count state) side
+clear_call end at zero state side saw none = (inr saw, none)
+clear_call end at (suc more) state side saw none = (saw, none)
 
-looked_clear : (at count state delivered looked : ℕ) → LookedIs (clear_place at count state) delivered looked
-looked_clear at zero state delivered looked = tt
-looked_clear at (suc more) state delivered looked = tt
-
-pub saw : (ground : Ground) (theirs : Bool) (other side : Side) (end : End) (place : Place) (who : Who) (value : ℕ) (m : Move) → SideIs end place side → value ≡ other.state → ((n : ℕ) → m ≡ Set n → MovesTo end.handshake.phase value n) → ((n : ℕ) → m ≡ ClearThenSet n → MovesTo end.handshake.phase value n) →
+pub saw : (ground : Ground) (theirs : Bool) (other side : Side) (end : End) (who : Who) (value : ℕ) (m : Move) → Same end side → side.read ≡ value ∷ [] → value ≡ other.state → ((n : ℕ) → m ≡ Set n → MovesTo end.handshake.phase value n) → ((n : ℕ) → m ≡ ClearThenSet n → MovesTo end.handshake.phase value n) →
     Follows ground theirs other side (map Marked (tick_marks value m)) (noted_all end (tick_marks value m)) (tick_place who m)
-saw ground theirs other side end place who value Stay is met set clears = (
-  record side { seen = Some value },
-  (record side { seen = Some value }, (refl, (met, refl)), (record side { seen = Some value }, (refl, refl), refl)),
-  record { state = is.state; seen = tt; refused = is.refused; accepted = is.accepted; delivered = is.delivered; returned = is.returned; freed = is.freed; looked = tt },
-)
-saw ground theirs other side end place who value (Set n) is met set clears = (
-  record side { seen = Some value },
-  (record side { seen = Some value }, (refl, (met, refl)), refl),
-  record { state = is.state; seen = inr (value, refl, set n refl); refused = is.refused; accepted = is.accepted; delivered = is.delivered; returned = is.returned; freed = is.freed; looked = tt },
-)
-saw ground theirs other side end place who value (ClearThenSet n) is met set clears = (
-  record side { seen = Some value },
-  (record side { seen = Some value }, (refl, (met, refl)), refl),
-  record { state = is.state; seen = seen_clear end who.own who.words n value (Some value) refl (clears n refl); refused = is.refused; accepted = is.accepted; delivered = is.delivered; returned = is.returned; freed = is.freed; looked = looked_clear who.own who.words n (length end.delivered) side.looked },
+saw ground theirs other side end who value Stay same read met set clears = let new = record side { seen = Some value; read = [] } in
+    (new, (new, (refl, (read, met, refl)), (new, (refl, refl), refl)), record { state = same.state; refused = same.refused; accepted = same.accepted; delivered = same.delivered; returned = same.returned; freed = same.freed; call = refl })
+saw ground theirs other side end who value (Set n) same read met set clears = let new = record side { seen = Some value; read = [] } in
+    (new, (new, (refl, (read, met, refl)), refl), record { state = same.state; refused = same.refused; accepted = same.accepted; delivered = same.delivered; returned = same.returned; freed = same.freed; call = (inr (value, refl, set n refl), refl) })
+saw ground theirs other side end who value (ClearThenSet n) same read met set clears = let new = record side { seen = Some value; read = [] } in (
+  new,
+  (new, (refl, (read, met, refl)), refl),
+  record { state = same.state; refused = same.refused; accepted = same.accepted; delivered = same.delivered; returned = same.returned; freed = same.freed; call = clear_call end who.own who.words n new (value, refl, clears n refl) refl },
 )
 
 -- a State step
-pub wrote_state : (ground : Ground) (theirs : Bool) (other side : Side) (end : End) (place : Place) (n : ℕ) → SideIs end place side → (n ≡ 0) ⊎ ((value : ℕ) × (side.seen ≡ Some value) × MovesTo end.handshake.phase value n) →
-    Follows ground theirs other side (Wrote n ∷ Marked Over ∷ []) (with_state end n) Closed
-wrote_state ground theirs other side end place n is may = (
-  side_with side n,
-  (side_with side n, (allowed may, refl), (side_with side n, (refl, refl), refl)),
+pub wrote_state : (ground : Ground) (theirs : Bool) (other side : Side) (end : End) (n : ℕ) → Same end side → (n ≡ 0) ⊎ ((end.handshake.mark ≡ false) × SawFor end side.seen n) → Follows ground theirs other side (Wrote n ∷ Marked Over ∷ []) (with_state end n) Closed
+wrote_state ground theirs other side end n same may = (
+  anew (side_with side n),
+  (side_with side n, (allowed may, refl), (anew (side_with side n), (refl, refl), refl)),
   record {
     state = sym (few may);
-    seen = tt;
-    refused = is.refused;
-    accepted = ap (λ (x : List (List ℕ)). if n == 2 then [] else x) is.accepted;
-    delivered = ap (λ (x : List (List ℕ)). if n == 2 then [] else x) is.delivered;
-    returned = ap (λ x. if n == 2 then 0 else x) is.returned;
-    freed = ap (λ x. if n == 2 then 0 else x) is.freed;
-    looked = tt;
+    refused = same.refused;
+    accepted = ap (λ (x : List (List ℕ)). if n == 2 then [] else x) same.accepted;
+    delivered = ap (λ (x : List (List ℕ)). if n == 2 then [] else x) same.delivered;
+    returned = ap (λ x. if n == 2 then 0 else x) same.returned;
+    freed = ap (λ x. if n == 2 then 0 else x) same.freed;
+    call = refl;
   },
 )
   where
     phase_is : phase_at side.state ≡ end.handshake.phase
-    phase_is = ap phase_at is.state ∙ phase_back end.handshake.phase
+    phase_is = ap phase_at same.state ∙ phase_back end.handshake.phase
 
-    few : (n ≡ 0) ⊎ ((value : ℕ) × (side.seen ≡ Some value) × MovesTo end.handshake.phase value n) → state_of (phase_at n) ≡ n
+    few : (n ≡ 0) ⊎ ((end.handshake.mark ≡ false) × SawFor end side.seen n) → state_of (phase_at n) ≡ n
     few (inl e) = subst (λ k. state_of (phase_at k) ≡ k) (sym e) refl
-    few (inr h) = moves_few end.handshake.phase h.0 n h.2
+    few (inr h) = moves_few end.handshake.phase h.1.0 n h.1.2
 
-    allowed : (n ≡ 0) ⊎ ((value : ℕ) × (side.seen ≡ Some value) × MovesTo end.handshake.phase value n) → (n ≡ 0) ⊎ ((value : ℕ) × (side.seen ≡ Some value) × MovesTo (phase_at side.state) value n)
+    allowed : (n ≡ 0) ⊎ ((end.handshake.mark ≡ false) × SawFor end side.seen n) → MayWriteState true side n
     allowed (inl e) = inl e
-    allowed (inr h) = inr (h.0, h.1, subst (λ x. MovesTo x h.0 n) (sym phase_is) h.2)
+    allowed (inr h) = inr (same.refused ∙ h.0, (h.1.0, h.1.1, subst (λ x. MovesTo x h.1.0 n) (sym phase_is) h.1.2))

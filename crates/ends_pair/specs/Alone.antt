@@ -40,7 +40,8 @@ pub record Sent (ground : Ground) (field : Field → ℕ) (accepted : List (List
 pub record IsNext (ground : Ground) (field : Field → ℕ) (accepted : ℕ) (job : Job) : Type 0 where
   pub frame : IsOffered ground job.frame
   pub number : job.number ≡ accepted
-  pub beside : (e : ℕ) → e ≢ job.number % size_of ground.sizes → e / 2 ≡ job.number % size_of ground.sizes / 2 → part_of (AvailEntry e) job.beside ≡ field (AvailEntry e)
+  pub beside : (e : ℕ) → e ≢ job.number % size_of ground.sizes → e / 2 ≡ job.number % size_of ground.sizes / 2 →
+      part_of (AvailEntry e) job.beside ≡ field (AvailEntry e)
 
 -- and so many of its words stand in a free slot
 pub record Filled (ground : Ground) (field : Field → ℕ) (accepted freed : ℕ) (job : Job) (count : ℕ) : Type 0 where
@@ -105,7 +106,8 @@ Holds ground memory p end (Setting state) = MaySet ground memory p end.handshake
 Holds ground memory p end Downed = end.handshake.phase ≢ Run
 Holds ground memory p end (AtUsedIndex job freed) = InRun end × IsNext ground (fields ground memory p) (length end.accepted) job × (freed ≡ end.freed)
 Holds ground memory p end (AtUsedId job freed more) =
-    InRun end × IsNext ground (fields ground memory p) (length end.accepted) job × (freed + suc more ≡ end.freed) × (length end.accepted ≤ freed + limit_of ground.sizes)
+    InRun end × IsNext ground (fields ground memory p) (length end.accepted) job × (freed + suc more ≡ end.freed) ×
+    (length end.accepted ≤ freed + limit_of ground.sizes)
 Holds ground memory p end (Filling job at more) =
     InRun end × Filled ground (fields ground memory p) (length end.accepted) end.freed job at × (at + suc more ≡ words_for (length job.frame))
 Holds ground memory p end (WritingLow job) = InRun end × HasWords ground (fields ground memory p) end job
@@ -119,7 +121,8 @@ Holds ground memory p end (WritingEntry job) =
     InRun end × HasWords ground (fields ground memory p) end job × HasLow ground (fields ground memory p) job × HasHigh ground (fields ground memory p) job ×
     HasLength ground (fields ground memory p) job × HasFlags ground (fields ground memory p) job
 Holds ground memory p end (WritingIndex job) =
-    InRun end × (job.number ≡ length end.accepted) × (job.number < end.freed + limit_of ground.sizes) × Spelled ground (fields ground memory p) job.number job.frame
+    InRun end × (job.number ≡ length end.accepted) × (job.number < end.freed + limit_of ground.sizes) ×
+    Spelled ground (fields ground memory p) job.number job.frame
 Holds ground memory p end (AtAvailIndex taken) = InRun end × IsTaken end taken
 Holds ground memory p end (AtEntry number more) = InRun end × IsTaken end number × AreFew ground more
 Holds ground memory p end (AtLow number more entry) = InRun end × IsTaken end number × (entry < size_of ground.sizes) × AreFew ground more

@@ -5,7 +5,8 @@ use Rattle.split_ring.specs.Layout.{Sizes, size_of, limit_of, slot_of, word_plac
 use Rattle.split_ring.specs.Layout as ring
 use Rattle.split_ring.specs.Spelling.{low_half, high_half, entry_half}
 
--- the two indexes; the available entry, and the id and the amount of the used element, at a position of their ring; the parts of a descriptor; and the words of its slot
+-- the two indexes; the available entry, and the id and the amount of the used element, at a position of their ring; the parts of a descriptor; and the words
+-- of its slot
 pub data Field : Type 0 where
   AvailIndex : Field
   UsedIndex : Field

@@ -35,7 +35,8 @@ abbrev pub Polls : Ground → (Field → ℕ) → List (List ℕ) → Place → 
 Polls ground field frames (AtEntry number more) = AreAccepted frames number more
 Polls ground field frames (AtLow number more entry) = AreAccepted frames number more × IsOwnEntry ground number entry
 Polls ground field frames (AtHigh number more entry low) = AreAccepted frames number more × IsOwnEntry ground number entry × IsOwnSlot ground number low
-Polls ground field frames (AtLength number more entry address) = AreAccepted frames number more × IsOwnEntry ground number entry × IsOwnSlot ground number address
+Polls ground field frames (AtLength number more entry address) = AreAccepted frames number more × IsOwnEntry ground number entry ×
+    IsOwnSlot ground number address
 Polls ground field frames (AtFlags number more entry address bytes) =
     AreAccepted frames number more × IsOwnEntry ground number entry × IsOwnSlot ground number address × IsSize frames number bytes
 Polls ground field frames (AtWord number more entry address bytes read words) =
@@ -46,9 +47,10 @@ Polls ground field frames (GivingLength number more) = AreAccepted frames number
 Polls ground field frames (GivingIndex number more) = AreAccepted frames number more × IsNamed ground field number
 Polls ground field frames place = Unit {0}
 
--- the frames on their way: of a sender by what it accepted and freed and the ids that it has read; of a taker by what it delivered and returned, its place in a call, and the
--- fields of its section
-pub record Link (ground : Ground) (field : Field → ℕ) (accepted : List (List ℕ)) (freed read : ℕ) (delivered : List (List ℕ)) (returned : ℕ) (place : Place) : Type 0 where
+-- the frames on their way: of a sender by what it accepted and freed and the ids that it has read; of a taker by what it delivered and returned, its place in
+-- a call, and the fields of its section
+pub record Link (ground : Ground) (field : Field → ℕ) (accepted : List (List ℕ)) (freed read : ℕ) (delivered : List (List ℕ)) (returned : ℕ)
+    (place : Place) : Type 0 where
   pub returns : freed ≤ returned
   pub delivers : returned ≤ length delivered
   pub prefix : (rest : List (List ℕ)) × (accepted ≡ delivered ++ rest)
@@ -71,8 +73,8 @@ OpensNone end place = (end.handshake.phase ≢ Init) × (place ≢ Setting 1)
 abbrev pub EitherAttends : (ends : ℕ → End) (places : ℕ → Place) → ℕ → Type 0
 EitherAttends ends places p = Attends (ends p) (places p) ⊎ Attends (ends (1 - p)) (places (1 - p))
 
--- the pair: each end alone, none of them at a refusal or marked by one; while an end attends, the other opens no session; and as soon as either attends, the frames in flight
--- are spelled, and those of both directions are linked
+-- the pair: each end alone, none of them at a refusal or marked by one; while an end attends, the other opens no session; and as soon as either attends, the
+-- frames in flight are spelled, and those of both directions are linked
 pub record Pair (ground : Ground) (memory : ℕ → ℕ) (ends : ℕ → End) (places : ℕ → Place) : Type 0 where
   pub alone : (p : ℕ) → p < 2 → Alone ground memory p (ends p) (places p)
   pub sound : (p : ℕ) → p < 2 → ((ends p).handshake.mark ≡ false) × (places p ≢ Refusing)

@@ -1,27 +1,29 @@
 -- The ends as sides of the link machine.
-use Rattle.std.specs.Prelude.{ℕ, suc, ◌≡◌, ◌+◌, ◌-◌, ◌<◌, ◌⊎◌, Bool, true, Option, Some, List, [], ◌∷◌, ◌++◌, length, map}
+use Rattle.std.specs.Prelude.{ℕ, suc, ◌≡◌, ◌+◌, ◌-◌, ◌<◌, ◌≤◌, ◌⊎◌, Bool, true, Option, Some, List, [], ◌∷◌, ◌++◌, length, map}
 use Rattle.split_ring.specs.declared.steps.Access.{Access}
 use Rattle.split_ring.specs.declared.steps.Access.TheVariants as access
 use Rattle.split_ring.specs.Layout.{Sizes}
 use Rattle.link_handshake.specs.PhaseTable.{state_of}
 use Rattle.call_grammar.specs.Steps.{Step}
+use Rattle.call_grammar.specs.Words.{address_of}
 use Rattle.call_grammar.specs.Ends.{End, fresh, after_reset, end_after}
 use Rattle.call_grammar.specs.Ticks.{Who}
 use Rattle.call_grammar.specs.Calls.{Call}
 use Rattle.call_grammar.specs.Rows.{MovesTo}
-use Rattle.call_grammar.specs.Places.{Place, Closed, Clearing, Setting, AtEntry, AtLow, AtHigh, AtLength, AtFlags, AtWord, GivingId, GivingLength, GivingIndex, RingingPoll, first_place, access_at, next_place, step_at, is_open}
-use Rattle.link_machine.specs.LinkMachine.{Side, fresh_side, Told, Wrote, Marked, WasReset, Row}
+use Rattle.call_grammar.specs.Places.{Place, Closed, Clearing, Setting, AtUsedId, Filling, WritingLow, WritingHigh, WritingLength, WritingFlags, WritingEntry, WritingIndex, AtEntry, AtLow, AtHigh, AtLength, AtFlags, AtWord, GivingId, GivingLength, GivingIndex, RingingPoll, first_place, access_at, next_place, step_at, is_open}
+use Rattle.link_machine.specs.LinkMachine.{Side, fresh_side, Told, Gave, Wrote, Marked, WasReset, Row}
 use Rattle.ends_pair.specs.Ground.{Ground, IsGround, who_of}
 use Rattle.ends_pair.specs.Steps.{Meets}
 use Rattle.ends_pair.specs.Whole.{Whole}
 
--- what a step tells the machine: the write of its State, and then its marks
-abbrev pub told_of : Access → List Told
-told_of (access.State state) = Wrote state ∷ []
-told_of _ = []
+-- what a step tells the machine: the value that its read gave or the write of its State, and then its marks
+abbrev pub told_of : Access → (value : ℕ) → List Told
+told_of (access.Read word) value = Gave value ∷ []
+told_of (access.State state) value = Wrote state ∷ []
+told_of _ value = []
 
 abbrev pub told_by : Step → List Told
-told_by step = told_of step.access ++ map Marked step.marks
+told_by step = told_of step.access step.value ++ map Marked step.marks
 
 -- an honest side goes along these rows, while the other stays as it is
 abbrev pub RowsAlong : Sizes → Bool → Side → Side → List Told → Side → Type 0
@@ -32,39 +34,48 @@ RowsAlong sizes theirs other side (told ∷ tolds) new = (mid : Side) × Row siz
 abbrev pub SawFor : End → Option ℕ → ℕ → Type 0
 SawFor end seen state = (value : ℕ) × (seen ≡ Some value) × MovesTo end.handshake.phase value state
 
--- an open tick that moves holds what the side saw
-abbrev pub SeenIs : End → Place → Option ℕ → Type 0
-SeenIs end (Clearing at more state) seen = SawFor end seen state
-SeenIs end (Setting state) seen = (state ≡ 0) ⊎ SawFor end seen state
-SeenIs end _ seen = Unit {0}
+-- so many items are left of those that the poll found
+abbrev pub HasLeft : End → Side → ℕ → Type 0
+HasLeft end side count = side.looked ≡ length end.delivered + count
 
--- how far a poll looked: the frames delivered and the items left
-abbrev pub LookedIs : Place → (delivered looked : ℕ) → Type 0
-LookedIs (AtEntry number more) delivered looked = looked ≡ delivered + suc more
-LookedIs (AtLow number more entry) delivered looked = looked ≡ delivered + suc more
-LookedIs (AtHigh number more entry low) delivered looked = looked ≡ delivered + suc more
-LookedIs (AtLength number more entry address) delivered looked = looked ≡ delivered + suc more
-LookedIs (AtFlags number more entry address bytes) delivered looked = looked ≡ delivered + suc more
-LookedIs (AtWord number more entry address bytes read words) delivered looked = looked ≡ delivered + suc more
-LookedIs (GivingId number more entry) delivered looked = looked ≡ delivered + more
-LookedIs (GivingLength number more) delivered looked = looked ≡ delivered + more
-LookedIs (GivingIndex number more) delivered looked = looked ≡ delivered + more
-LookedIs RingingPoll delivered looked = looked ≡ delivered
-LookedIs _ delivered looked = Unit {0}
+-- What the side holds of the open call: of a tick that moves what it saw; of an offer how many ids it has read since its reclaim; of a poll how many items
+-- are left, and what it has read of the one in hand
+abbrev pub CallIs : End → Place → Side → Type 0
+CallIs end (Clearing at more state) side = SawFor end side.seen state × (side.read ≡ [])
+CallIs end (Setting state) side = ((state ≡ 0) ⊎ SawFor end side.seen state) × (side.read ≡ [])
+CallIs end (AtUsedId job freed more) side = (side.reclaimed ≡ length side.read + suc more) × (length side.read ≤ freed)
+CallIs end (Filling job at more) side = Unit {0}
+CallIs end (WritingLow job) side = Unit {0}
+CallIs end (WritingHigh job) side = Unit {0}
+CallIs end (WritingLength job) side = Unit {0}
+CallIs end (WritingFlags job) side = Unit {0}
+CallIs end (WritingEntry job) side = Unit {0}
+CallIs end (WritingIndex job) side = Unit {0}
+CallIs end (AtEntry number more) side = HasLeft end side (suc more) × (side.read ≡ [])
+CallIs end (AtLow number more entry) side = HasLeft end side (suc more) × ((word : ℕ) × (side.read ≡ word ∷ []))
+CallIs end (AtHigh number more entry low) side = HasLeft end side (suc more) × ((word : ℕ) × (side.read ≡ word ∷ low ∷ []))
+CallIs end (AtLength number more entry address) side =
+    HasLeft end side (suc more) × ((word low high : ℕ) × (side.read ≡ word ∷ low ∷ high ∷ []) × (address ≡ address_of low high))
+CallIs end (AtFlags number more entry address bytes) side = HasLeft end side (suc more) × ((word low high : ℕ) × (side.read ≡ word ∷ low ∷ high ∷ bytes ∷ []))
+CallIs end (AtWord number more entry address bytes read words) side = HasLeft end side (suc more)
+CallIs end (GivingId number more entry) side = HasLeft end side more × (side.read ≡ [])
+CallIs end (GivingLength number more) side = HasLeft end side more × (side.read ≡ [])
+CallIs end (GivingIndex number more) side = HasLeft end side more × (side.read ≡ [])
+CallIs end RingingPoll side = HasLeft end side 0 × (side.read ≡ [])
+CallIs end place side = side.read ≡ []
 
 -- an end at a place is this side of the machine
 pub record SideIs (end : End) (place : Place) (side : Side) : Type 0 where
   pub state : side.state ≡ state_of end.handshake.phase
-  pub seen : SeenIs end place side.seen
   pub refused : side.refused ≡ end.handshake.mark
   pub accepted : side.accepted ≡ end.accepted
   pub delivered : side.delivered ≡ end.delivered
   pub returned : side.returned ≡ end.returned
   pub freed : side.freed ≡ end.freed
-  pub looked : LookedIs place (length end.delivered) side.looked
+  pub call : CallIs end place side
 
--- a fresh end is a fresh side; a call begins at the same side; each step of an honest end goes along the rows of the machine, against an other that is honest or hostile; and
--- so does its device reset
+-- a fresh end is a fresh side; a call begins at the same side; each step of an honest end goes along the rows of the machine, against an other that is honest
+-- or hostile; and so does its device reset
 pub record StepsFollowRows : Type 0 where
   pub starts : SideIs fresh Closed fresh_side
   pub begins : (who : Who) (end : End) (call : Call) (side : Side) → SideIs end Closed side → SideIs end (first_place who end call) side

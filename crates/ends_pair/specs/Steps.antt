@@ -54,7 +54,8 @@ pub record TakesStep (ground : Ground) (memory after : ℕ → ℕ) (ends after_
   pub opened : is_open (places p) ≡ true
   pub meets : Meets memory (access_at (who_of ground p) (places p)) value
   pub leaves : Leaves p memory (access_at (who_of ground p) (places p)) after
-  pub comes : OnlyComes ends after_ends places after_places p (end_after (ends p) (step_at (who_of ground p) (places p) value)) (next_place (who_of ground p) (places p) value)
+  pub comes : OnlyComes ends after_ends places after_places p (end_after (ends p) (step_at (who_of ground p) (places p) value))
+      (next_place (who_of ground p) (places p) value)
 
 -- the device of end p is reset
 pub record IsReset (memory after : ℕ → ℕ) (ends after_ends : ℕ → End) (places after_places : ℕ → Place) (p : ℕ) : Type 0 where

@@ -43,9 +43,11 @@ pub record HonestEndsAgree : Type 0 where
 abbrev pub SectionSpells : Ground → (ℕ → ℕ) → (p k : ℕ) → List ℕ → Type 0
 SectionSpells ground memory p k frame = Spells ground.sizes (λ w. memory (section_of ground p + w)) k (k % limit_of ground.sizes) frame
 
--- the section of an honest end spells each of its frames in flight, whatever the other stores; and the next one from the write of the index on, with which it is accepted
+-- the section of an honest end spells each of its frames in flight, whatever the other stores; and the next one from the write of the index on, with which it
+-- is accepted
 pub record FramesAreSpelled : Type 0 where
   pub in_flight : (ground : Ground) (memory : ℕ → ℕ) (p : ℕ) (end : End) (place : Place) (k : ℕ) → IsGround ground → Alone ground memory p end place →
       Opened end.handshake.phase → end.freed ≤ k → k < length end.accepted → SectionSpells ground memory p k (frame_at end.accepted k)
-  pub accepted : (ground : Ground) (memory after : ℕ → ℕ) (p : ℕ) (end : End) (job : Job) → IsGround ground → p < 2 → Alone ground memory p end (WritingIndex job) →
+  pub accepted : (ground : Ground) (memory after : ℕ → ℕ) (p : ℕ) (end : End) (job : Job) → IsGround ground → p < 2 →
+      Alone ground memory p end (WritingIndex job) →
       Leaves p memory (access_at (who_of ground p) (WritingIndex job)) after → SectionSpells ground after p job.number job.frame

@@ -9,7 +9,7 @@ ghost use Rattle.ends_pair.specs.Runs.{HonestRunsDeliver, RunsKeepWhole};
 ghost use Rattle.ends_pair.specs.Sides.{StepsFollowRows};
 ghost use Rattle.ends_pair.specs.Whole.{FramesAreSpelled, HonestEndsAgree, WholeIsKept};
 
-/// An honest end keeps what holds of it alone, whatever the other does, and changes no words but its own.
+/// An honest end keeps what holds of it alone, whatever the other does; it changes no words but its own, and none of its section in RESET.
 pub fn alone_is_kept()
     ensures { AloneIsKept }
 {}

@@ -199,7 +199,7 @@ ran_at_first world = record {
     holds = whole_kept.starts (ground_of world) (is_link world) (λ at. 0) (ends_of (beginning world)) (λ p. Closed) (λ w. refl) (λ p. ap (λ (x : Peer). x.end) (start p)) (λ p. refl);
     sides = λ p below honest. subst (λ (x : Peer). SideIs x.end Closed fresh_side) (sym (start p)) follow_lem.starts;
     states = λ p below. refl;
-    reads = λ p below honest. tt;
+    reads = λ p below honest. refl;
     settled = tt;
     fine = tt;
   };

@@ -1,6 +1,8 @@
 -- What stands at the marks of a lawful history.
 use Rattle.std.proofs.Common.{◌∷◌, ◌++◌, ◌≡◌, [], List, sym, ap, subst, append_assoc}
-use Rattle.lawful_history.specs.declared.line.Line.TheVariants.{Accept, Deliver, Refuse, Read}
+use Rattle.lawful_history.specs.declared.line.Line.TheVariants.{Accept, Deliver, Refuse, Read, Write, Look, Reclaim}
+use Rattle.history_laws.specs.Indexes.{IndexesAreReadOnce}
+use Rattle.history_laws.specs.Quiet.{ResetsAreQuiet}
 use Rattle.history_laws.specs.Reads.{DeliveredFramesAreRead, RefusedValuesAreRead, OutOfRangeIsRefused}
 use Rattle.history_laws.specs.Spelled.{HistoriesSpellAccepted}
 use Rattle.history_laws.proofs.Stands.{Fine, AnswersTo, Settled}
@@ -17,7 +19,7 @@ pub delivered_lem : DeliveredFramesAreRead
 delivered_lem world before after p frame is lawful = (at_line (Fine world) before after (Deliver p frame) (all_fine world (before ++ Deliver p frame ∷ after) is lawful)).1
 
 pub refused_lem : RefusedValuesAreRead
-refused_lem world before after p refused is lawful = (at_line (Fine world) before after (Refuse p refused) (all_fine world (before ++ Refuse p refused ∷ after) is lawful)).1
+refused_lem world before after p refused is lawful = (at_line (Fine world) before after (Refuse p refused) (all_fine world (before ++ Refuse p refused ∷ after) is lawful)).1.0
 
 pub answered_lem : OutOfRangeIsRefused
 answered_lem world before [] p word value refused is honest lawful beyond =
@@ -31,3 +33,13 @@ answered_lem world before (next ∷ rest) p word value refused is honest lawful 
     let here : AnswersTo world (reverse (before ++ read ∷ [])) next = (at_line (Fine world) (before ++ read ∷ []) rest next all).2 in
     let answered : AnswersTo world (read ∷ reverse before) next = subst (λ (ls : List Line). AnswersTo world ls next) (middle before [] read) here in
     (rest, ap (λ (l : Line). l ∷ rest) (answered refused honest beyond))
+
+pub indexes_lem : IndexesAreReadOnce
+indexes_lem = record {
+  looks = λ world before after p count is lawful. (at_line (Fine world) before after (Look p count) (all_fine world (before ++ Look p count ∷ after) is lawful)).1;
+  reclaims = λ world before after p count is lawful. (at_line (Fine world) before after (Reclaim p count) (all_fine world (before ++ Reclaim p count ∷ after) is lawful)).1;
+  refusals = λ world before after p refused is lawful. (at_line (Fine world) before after (Refuse p refused) (all_fine world (before ++ Refuse p refused ∷ after) is lawful)).1.1;
+}
+
+pub quiet_lem : ResetsAreQuiet
+quiet_lem world before after p word value is honest lawful = (at_line (Fine world) before after (Write p word value) (all_fine world (before ++ Write p word value ∷ after) is lawful)).3 honest

@@ -253,7 +253,7 @@ module _ (ground : Ground) (p : ℕ) (memory : ℕ → ℕ) (end : End) (side : 
       marks_at (who_of ground p) place value ≡ refusal field refused
 
   number_of : (place : Place) (number : ℕ) → SideIs end place side → number ≡ length end.delivered → number ≡ length side.delivered
-  number_of place number si e = e ∙ delivered_number end place side side si refl
+  number_of place number si e = e ∙ delivered_number end place side side.delivered si refl
 
   avail_index_beyond : (taken : ℕ) → Refuses (AtAvailIndex taken)
   unfolding Refuses Last
@@ -273,7 +273,7 @@ module _ (ground : Ground) (p : ℕ) (memory : ℕ → ℕ) (end : End) (side : 
       let count = returned_by freed value in
       let only = only_used_index who field (subst (FieldWord who field) (read_word _ word at) there) in
       let freed_is : freed ≡ side.freed = f.alone.holds.2 ∙ sym f.si.freed in
-      let number : job.number ≡ length side.accepted = f.alone.holds.1.number ∙ accepted_number end (AtUsedIndex job freed) side side f.si refl in
+      let number : job.number ≡ length side.accepted = f.alone.holds.1.number ∙ accepted_number end (AtUsedIndex job freed) side side.accepted f.si refl in
       at_field who side reads word value field field_name.UsedIndex refused (marks_at who (AtUsedIndex job freed) value) only
       (λ l. let beyond : ¬ IsUsedIndex (side.freed % 65536) (high_half value) (length side.accepted - side.freed) = subst (λ (r : ℕ). ¬ IsUsedIndex (side.freed % 65536) r (length side.accepted - side.freed)) l.1 l.2 in
       let mine : ¬ IsUsedIndex (freed % 65536) (high_half value) (job.number - freed) =

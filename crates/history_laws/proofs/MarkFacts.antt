@@ -7,7 +7,8 @@ use Rattle.split_ring.specs.declared.ranges.FieldName.{FieldName}
 use Rattle.split_ring.specs.declared.ranges.FieldName.TheVariants as field_name
 use Rattle.split_ring.specs.declared.steps.Access.{Access}
 use Rattle.split_ring.specs.declared.steps.Access.TheVariants as access
-use Rattle.split_ring.specs.Layout.{size_of, limit_of}
+use Rattle.ivs_base.specs.Numbers.{distance}
+use Rattle.split_ring.specs.Layout.{Field, size_of, limit_of, word_place, AvailableIndex, UsedIndex}
 use Rattle.split_ring.specs.Spelling.{low_half, high_half, entry_half, Spells}
 use Rattle.split_ring.specs.Ranges.{IsAvailIndex, IsDescLength, IsUsedIndex}
 use Rattle.link_handshake.specs.declared.Move.{Move}
@@ -22,7 +23,7 @@ use Rattle.call_grammar.specs.Calls.{Who}
 use Rattle.call_grammar.specs.Offers.{Job, descriptor_of, entry_of, refusal, returned_by, reclaim_marks, full_marks}
 use Rattle.call_grammar.specs.Polls.{Item, is_entry, is_address, is_length, published_by, look_marks}
 use Rattle.call_grammar.specs.Places.{Place, Closed, AtState, Clearing, Setting, Refusing, Downed, AtUsedIndex, AtUsedId, Filling, WritingLow, WritingHigh, WritingLength, WritingFlags, WritingEntry, WritingIndex, RingingOffer, AtAvailIndex, AtEntry, AtLow, AtHigh, AtLength, AtFlags, AtWord, GivingId, GivingLength, GivingIndex, RingingPoll, access_at, marks_at}
-use Rattle.link_machine.specs.LinkMachine.{Side}
+use Rattle.link_machine.specs.LinkMachine.{Side, Gave}
 use Rattle.call_grammar.proofs.PollLists.{entry_denies, address_denies, length_denies}
 use Rattle.ends_pair.specs.Ground.{section_of}
 use Rattle.ends_pair.specs.Steps.{Leaves}
@@ -33,23 +34,30 @@ use Rattle.ends_pair.proofs.WholeKept.{spelled_lem}
 use Rattle.lawful_history.specs.declared.line.Line.{Line}
 use Rattle.lawful_history.specs.declared.line.Line.TheVariants as line
 use Rattle.lawful_history.specs.Memory.{last_write}
-use Rattle.history_laws.specs.Told.{side_of}
+use Rattle.lawful_history.specs.Sides.{who_of}
+use Rattle.history_laws.specs.Told.{side_after, side_of}
+use Rattle.history_laws.specs.Indexes.{IsLoneRead, IsIndexRead, IsLoneIndex}
 use Rattle.history_laws.specs.Reads.{Got, got, reads_of, IsReadFrame, IsReadBeyond, entry_read}
 use Rattle.history_laws.specs.Spelled.{section_words}
 use Rattle.history_laws.proofs.Proper.{ground_of, is_ground}
 use Rattle.history_laws.proofs.ReadPlaces.{ReadsAre, reads_taken, with_entry_word, high_taken, length_taken, flags_taken, word_taken}
 use Rattle.history_laws.proofs.Stands.{IsQuiet, quiet_lines}
 use Rattle.history_laws.proofs.Outside.{here_is, section_is}
-use Rattle.history_laws.proofs.StepLines.{MarksRest, after_access, broken_here, stored_at}
+use Rattle.history_laws.proofs.StepLines.{MarksRest, after_access, stored_at}
 use Rattle.history_laws.proofs.Grounds.{who_is}
 
--- but for a State access the side stays
+-- but for a State access the lists and counts of the side stay
+pub record Stays (new old : Side) : Type 0 where
+  pub accepted : new.accepted ≡ old.accepted
+  pub delivered : new.delivered ≡ old.delivered
+  pub freed : new.freed ≡ old.freed
+
+stays_same : {new old : Side} → new ≡ old → Stays new old
+stays_same e = record { accepted = ap (λ (x : Side). x.accepted) e; delivered = ap (λ (x : Side). x.delivered) e; freed = ap (λ (x : Side). x.freed) e }
+
 abbrev pub SideStays : Access → Side → Side → Type 0
-SideStays (access.Read word) new old = new ≡ old
-SideStays (access.Write word written) new old = new ≡ old
 SideStays (access.State state) new old = Unit {0}
-SideStays (access.Ring target vector) new old = new ≡ old
-SideStays access.Nothing new old = new ≡ old
+SideStays _ new old = Stays new old
 
 -- what is known after the access of a step, where its marks stand
 pub record AtMarks (world : World) (p : ℕ) (past older : List Line) (place : Place) (value : ℕ) (end : End) : Type 0 where
@@ -69,7 +77,7 @@ pub record AtAccess (p : ℕ) (past older : List Line) (a : Access) (value : ℕ
 pub at_access : (world : World) (p : ℕ) (a : Access) (value : ℕ) (device past : List Line) → AllByRecursion IsQuiet device → AtAccess p past (reverse device ++ after_access p a value past) a value
 at_access world p (access.Read word) value device past quiet =
     let q = quiet_lines world device (line.Read p word value ∷ past) quiet in
-    record { left = q.memory; stays = ap (λ (x : ℕ → Side). x p) q.sides; reads = ap (λ (x : ℕ → List Got). x p) q.reads ∙ here_is p (reads_of past p ++ got word value ∷ []) (reads_of past p) }
+    record { left = q.memory; stays = let e = ap (λ (x : ℕ → Side). x p) q.sides ∙ here_is p (side_after (Gave value) (side_of past p)) (side_of past p) in record { accepted = ap (λ (x : Side). x.accepted) e; delivered = ap (λ (x : Side). x.delivered) e; freed = ap (λ (x : Side). x.freed) e }; reads = ap (λ (x : ℕ → List Got). x p) q.reads ∙ here_is p (reads_of past p ++ got word value ∷ []) (reads_of past p) }
 at_access world p (access.Write word written) value device past quiet =
     let q = quiet_lines world device (line.Write p word written ∷ past) quiet in
     record {
@@ -77,8 +85,8 @@ at_access world p (access.Write word written) value device past quiet =
         here = ap (λ (m : ℕ → ℕ). m word) q.memory ∙ here_is word written (last_write past word);
         beside = λ w ne. ap (λ (m : ℕ → ℕ). m w) q.memory ∙ stored_at word written (last_write past) w ne;
       };
-      stays = ap (λ (x : ℕ → Side). x p) q.sides;
-      reads = ap (λ (x : ℕ → List Got). x p) q.reads ∙ broken_here (line.Write p word written) past p refl;
+      stays = stays_same (ap (λ (x : ℕ → Side). x p) q.sides);
+      reads = ap (λ (x : ℕ → List Got). x p) q.reads;
     }
 at_access world p (access.State state) value device past quiet =
     let q = quiet_lines world device (line.State p state ∷ past) quiet in
@@ -88,11 +96,11 @@ at_access world p (access.State state) value device past quiet =
         beside = λ w ne. ap (λ (m : ℕ → ℕ). m w) q.memory ∙ stored_at p state (last_write past) w ne;
       };
       stays = tt;
-      reads = ap (λ (x : ℕ → List Got). x p) q.reads ∙ broken_here (line.State p state) past p refl;
+      reads = ap (λ (x : ℕ → List Got). x p) q.reads;
     }
 at_access world p (access.Ring target vector) value device past quiet =
-    let q = quiet_lines world device (line.Doorbell p target vector ∷ past) quiet in record { left = q.memory; stays = ap (λ (x : ℕ → Side). x p) q.sides; reads = ap (λ (x : ℕ → List Got). x p) q.reads }
-at_access world p access.Nothing value device past quiet = let q = quiet_lines world device past quiet in record { left = q.memory; stays = ap (λ (x : ℕ → Side). x p) q.sides; reads = ap (λ (x : ℕ → List Got). x p) q.reads }
+    let q = quiet_lines world device (line.Doorbell p target vector ∷ past) quiet in record { left = q.memory; stays = stays_same (ap (λ (x : ℕ → Side). x p) q.sides); reads = ap (λ (x : ℕ → List Got). x p) q.reads }
+at_access world p access.Nothing value device past quiet = let q = quiet_lines world device past quiet in record { left = q.memory; stays = stays_same (ap (λ (x : ℕ → Side). x p) q.sides); reads = ap (λ (x : ℕ → List Got). x p) q.reads }
 
 -- marks at which nothing needs to stand
 by_test : (world : World) (older : List Line) (p : ℕ) (b : Bool) (marks others : List Mark) → (b ≡ true → MarksRest world older p marks) → (b ≡ false → MarksRest world older p others) → MarksRest world older p (if b then marks else others)
@@ -108,11 +116,11 @@ full_rest : (world : World) (older : List Line) (p : ℕ) (who : Who) (job : Job
 full_rest world older p who job freed = by_test world older p (job.number == freed + limit_of who.sizes) (Full ∷ []) [] (λ _. (tt, tt)) (λ _. tt)
 
 -- the numbers of the lists
-pub accepted_number : (end : End) (place : Place) (side new : Side) → SideIs end place side → new ≡ side → length end.accepted ≡ length new.accepted
-accepted_number end place side new si e = ap length (sym si.accepted) ∙ ap (λ (x : Side). length x.accepted) (sym e)
+pub accepted_number : (end : End) (place : Place) (side : Side) (now : List (List ℕ)) → SideIs end place side → now ≡ side.accepted → length end.accepted ≡ length now
+accepted_number end place side now si e = ap length (sym (e ∙ si.accepted))
 
-pub delivered_number : (end : End) (place : Place) (side new : Side) → SideIs end place side → new ≡ side → length end.delivered ≡ length new.delivered
-delivered_number end place side new si e = ap length (sym si.delivered) ∙ ap (λ (x : Side). length x.delivered) (sym e)
+pub delivered_number : (end : End) (place : Place) (side : Side) (now : List (List ℕ)) → SideIs end place side → now ≡ side.delivered → length end.delivered ≡ length now
+delivered_number end place side now si e = ap length (sym (e ∙ si.delivered))
 
 zero_tells : (n : ℕ) → (n == 0) ≡ true → n ≡ 0
 zero_tells n test = grind (arith, nat_tests)
@@ -128,11 +136,15 @@ within_denies a b test = λ within. grind (arith, nat_tests)
 
 module _ (world : World) (p : ℕ) (past older : List Line) (value : ℕ) (end : End) (is : IsWorld world) (below : p < 2) where
   -- a refused value as the scenario has its peer
-  refused_rest : (field : FieldName) (refused : ℕ) → IsReadBeyond (pair.who_of (ground_of world) p) (side_of older p) (reads_of older p) field refused → MarksRest world older p (refusal field refused)
-  refused_rest field refused read = (subst (λ (w : Who). IsReadBeyond w (side_of older p) (reads_of older p) field refused) (sym (who_is world p below)) read, tt)
+  refused_rest : (field : FieldName) (refused : ℕ) → IsReadBeyond (pair.who_of (ground_of world) p) (side_of older p) (reads_of older p) field refused → IsLoneIndex (pair.who_of (ground_of world) p) (reads_of older p) field refused → MarksRest world older p (refusal field refused)
+  refused_rest field refused read lone = (subst (λ (w : Who). IsReadBeyond w (side_of older p) (reads_of older p) field refused × IsLoneIndex w (reads_of older p) field refused) (sym (who_is world p below)) (read, lone), tt)
 
-  number_is : (place : Place) (number : ℕ) → number ≡ length end.delivered → AtMarks world p past older place value end → side_of older p ≡ side_of past p → number ≡ length (side_of older p).delivered
-  number_is place number is_count a stays = is_count ∙ delivered_number end place (side_of past p) (side_of older p) a.side stays
+  -- an index that was read once, as the scenario has its peer
+  index_rest : (index : Field) (own count : ℕ) → IsIndexRead (pair.who_of (ground_of world) p) (reads_of older p) index own count → IsIndexRead (who_of world p) (reads_of older p) index own count
+  index_rest index own count read = subst (λ (w : Who). IsIndexRead w (reads_of older p) index own count) (sym (who_is world p below)) read
+
+  number_is : (place : Place) (number : ℕ) → number ≡ length end.delivered → AtMarks world p past older place value end → Stays (side_of older p) (side_of past p) → number ≡ length (side_of older p).delivered
+  number_is place number is_count a stays = is_count ∙ delivered_number end place (side_of past p) (side_of older p).delivered a.side stays.delivered
 
   -- the item of a poll has the number of the frames delivered
   by_number : (make : ℕ → Place) (number : ℕ) → number ≡ length (side_of older p).delivered →
@@ -141,12 +153,22 @@ module _ (world : World) (p : ℕ) (past older : List Line) (value : ℕ) (end :
   by_number make number e here =
       subst (λ (k : ℕ). AtMarks world p past older (make k) value end → MarksRest world older p (marks_at (pair.who_of (ground_of world) p) (make k) value)) (sym e) here
 
-  used_index_rest : (job : Job) (freed : ℕ) → AtMarks world p past older (AtUsedIndex job freed) value end → nat_le (returned_by freed value) (job.number - freed) ≡ false → MarksRest world older p (refusal field_name.UsedIndex (high_half value))
-  used_index_rest job freed a test =
+  used_index_read : (job : Job) (freed : ℕ) → AtMarks world p past older (AtUsedIndex job freed) value end → IsLoneRead (pair.who_of (ground_of world) p) (reads_of older p) UsedIndex (high_half value)
+  used_index_read job freed a = (value, a.reads ∙ ap (λ (r : List Got). r ++ got ((pair.who_of (ground_of world) p).theirs + word_place world.queue UsedIndex) value ∷ []) a.were, refl)
+
+  used_index_rest : (job : Job) (freed : ℕ) → AtMarks world p past older (AtUsedIndex job freed) value end → MarksRest world older p (marks_at (pair.who_of (ground_of world) p) (AtUsedIndex job freed) value)
+  used_index_rest job freed a =
+      let who = pair.who_of (ground_of world) p in
       let h = a.alone.holds in
-      let freed_is : freed ≡ (side_of older p).freed = h.2 ∙ (sym a.side.freed ∙ ap (λ (x : Side). x.freed) (sym a.stays)) in
-      let number : job.number ≡ length (side_of older p).accepted = h.1.number ∙ accepted_number end (AtUsedIndex job freed) (side_of past p) (side_of older p) a.side a.stays in
-      let beyond = within_denies (returned_by freed value) (job.number - freed) test in
+      let count = returned_by freed value in
+      let lone = used_index_read job freed a in
+      let freed_is : freed ≡ (side_of older p).freed = h.2 ∙ sym (a.stays.freed ∙ a.side.freed) in
+      let number : job.number ≡ length (side_of older p).accepted = h.1.number ∙ accepted_number end (AtUsedIndex job freed) (side_of past p) (side_of older p).accepted a.side a.stays.accepted in
+      let read : IsIndexRead (who_of world p) (reads_of older p) UsedIndex (side_of older p).freed count = index_rest UsedIndex (side_of older p).freed count (high_half value, lone, ap (λ (k : ℕ). distance (k % 65536) (high_half value)) freed_is) in
+      by_test world older p (nat_le count (job.number - freed)) (reclaim_marks who job freed count) (refusal field_name.UsedIndex (high_half value))
+      (λ _. by_test world older p (count == 0) (Reclaim 0 ∷ full_marks who job freed) (Reclaim count ∷ [])
+      (λ none. (subst (IsIndexRead (who_of world p) (reads_of older p) UsedIndex (side_of older p).freed) (zero_tells count none) read, full_rest world (line.Reclaim p 0 ∷ older) p who job freed)) (λ _. (read, tt)))
+      (λ test. let beyond = within_denies count (job.number - freed) test in
       let beyond_here : ¬ IsUsedIndex (freed % 65536) (high_half value) (length (side_of older p).accepted - freed) = subst (λ (n : ℕ). ¬ IsUsedIndex (freed % 65536) (high_half value) (n - freed)) number beyond in
       refused_rest field_name.UsedIndex (high_half value) (
         reads_of past p,
@@ -154,18 +176,18 @@ module _ (world : World) (p : ℕ) (past older : List Line) (value : ℕ) (end :
         a.reads,
         refl,
         subst (λ (k : ℕ). ¬ IsUsedIndex (k % 65536) (high_half value) (length (side_of older p).accepted - k)) freed_is beyond_here,
-      )
+      ) lone)
 
   used_id_rest : (job : Job) (freed more : ℕ) → AtMarks world p past older (AtUsedId job freed more) value end → (value == descriptor_of (pair.who_of (ground_of world) p) freed) ≡ false → MarksRest world older p (refusal field_name.UsedId value)
   used_id_rest job freed more a test =
-      let all = a.alone.holds.2 in let within = a.alone.holds.3 in let low = a.alone.freed in let f = a.side.freed in let g = ap (λ (x : Side). x.freed) a.stays in
-      refused_rest field_name.UsedId value (reads_of past p, freed, omega arith, omega arith, a.reads, same_denies value (freed % limit_of world.queue) test)
+      let all = a.alone.holds.2 in let within = a.alone.holds.3 in let low = a.alone.freed in let f = a.side.freed in let g = a.stays.freed in
+      refused_rest field_name.UsedId value (reads_of past p, freed, omega arith, omega arith, a.reads, same_denies value (freed % limit_of world.queue) test) tt
 
   accept_rest : (job : Job) → AtMarks world p past older (WritingIndex job) value end → MarksRest world older p (marks_at (pair.who_of (ground_of world) p) (WritingIndex job) value)
   accept_rest job a =
       let ground = ground_of world in
       let spelled = spelled_lem.accepted ground (last_write past) (last_write older) p end job (is_ground world is) below a.alone a.left in
-      let number : job.number ≡ length (side_of older p).accepted = a.alone.holds.1 ∙ accepted_number end (WritingIndex job) (side_of past p) (side_of older p) a.side a.stays in
+      let number : job.number ≡ length (side_of older p).accepted = a.alone.holds.1 ∙ accepted_number end (WritingIndex job) (side_of past p) (side_of older p).accepted a.side a.stays.accepted in
       let at : ℕ → ℕ → ℕ = λ start word. last_write older (start + word) in
       let words : at (section_of ground p) ≡ section_words world older p = ap at (section_is world p) in (
         subst (λ (n : ℕ). Spells world.queue (section_words world older p) n (n % limit_of world.queue) job.frame) number
@@ -198,10 +220,13 @@ module _ (world : World) (p : ℕ) (past older : List Line) (value : ℕ) (end :
   avail_index_rest taken a =
       let count = published_by taken value in
       let n = number_is (AtAvailIndex taken) taken a.alone.holds.1 a a.stays in
+      let lone : IsLoneRead (pair.who_of (ground_of world) p) (reads_of older p) AvailableIndex (high_half value) = (value, a.reads ∙ ap (λ (r : List Got). r ++ got ((pair.who_of (ground_of world) p).theirs + word_place world.queue AvailableIndex) value ∷ []) a.were, refl) in
+      let read : IsIndexRead (who_of world p) (reads_of older p) AvailableIndex (length (side_of older p).delivered) count = index_rest AvailableIndex (length (side_of older p).delivered) count (high_half value, lone, ap (λ (k : ℕ). distance (k % 65536) (high_half value)) n) in
       by_test world older p (nat_le count (size_of world.queue)) (look_marks count) (refusal field_name.AvailIndex (high_half value))
-      (λ _. by_test world older p (count == 0) (Look 0 ∷ Done ∷ []) (Look count ∷ []) (λ _. (tt, (tt, tt))) (λ _. (tt, tt)))
+      (λ _. by_test world older p (count == 0) (Look 0 ∷ Done ∷ []) (Look count ∷ [])
+      (λ none. (subst (IsIndexRead (who_of world p) (reads_of older p) AvailableIndex (length (side_of older p).delivered)) (zero_tells count none) read, (tt, tt))) (λ _. (read, tt)))
       (λ test. let beyond : ¬ IsAvailIndex world.queue (taken % 65536) (high_half value) = within_denies count (size_of world.queue) test in
-      refused_rest field_name.AvailIndex (high_half value) (reads_of past p, value, a.reads, refl, subst (λ (k : ℕ). ¬ IsAvailIndex world.queue (k % 65536) (high_half value)) n beyond))
+      refused_rest field_name.AvailIndex (high_half value) (reads_of past p, value, a.reads, refl, subst (λ (k : ℕ). ¬ IsAvailIndex world.queue (k % 65536) (high_half value)) n beyond) lone)
 
   entry_rest : (more : ℕ) → AtMarks world p past older (AtEntry (length (side_of older p).delivered) more) value end → MarksRest world older p (marks_at (pair.who_of (ground_of world) p) (AtEntry (length (side_of older p).delivered) more) value)
   entry_rest more a =
@@ -209,7 +234,7 @@ module _ (world : World) (p : ℕ) (past older : List Line) (value : ℕ) (end :
       let number = length (side_of older p).delivered in
       let entry = entry_half (entry_of who number) value in
       by_test world older p (is_entry world.queue entry) [] (refusal field_name.AvailEntry entry) (λ _. tt)
-      (λ test. refused_rest field_name.AvailEntry entry (with_entry_word value, a.reads ∙ ap (λ (r : List Got). r ++ entry_read who number (with_entry_word value) ∷ []) a.were, refl, entry_denies world.queue entry test))
+      (λ test. refused_rest field_name.AvailEntry entry (with_entry_word value, a.reads ∙ ap (λ (r : List Got). r ++ entry_read who number (with_entry_word value) ∷ []) a.were, refl, entry_denies world.queue entry test) tt)
 
   high_rest : (more entry low : ℕ) → AtMarks world p past older (AtHigh (length (side_of older p).delivered) more entry low) value end → MarksRest world older p (marks_at (pair.who_of (ground_of world) p) (AtHigh (length (side_of older p).delivered) more entry low) value)
   high_rest more entry low a =
@@ -219,7 +244,7 @@ module _ (world : World) (p : ℕ) (past older : List Line) (value : ℕ) (end :
       let r = a.were in
       by_test world older p (is_address world.queue address) [] (refusal field_name.DescAddress address) (λ _. tt)
       (λ test. refused_rest field_name.DescAddress address
-      (record (r.0) { high = value }, a.reads ∙ high_taken who number value (reads_of past p) r.0 entry r.1 r.2, r.3, ap (λ (l : ℕ). address_of l value) r.4, address_denies world.queue address test))
+      (record (r.0) { high = value }, a.reads ∙ high_taken who number value (reads_of past p) r.0 entry r.1 r.2, r.3, ap (λ (l : ℕ). address_of l value) r.4, address_denies world.queue address test) tt)
 
   length_rest : (more entry address : ℕ) → AtMarks world p past older (AtLength (length (side_of older p).delivered) more entry address) value end →
       MarksRest world older p (marks_at (pair.who_of (ground_of world) p) (AtLength (length (side_of older p).delivered) more entry address) value)
@@ -229,7 +254,7 @@ module _ (world : World) (p : ℕ) (past older : List Line) (value : ℕ) (end :
       let r = a.were in
       by_test world older p (is_length world.queue address value) [] (refusal field_name.DescLength value) (λ _. tt)
       (λ test. refused_rest field_name.DescLength value
-      (record (r.0) { bytes = value }, a.reads ∙ length_taken who number value (reads_of past p) r.0 entry r.1 r.2, r.3, r.5, refl, subst (λ (x : ℕ). ¬ IsDescLength world.queue x value) r.4 (length_denies world.queue address value test)))
+      (record (r.0) { bytes = value }, a.reads ∙ length_taken who number value (reads_of past p) r.0 entry r.1 r.2, r.3, r.5, refl, subst (λ (x : ℕ). ¬ IsDescLength world.queue x value) r.4 (length_denies world.queue address value test)) tt)
 
   flags_rest : (more entry address bytes : ℕ) → AtMarks world p past older (AtFlags (length (side_of older p).delivered) more entry address bytes) value end →
       MarksRest world older p (marks_at (pair.who_of (ground_of world) p) (AtFlags (length (side_of older p).delivered) more entry address bytes) value)
@@ -239,7 +264,7 @@ module _ (world : World) (p : ℕ) (past older : List Line) (value : ℕ) (end :
       let r = a.were in
       by_test world older p (low_half value == 0) [] (refusal field_name.DescFlags (low_half value)) (λ _. tt)
       (λ test. refused_rest field_name.DescFlags (low_half value)
-      (record (r.0) { flags_word = value }, a.reads ∙ flags_taken who number value (reads_of past p) r.0 entry r.1 r.2, r.3, r.5, r.7, refl, nonzero_tells (low_half value) test))
+      (record (r.0) { flags_word = value }, a.reads ∙ flags_taken who number value (reads_of past p) r.0 entry r.1 r.2, r.3, r.5, r.7, refl, nonzero_tells (low_half value) test) tt)
 
   -- the marks of the step at each place
   pub marks_rest : (place : Place) → AtMarks world p past older place value end → MarksRest world older p (marks_at (pair.who_of (ground_of world) p) place value)
@@ -249,12 +274,7 @@ module _ (world : World) (p : ℕ) (past older : List Line) (value : ℕ) (end :
   marks_rest (Setting state) a = (tt, tt)
   marks_rest Refusing a = (tt, tt)
   marks_rest Downed a = (tt, tt)
-  marks_rest (AtUsedIndex job freed) a =
-      let who = pair.who_of (ground_of world) p in
-      let count = returned_by freed value in
-      by_test world older p (nat_le count (job.number - freed)) (reclaim_marks who job freed count) (refusal field_name.UsedIndex (high_half value))
-      (λ _. by_test world older p (count == 0) (Reclaim 0 ∷ full_marks who job freed) (Reclaim count ∷ []) (λ _. (tt, full_rest world (line.Reclaim p 0 ∷ older) p who job freed)) (λ _. (tt, tt)))
-      (λ test. used_index_rest job freed a test)
+  marks_rest (AtUsedIndex job freed) a = used_index_rest job freed a
   marks_rest (AtUsedId job freed more) a =
       let who = pair.who_of (ground_of world) p in
       by_test world older p (value == descriptor_of who freed) (if more == 0 then full_marks who job (freed + 1) else []) (refusal field_name.UsedId value)

@@ -25,7 +25,7 @@ use Rattle.lawful_history.specs.declared.line.Line.TheVariants as line
 use Rattle.lawful_history.specs.Memory.{last_write}
 use Rattle.history_laws.specs.Told.{side_after, side_of, telling_of}
 use Rattle.history_laws.proofs.Proper.{ground_of, is_ground}
-use Rattle.history_laws.proofs.Stands.{Stands, Settled, Rests, answers}
+use Rattle.history_laws.proofs.Stands.{Stands, Settled, Rests, WritesIn, answers}
 use Rattle.history_laws.specs.Rows.{HasRow}
 
 record Outside (world : World) (past : List Line) (line : Line) : Type 0 where
@@ -35,6 +35,7 @@ record Outside (world : World) (past : List Line) (line : Line) : Type 0 where
   reads : (q : ℕ) → q < 2 → is_link world q ≡ true → reads_of (line ∷ past) q ≡ reads_of past q
   settles : Settled world (line ∷ past)
   fine : HasRow world past line (telling_of line) × Rests world past (telling_of line)
+  writes : WritesIn world past line
 
 outside_stands : (world : World) (past : List Line) (line : Line) (ends : ℕ → End) (places : ℕ → Place) → IsWorld world → Outside world past line → Stands world past ends places → Stands world (line ∷ past) ends places
 outside_stands world past line ends places is o s = record {
@@ -43,7 +44,7 @@ outside_stands world past line ends places is o s = record {
   states = λ p below. o.states p below (s.states p below);
   reads = λ p below honest. subst (λ (r : List Got). ReadsAre (pair.who_of (ground_of world) p) (places p) r) (sym (o.reads p below honest)) (s.reads p below honest);
   settled = o.settles;
-  fine = ((o.fine.0, o.fine.1, answers world past line s.settled), s.fine);
+  fine = ((o.fine.0, o.fine.1, answers world past line s.settled, o.writes), s.fine);
 }
 
 -- what becomes of one word or one side, and not of another
@@ -76,12 +77,17 @@ above_table g p word (inr common) = common.0
 pub read_stands : (world : World) (past : List Line) (p word value : ℕ) (ends : ℕ → End) (places : ℕ → Place) → IsWorld world → is_link world p ≡ false → Stands world past ends places → Stands world (line.Read p word value ∷ past) ends places
 read_stands world past p word value ends places is no_link = outside_stands world past (line.Read p word value) ends places is record {
   untouched = λ q below honest. record { state = refl; section = λ j small. refl };
-  sides = λ q below honest. refl;
-  states = λ q below old. old;
+  sides = λ q below honest. there_is p q (side_after (told.Gave value) (side_of past q)) (side_of past q) (differ world p q no_link honest);
+  states = λ q below old. old ∙ sym (gave (p == q) q);
   reads = λ q below honest. there_is p q (reads_of past q ++ got word value ∷ []) (reads_of past q) (differ world p q no_link honest);
   settles = λ refused honest beyond. let no : false ≡ true = sym no_link ∙ honest in cc;
-  fine = (tt, tt);
+  fine = ((λ below. here_is p (side_after (told.Gave value) (side_of past p)) (side_of past p)), tt);
+  writes = tt;
 }
+  where
+    gave : (b : Bool) (q : ℕ) → (if b then side_after (told.Gave value) (side_of past q) else side_of past q).state ≡ (side_of past q).state
+    gave true q = refl
+    gave false q = refl
 
 pub write_stands : (world : World) (past : List Line) (p word value : ℕ) (ends : ℕ → End) (places : ℕ → Place) → IsWorld world → is_link world p ≡ false → MayWrite world.geometry p word → Stands world past ends places →
     Stands world (line.Write p word value ∷ past) ends places
@@ -92,9 +98,10 @@ write_stands world past p word value ends places is no_link may = outside_stands
   };
   sides = λ q below honest. refl;
   states = λ q below old. there_is word q value (last_write past q) (below_table q below) ∙ old;
-  reads = λ q below honest. there_is p q [] (reads_of past q) (differ world p q no_link honest);
+  reads = λ q below honest. refl;
   settles = tt;
   fine = (tt, tt);
+  writes = λ honest. let no : false ≡ true = sym no_link ∙ honest in absurd (cc);
 }
   where
     below_table : (q : ℕ) → q < 2 → word ≢ q
@@ -119,12 +126,13 @@ state_stands world past p value ends places is few no_link = let new = side_afte
   untouched = state_untouched world past p value is few no_link;
   sides = λ q below honest. there_is p q (side_after (told.Wrote value) (side_of past q)) (side_of past q) (differ world p q no_link honest);
   states = λ q below old. state_there past p value q (side_after (told.Wrote value) (side_of past q)) refl old;
-  reads = λ q below honest. there_is p q [] (reads_of past q) (differ world p q no_link honest);
+  reads = λ q below honest. refl;
   settles = tt;
   fine = (
     λ below. (subst (λ (b : Bool). MayWriteState b (side_of past p) value) (sym no_link) tt, here_is p new (side_of past p)),
     λ honest refused. let no : false ≡ true = sym no_link ∙ honest in absurd (cc),
   );
+  writes = tt;
 }
 
 pub reset_stands : (world : World) (past : List Line) (p : ℕ) (ends : ℕ → End) (places : ℕ → Place) → IsWorld world → p < world.geometry.peers → is_link world p ≡ false → Stands world past ends places →
@@ -136,4 +144,5 @@ reset_stands world past p ends places is few no_link = let new = side_after told
   reads = λ q below honest. there_is p q [] (reads_of past q) (differ world p q no_link honest);
   settles = tt;
   fine = (λ below. here_is p new (side_of past p), tt);
+  writes = tt;
 }

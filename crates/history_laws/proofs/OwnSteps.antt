@@ -6,6 +6,8 @@ use Rattle.std.specs.Prelude.{reverse}
 use Rattle.std.specs.List.{AllByRecursion}
 use Rattle.split_ring.specs.declared.steps.Access.{Access}
 use Rattle.split_ring.specs.declared.steps.Access.TheVariants as access
+use Rattle.link_handshake.specs.declared.Phase.{Phase}
+use Rattle.link_handshake.specs.declared.Phase.TheVariants.{Reset, Init, Ready, Run}
 use Rattle.link_handshake.specs.PhaseTable.{state_of}
 use Rattle.scenario_text.specs.Scenario.{World, IsWorld, is_link}
 use Rattle.call_grammar.specs.Ends.{End, after_reset, end_after}
@@ -36,7 +38,7 @@ use Rattle.history_laws.proofs.MarkFacts.{AtMarks, at_access, marks_rest}
 use Rattle.history_laws.proofs.Proper.{ground_of, is_ground}
 use Rattle.history_laws.proofs.Stands.{Fine, Stands, IsQuiet, Settled, BringsNone, answers}
 use Rattle.history_laws.proofs.Outside.{here_is}
-use Rattle.history_laws.proofs.StepLines.{RestsAt, StepWent, after_access, step_went, stored_at, one_told, broken_beside, AnswersMarks, ReadsAlone}
+use Rattle.history_laws.proofs.StepLines.{RestsAt, StepWent, after_access, step_went, stored_at, one_told, broken_here, broken_beside, AnswersMarks, ReadsAlone}
 use Rattle.history_laws.proofs.Beyond.{refuses}
 use Rattle.history_laws.proofs.Grounds.{who_is}
 use Rattle.split_ring.specs.declared.ranges.Refused.{Refused}
@@ -107,7 +109,7 @@ begins_stands world past ends after_ends places after_places p call is below hon
     come_stands world past past ends after_ends places after_places p (ends p) (first_place who (ends p) call) (side_of past p) is below honest only
     (whole_kept.begins ground (is_link world) (last_write past) ends after_ends places after_places p call (is_ground world is) below honest record { given = given; closed = closed; comes = only } s.holds)
     (follow_lem.begins who (ends p) call (side_of past p) (subst (λ (x : Place). SideIs (ends p) x (side_of past p)) closed (s.sides p below honest)))
-    (first_reads who (reads_of past p) (ends p) call)
+    (first_reads who (reads_of past p) (ends p) call (subst (λ (x : Place). ReadsAre who x (reads_of past p)) closed (s.reads p below honest)))
     (record { here = refl; beside = refl; untouched = record { state = refl; section = λ j small. refl }; reads_beside = refl; settled = s.settled; fine = s.fine }) s
 
 -- A step
@@ -126,12 +128,19 @@ zero_at ground p end (Setting (suc n)) rests marked = let f : true ≡ false = s
 zero_at ground p end Refusing rests marked = refl
 zero_at ground p end place rests marked = tt
 
-rests_at : (world : World) (past : List Line) (p : ℕ) (a : Access) → (is_link world p ≡ true → (side_of past p).refused ≡ true → IsZero a) → RestsAt world past p a
-rests_at world past p (access.Read word) none = tt
-rests_at world past p (access.Write word written) none = tt
-rests_at world past p (access.State state) none = none
-rests_at world past p (access.Ring target vector) none = tt
-rests_at world past p access.Nothing none = tt
+rests_at : (world : World) (past : List Line) (p : ℕ) (a : Access) → (is_link world p ≡ true → (side_of past p).refused ≡ true → IsZero a) → ((word value : ℕ) → a ≡ access.Write word value → (side_of past p).state ≢ 0) → RestsAt world past p a
+rests_at world past p (access.Read word) none writes = tt
+rests_at world past p (access.Write word written) none writes = λ honest. writes word written refl
+rests_at world past p (access.State state) none writes = none
+rests_at world past p (access.Ring target vector) none writes = tt
+rests_at world past p access.Nothing none writes = tt
+
+-- the phase of RESET
+phase_reset : (phase : Phase) → state_of phase ≡ 0 → phase ≡ Reset
+phase_reset Reset e = refl
+phase_reset Init e = absurd (omega arith)
+phase_reset Ready e = absurd (omega arith)
+phase_reset Run e = absurd (omega arith)
 
 -- the marks of a read answer it: where it is out of range they are its refusal
 answered_by : (world : World) (past : List Line) (p word value : ℕ) (marks : List Mark) →
@@ -172,7 +181,7 @@ step_stands world past device ends after_ends places after_places p value is bel
     let reads = s.reads p below honest in
     let alone = s.holds.alone p below honest in
     let f = follow_lem.steps ground (is_link world) (last_write past) ends places p value (side_of past p) (side_of past (1 - p)) (is_ground world is) below honest s.holds si (sym (s.states (1 - p) o2)) (s.sides (1 - p) o2) opened met in
-    let rests = rests_at world past p a (λ _ refused. zero_at ground p (ends p) place alone.rests (sym si.refused ∙ refused)) in
+    let rests = rests_at world past p a (λ _ refused. zero_at ground p (ends p) place alone.rests (sym si.refused ∙ refused)) (λ word v e zero. alone_kept.quiet ground p (last_write past) (ends p) place word v alone (phase_reset (ends p).handshake.phase (sym si.state ∙ zero)) e) in
     let older = reverse device ++ after_access p a value past in
     let there = at_access world p a value device past quiet in
     let at_marks : AtMarks world p past older place value (ends p) = record { alone = alone; side = si; were = reads; left = there.left; stays = there.stays; reads = there.reads } in
@@ -194,5 +203,5 @@ own_reset_stands world past ends after_ends places after_places p is below hones
     let f = follow_lem.resets world.queue (is_link world (1 - p)) (ends p) (places p) (side_of past p) (side_of past (1 - p)) (s.sides p below honest) in
     let one = one_told world past (line.Reset p) p told.WasReset f.0 below honest refl f.1 tt (answers world past (line.Reset p) s.settled) in
     come_stands world past after ends after_ends places after_places p (after_reset (ends p)) Closed f.0 is below honest only
-    (whole_kept.resets ground (is_link world) (last_write past) (last_write after) ends after_ends places after_places p (is_ground world is) below honest record { stored = stored; comes = only } s.holds) f.2 tt
+    (whole_kept.resets ground (is_link world) (last_write past) (last_write after) ends after_ends places after_places p (is_ground world is) below honest record { stored = stored; comes = only } s.holds) f.2 (broken_here (line.Reset p) past p refl)
     (record { here = one.here; beside = one.beside; untouched = theirs_stay ground (last_write past) (last_write after) p (is_ground world is) below (λ w ne apart. stored.beside w ne); reads_beside = broken_beside (line.Reset p) past p below refl; settled = tt; fine = (one.fine, s.fine) }) s

@@ -6,7 +6,7 @@ use Rattle.std.specs.Prelude.{◌==◌, reverse}
 use Rattle.std.specs.List.{AllByRecursion}
 use Rattle.std.proofs.lemmas.List.Elements.{recursion_from_All}
 use Rattle.call_grammar.specs.Steps.{Mark, Saw, Reclaim, Full, Accept, Look, Deliver, Return, Done, Down, Refuse, Over}
-use Rattle.link_machine.specs.LinkMachine.{Side, Told, Wrote, Marked, WasReset}
+use Rattle.link_machine.specs.LinkMachine.{Side, Told, Gave, Wrote, Marked, WasReset}
 use Rattle.call_grammar.proofs.OfferLists.{yes, no}
 use Rattle.lawful_history.specs.declared.line.Line.{Line}
 use Rattle.lawful_history.specs.declared.line.Line.TheVariants as line
@@ -36,6 +36,7 @@ marked_delivers peer p (Refuse refused) side e within = record { looked = refl; 
 marked_delivers peer p Over side e within = record { looked = refl; delivered = omega arith }
 
 told_delivers : (peer p : ℕ) (told : Told) (side : Side) → peer ≡ p → IsWithin p (Tells peer told) → Delivers side (side_after told side) (delivers (Tells peer told) p)
+told_delivers peer p (Gave value) side e within = record { looked = refl; delivered = omega arith }
 told_delivers peer p (Wrote state) side e within = absurd (within e)
 told_delivers peer p (Marked mark) side e within = marked_delivers peer p mark side e within
 told_delivers peer p WasReset side e within = record { looked = refl; delivered = omega arith }
@@ -55,6 +56,7 @@ none_marked peer p (Refuse refused) ne = refl
 none_marked peer p Over ne = refl
 
 none_told : (peer p : ℕ) (told : Told) → peer ≢ p → delivers (Tells peer told) p ≡ 0
+none_told peer p (Gave value) ne = refl
 none_told peer p (Wrote state) ne = refl
 none_told peer p (Marked mark) ne = none_marked peer p mark ne
 none_told peer p WasReset ne = refl

@@ -1,21 +1,22 @@
 -- What a call has read at its place, and how each step goes on with it.
-use Rattle.std.proofs.Common.{◌≡◌, ℕ, zero, suc, ◌+◌, ◌-◌, ◌/◌, Bool, true, false, List, [], ◌∷◌, ◌++◌, length, refl, sym, ◌∙◌, ap, subst, arith, ne_eqb}
+use Rattle.std.proofs.Common.{◌≡◌, ℕ, zero, suc, ◌+◌, ◌-◌, ◌/◌, ◌<◌, ◌≤◌, Bool, true, false, List, [], ◌∷◌, ◌++◌, length, refl, sym, ◌∙◌, ap, subst, arith, ne_eqb}
 use Rattle.std.specs.Prelude.{◌==◌, nat_le, if◌then◌else◌}
 use Rattle.std.proofs.lemmas.Bool.Decides.{nat_tests}
 use Rattle.split_ring.specs.declared.ranges.FieldName.TheVariants as field_name
 use Rattle.split_ring.specs.declared.steps.Access.{Access}
 use Rattle.split_ring.specs.declared.steps.Access.TheVariants as access
-use Rattle.split_ring.specs.Layout.{size_of, limit_of, word_place, Address, Length, Flags}
+use Rattle.split_ring.specs.Layout.{size_of, limit_of, word_place, Address, Length, Flags, UsedIndex}
 use Rattle.split_ring.specs.Spelling.{low_half, high_half, entry_half}
 use Rattle.split_ring.specs.Ranges.{IsAvailEntry, IsDescAddress, IsDescLength, IsDescFlags}
 use Rattle.link_handshake.specs.declared.Move.{Move}
 use Rattle.link_handshake.specs.declared.Move.TheVariants.{Stay, Set, ClearThenSet}
 use Rattle.link_handshake.specs.Standing.{move_of}
-use Rattle.call_grammar.specs.Steps.{Mark, Look, Done, Deliver}
+use Rattle.call_grammar.specs.Steps.{Mark, Reclaim, Full, Look, Done, Deliver}
+use Rattle.call_grammar.specs.Ticks.{tick_marks}
 use Rattle.call_grammar.specs.Ends.{End}
 use Rattle.call_grammar.specs.Words.{words_for, address_of, frame_in}
 use Rattle.call_grammar.specs.Calls.{Who, Call, Tick, Stop, Offer, Poll, in_run, job_of}
-use Rattle.call_grammar.specs.Offers.{Job, descriptor_of, entry_of, refusal, returned_by}
+use Rattle.call_grammar.specs.Offers.{Job, descriptor_of, entry_of, refusal, full_marks, returned_by, reclaim_marks}
 use Rattle.call_grammar.specs.Polls.{Item, item_entry, item_address, is_entry, is_address, is_length, published_by, look_marks}
 use Rattle.call_grammar.specs.Places.{Place, Closed, AtState, Clearing, Setting, Refusing, Downed, AtUsedIndex, AtUsedId, Filling, WritingLow, WritingHigh, WritingLength, WritingFlags, WritingEntry, WritingIndex, RingingOffer, AtAvailIndex, AtEntry, AtLow, AtHigh, AtLength, AtFlags, AtWord, GivingId, GivingLength, GivingIndex, RingingPoll, clear_place, tick_place, fill_place, ids_place, items_place, words_place, first_place, access_at, marks_at, next_place}
 use Rattle.call_grammar.proofs.OfferLists.{no}
@@ -25,9 +26,16 @@ use Rattle.history_laws.specs.Reads.{Got, got, entry_read, low_read, high_read, 
 flags_tells : (f : ℕ) → (f == 0) ≡ true → IsDescFlags f
 flags_tells f test = grind (arith, nat_tests)
 
--- what the call has read of the item in hand, and which tests it passed
+-- what the call has read since its last mark: of the item in hand, with the tests that it passed; an offer that has begun to read ids, those
 abbrev pub ReadsAre : Who → Place → List Got → Type 0
-ReadsAre who (AtEntry number more) reads = reads ≡ []
+ReadsAre who (AtUsedId job freed more) reads = Unit {0}
+ReadsAre who (Filling job at more) reads = Unit {0}
+ReadsAre who (WritingLow job) reads = Unit {0}
+ReadsAre who (WritingHigh job) reads = Unit {0}
+ReadsAre who (WritingLength job) reads = Unit {0}
+ReadsAre who (WritingFlags job) reads = Unit {0}
+ReadsAre who (WritingEntry job) reads = Unit {0}
+ReadsAre who (WritingIndex job) reads = Unit {0}
 ReadsAre who (AtLow number more entry) reads = (read : Item) × (reads ≡ entry_read who number read ∷ []) × (entry ≡ item_entry who number read) × IsAvailEntry who.sizes (item_entry who number read)
 ReadsAre who (AtHigh number more entry low) reads = (read : Item) × (reads ≡ entry_read who number read ∷ low_read who number read ∷ []) × (entry ≡ item_entry who number read) × IsAvailEntry who.sizes (item_entry who number read) × (low ≡ read.low)
 ReadsAre who (AtLength number more entry address) reads =
@@ -40,13 +48,13 @@ ReadsAre who (AtWord number more entry address bytes words left) reads =
     (read : Item) × (reads ≡ entry_read who number read ∷ low_read who number read ∷ high_read who number read ∷ length_read who number read ∷ flags_read who number read ∷ word_reads who (item_address read) 0 words) ×
     (entry ≡ item_entry who number read) × IsAvailEntry who.sizes (item_entry who number read) ×
     (address ≡ item_address read) × IsDescAddress who.sizes (item_address read) × (bytes ≡ read.bytes) × IsDescLength who.sizes (item_address read) read.bytes × IsDescFlags (low_half read.flags_word)
-ReadsAre who place reads = Unit {0}
+ReadsAre who place reads = reads ≡ []
 
--- what is read after a step: its marks begin anew, and so does a write
+-- what is read after a step: its marks begin anew
 abbrev pub reads_taken : Access → ℕ → List Got → List Got
 reads_taken (access.Read word) value reads = reads ++ got word value ∷ []
-reads_taken (access.Write word written) value reads = []
-reads_taken (access.State state) value reads = []
+reads_taken (access.Write word written) value reads = reads
+reads_taken (access.State state) value reads = reads
 reads_taken (access.Ring target vector) value reads = reads
 reads_taken access.Nothing value reads = reads
 
@@ -64,28 +72,28 @@ fill_reads : (who : Who) (reads : List Got) (job : Job) (at count : ℕ) → Rea
 fill_reads who reads job at zero = tt
 fill_reads who reads job at (suc more) = tt
 
-ids_reads : (who : Who) (reads : List Got) (job : Job) (freed count : ℕ) → ReadsAre who (ids_place who job freed count) reads
-ids_reads who reads job freed zero = either (λ x. ReadsAre who x reads) (job.number == freed + limit_of who.sizes) Closed (fill_place job 0 (words_for (length job.frame))) tt (fill_reads who reads job 0 (words_for (length job.frame)))
-ids_reads who reads job freed (suc more) = tt
+ids_reads : (who : Who) (job : Job) (freed count : ℕ) → ReadsAre who (ids_place who job freed count) []
+ids_reads who job freed zero = either (λ x. ReadsAre who x []) (job.number == freed + limit_of who.sizes) Closed (fill_place job 0 (words_for (length job.frame))) refl (fill_reads who [] job 0 (words_for (length job.frame)))
+ids_reads who job freed (suc more) = tt
 
-clear_reads : (who : Who) (reads : List Got) (at count state : ℕ) → ReadsAre who (clear_place at count state) reads
-clear_reads who reads at zero state = tt
-clear_reads who reads at (suc more) state = tt
+clear_reads : (who : Who) (at count state : ℕ) → ReadsAre who (clear_place at count state) []
+clear_reads who at zero state = refl
+clear_reads who at (suc more) state = refl
 
-tick_reads : (who : Who) (reads : List Got) (move : Move) → ReadsAre who (tick_place who move) reads
-tick_reads who reads Stay = tt
-tick_reads who reads (Set state) = tt
-tick_reads who reads (ClearThenSet state) = clear_reads who reads who.own who.words state
+tick_reads : (who : Who) (value : ℕ) (taken : List Got) (move : Move) → ReadsAre who (tick_place who move) (reads_marked (tick_marks value move) taken)
+tick_reads who value taken Stay = refl
+tick_reads who value taken (Set state) = refl
+tick_reads who value taken (ClearThenSet state) = clear_reads who who.own who.words state
 
 items_reads : (who : Who) (number count : ℕ) → ReadsAre who (items_place number count) []
-items_reads who number zero = tt
+items_reads who number zero = refl
 items_reads who number (suc more) = refl
 
-pub first_reads : (who : Who) (reads : List Got) (end : End) (call : Call) → ReadsAre who (first_place who end call) reads
-first_reads who reads end Tick = tt
-first_reads who reads end Stop = tt
-first_reads who reads end (Offer frame) = either (λ x. ReadsAre who x reads) (in_run end.handshake.phase) (AtUsedIndex (job_of who end frame) end.freed) Downed tt tt
-first_reads who reads end Poll = either (λ x. ReadsAre who x reads) (in_run end.handshake.phase) (AtAvailIndex (length end.delivered)) Downed tt tt
+pub first_reads : (who : Who) (reads : List Got) (end : End) (call : Call) → reads ≡ [] → ReadsAre who (first_place who end call) reads
+first_reads who reads end Tick none = none
+first_reads who reads end Stop none = none
+first_reads who reads end (Offer frame) none = either (λ x. ReadsAre who x reads) (in_run end.handshake.phase) (AtUsedIndex (job_of who end frame) end.freed) Downed none none
+first_reads who reads end Poll none = either (λ x. ReadsAre who x reads) (in_run end.handshake.phase) (AtAvailIndex (length end.delivered)) Downed none none
 
 -- A test that decides both the next place and the marks
 
@@ -148,63 +156,80 @@ module _ (who : Who) (number : ℕ) (value : ℕ) (reads : List Got) (read : Ite
       ap (λ (r : List Got). entry_read who number read ∷ low_read who number read ∷ high_read who number read ∷ length_read who number read ∷ flags_read who number read ∷ r)
       (ap (λ (a : ℕ). word_reads who (item_address read) 0 words ++ got (who.theirs + (a / 4 + length words)) value ∷ []) e ∙ next_word who (item_address read) value words)
 
-words_reads : (who : Who) (number more entry address bytes : ℕ) (words : List ℕ) (count : ℕ) (reads : List Got) →
+words_reads : (who : Who) (number more entry address bytes : ℕ) (words : List ℕ) (count : ℕ) (reads : List Got) → 0 < count →
     ((left : ℕ) → ReadsAre who (AtWord number more entry address bytes words left) reads) → ReadsAre who (words_place number more entry address bytes words count) reads
-words_reads who number more entry address bytes words zero reads is = tt
-words_reads who number more entry address bytes words (suc left) reads is = is left
+words_reads who number more entry address bytes words zero reads some is = absurd (omega arith)
+words_reads who number more entry address bytes words (suc left) reads some is = is left
+
+-- the marks of an id that passed: full where the limit is in flight, or none
+ids_marked : (who : Who) (job : Job) (freed more : ℕ) (taken : List Got) → ReadsAre who (ids_place who job freed more) (reads_marked (if more == 0 then full_marks who job freed else []) taken)
+ids_marked who job freed zero taken = by_bool (job.number == freed + limit_of who.sizes)
+  where
+    by_bool : (b : Bool) → ReadsAre who (if b then Closed else fill_place job 0 (words_for (length job.frame))) (reads_marked (if b then Full ∷ [] else []) taken)
+    by_bool true = refl
+    by_bool false = fill_reads who taken job 0 (words_for (length job.frame))
+ids_marked who job freed (suc more) taken = tt
+
+some_words : (bytes : ℕ) → 14 ≤ bytes → 0 < words_for bytes
+some_words bytes some = omega arith
 
 -- Each step
 
 pub reads_on : (who : Who) (place : Place) (value : ℕ) (reads : List Got) → ReadsAre who place reads → ReadsAre who (next_place who place value) (reads_marked (marks_at who place value) (reads_taken (access_at who place) value reads))
-reads_on who Closed value reads is = tt
-reads_on who (AtState handshake) value reads is = tick_reads who _ (move_of handshake value)
-reads_on who (Clearing at more state) value reads is = clear_reads who _ (at + 1) more state
-reads_on who (Setting state) value reads is = tt
-reads_on who Refusing value reads is = tt
-reads_on who Downed value reads is = tt
+reads_on who Closed value reads is = is
+reads_on who (AtState handshake) value reads is = tick_reads who value _ (move_of handshake value)
+reads_on who (Clearing at more state) value reads is = subst (ReadsAre who (clear_place (at + 1) more state)) (sym is) (clear_reads who (at + 1) more state)
+reads_on who (Setting state) value reads is = refl
+reads_on who Refusing value reads is = refl
+reads_on who Downed value reads is = refl
 reads_on who (AtUsedIndex job freed) value reads is =
-    let reads' = reads_marked (marks_at who (AtUsedIndex job freed) value) (reads_taken (access_at who (AtUsedIndex job freed)) value reads) in
-    either (λ x. ReadsAre who x reads') (nat_le (returned_by freed value) (job.number - freed)) (ids_place who job freed (returned_by freed value)) Refusing (ids_reads who reads' job freed (returned_by freed value)) tt
+    let count = returned_by freed value in
+    by_test who _ (nat_le count (job.number - freed)) (ids_place who job freed count) Refusing (reclaim_marks who job freed count) (refusal field_name.UsedIndex (high_half value))
+    (λ _. subst (λ (r : List Got). ReadsAre who (ids_place who job freed count) r) (sym (reclaimed (count == 0))) (ids_reads who job freed count)) (λ _. refl)
+  where
+    reclaimed : (b : Bool) → reads_marked (if b then Reclaim 0 ∷ full_marks who job freed else Reclaim (returned_by freed value) ∷ []) (reads ++ got (who.theirs + word_place who.sizes UsedIndex) value ∷ []) ≡ []
+    reclaimed true = refl
+    reclaimed false = refl
 reads_on who (AtUsedId job freed more) value reads is =
-    let reads' = reads_marked (marks_at who (AtUsedId job freed more) value) (reads_taken (access_at who (AtUsedId job freed more)) value reads) in
-    either (λ x. ReadsAre who x reads') (value == descriptor_of who freed) (ids_place who job (freed + 1) more) Refusing (ids_reads who reads' job (freed + 1) more) tt
+    by_test who _ (value == descriptor_of who freed) (ids_place who job (freed + 1) more) Refusing (if more == 0 then full_marks who job (freed + 1) else []) (refusal field_name.UsedId value)
+    (λ _. ids_marked who job (freed + 1) more _) (λ _. refl)
 reads_on who (Filling job at more) value reads is = fill_reads who _ job (at + 1) more
 reads_on who (WritingLow job) value reads is = tt
 reads_on who (WritingHigh job) value reads is = tt
 reads_on who (WritingLength job) value reads is = tt
 reads_on who (WritingFlags job) value reads is = tt
 reads_on who (WritingEntry job) value reads is = tt
-reads_on who (WritingIndex job) value reads is = tt
-reads_on who RingingOffer value reads is = tt
+reads_on who (WritingIndex job) value reads is = refl
+reads_on who RingingOffer value reads is = refl
 reads_on who (AtAvailIndex taken) value reads is =
     let count = published_by taken value in
     by_test who _ (nat_le count (size_of who.sizes)) (if count == 0 then Closed else items_place taken count) Refusing (look_marks count) (refusal field_name.AvailIndex (high_half value))
-    (λ _. by_test who _ (count == 0) Closed (items_place taken count) (Look 0 ∷ Done ∷ []) (Look count ∷ []) (λ _. tt) (λ _. items_reads who taken count)) (λ _. tt)
+    (λ _. by_test who _ (count == 0) Closed (items_place taken count) (Look 0 ∷ Done ∷ []) (Look count ∷ []) (λ _. refl) (λ _. items_reads who taken count)) (λ _. refl)
 reads_on who (AtEntry number more) value reads is =
     let entry = entry_half (entry_of who number) value in
     by_test who _ (is_entry who.sizes entry) (AtLow number more entry) Refusing [] (refusal field_name.AvailEntry entry)
-    (λ test. (with_entry_word value, ap (λ (r : List Got). r ++ entry_read who number (with_entry_word value) ∷ []) is, refl, entry_tells who.sizes entry test)) (λ _. tt)
+    (λ test. (with_entry_word value, ap (λ (r : List Got). r ++ entry_read who number (with_entry_word value) ∷ []) is, refl, entry_tells who.sizes entry test)) (λ _. refl)
 reads_on who (AtLow number more entry) value reads is = (record (is.0) { low = value }, low_taken who number value reads is.0 entry is.1 is.2, is.2, is.3, refl)
 reads_on who (AtHigh number more entry low) value reads is =
     let read = record (is.0) { high = value } in
     let address : address_of low value ≡ item_address read = ap (λ (l : ℕ). address_of l value) is.4 in
     by_test who _ (is_address who.sizes (address_of low value)) (AtLength number more entry (address_of low value)) Refusing [] (refusal field_name.DescAddress (address_of low value))
-    (λ test. (read, high_taken who number value reads is.0 entry is.1 is.2, is.2, is.3, address, subst (IsDescAddress who.sizes) address (address_tells who.sizes (address_of low value) test))) (λ _. tt)
+    (λ test. (read, high_taken who number value reads is.0 entry is.1 is.2, is.2, is.3, address, subst (IsDescAddress who.sizes) address (address_tells who.sizes (address_of low value) test))) (λ _. refl)
 reads_on who (AtLength number more entry address) value reads is =
     let read = record (is.0) { bytes = value } in
     by_test who _ (is_length who.sizes address value) (AtFlags number more entry address value) Refusing [] (refusal field_name.DescLength value)
-    (λ test. (read, length_taken who number value reads is.0 entry is.1 is.2, is.2, is.3, is.4, is.5, refl, subst (λ (a : ℕ). IsDescLength who.sizes a value) is.4 (length_tells who.sizes address value test))) (λ _. tt)
+    (λ test. (read, length_taken who number value reads is.0 entry is.1 is.2, is.2, is.3, is.4, is.5, refl, subst (λ (a : ℕ). IsDescLength who.sizes a value) is.4 (length_tells who.sizes address value test))) (λ _. refl)
 reads_on who (AtFlags number more entry address bytes) value reads is =
     let read = record (is.0) { flags_word = value } in
     by_test who _ (low_half value == 0) (words_place number more entry address bytes [] (words_for bytes)) Refusing [] (refusal field_name.DescFlags (low_half value))
-    (λ test. words_reads who number more entry address bytes [] (words_for bytes) _ (λ left. (read, flags_taken who number value reads is.0 entry is.1 is.2, is.2, is.3, is.4, is.5, is.6, is.7, flags_tells (low_half value) test))) (λ _. tt)
-reads_on who (AtWord number more entry address bytes words zero) value reads is = tt
+    (λ test. words_reads who number more entry address bytes [] (words_for bytes) _ (some_words bytes (subst (λ k. 14 ≤ k) (sym is.6) is.7.0)) (λ left. (read, flags_taken who number value reads is.0 entry is.1 is.2, is.2, is.3, is.4, is.5, is.6, is.7, flags_tells (low_half value) test))) (λ _. refl)
+reads_on who (AtWord number more entry address bytes words zero) value reads is = refl
 reads_on who (AtWord number more entry address bytes words (suc left)) value reads is =
     let none : (suc left == 0) ≡ false = ne_eqb (suc left) 0 (λ e. absurd (omega arith)) in
     let marks : (if suc left == 0 then Deliver (frame_in bytes (words ++ value ∷ [])) ∷ [] else []) ≡ [] = no (suc left == 0) (Deliver (frame_in bytes (words ++ value ∷ [])) ∷ []) [] none in
     subst (λ (m : List Mark). ReadsAre who (AtWord number more entry address bytes (words ++ value ∷ []) left) (reads_marked m (reads ++ got (who.theirs + (address / 4 + length words)) value ∷ []))) (sym marks)
     (is.0, word_taken who number value reads is.0 address words is.1 is.4, is.2, is.3, is.4, is.5, is.6, is.7, is.8)
-reads_on who (GivingId number more entry) value reads is = tt
-reads_on who (GivingLength number more) value reads is = tt
+reads_on who (GivingId number more entry) value reads is = is
+reads_on who (GivingLength number more) value reads is = is
 reads_on who (GivingIndex number more) value reads is = items_reads who (number + 1) more
-reads_on who RingingPoll value reads is = tt
+reads_on who RingingPoll value reads is = refl

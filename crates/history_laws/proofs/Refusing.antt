@@ -8,7 +8,7 @@ use Rattle.std.proofs.lemmas.List.Elements.{recursion_from_All}
 use Rattle.split_ring.specs.declared.ranges.Refused.{Refused}
 use Rattle.scenario_text.specs.Scenario.{World, IsWorld, is_link}
 use Rattle.call_grammar.specs.Steps.{Mark, Saw, Reclaim, Full, Accept, Look, Deliver, Return, Done, Down, Refuse, Over}
-use Rattle.link_machine.specs.LinkMachine.{Side, Told, Wrote, Marked, WasReset}
+use Rattle.link_machine.specs.LinkMachine.{Side, Told, Gave, Wrote, Marked, WasReset}
 use Rattle.call_grammar.proofs.OfferLists.{yes}
 use Rattle.lawful_history.specs.declared.line.Line.{Line}
 use Rattle.lawful_history.specs.declared.line.Line.TheVariants as line
@@ -56,11 +56,13 @@ told_refused peer p told side no_reset is = dite (ℕ_discrete peer p)
     (λ ne. ap (λ (x : Side). x.refused) (there_is peer p (side_after told side) side ne) ∙ is)
   where
     by_told : (t : Told) → t ≢ WasReset → (side_after t side).refused ≡ true
+    by_told (Gave value) ne = is
     by_told (Wrote state) ne = is
     by_told (Marked mark) ne = marked_refused mark side is
     by_told WasReset ne = absurd (ne refl)
 
 line_refused : (l : Line) (p : ℕ) (side : Side) → l ≢ line.Reset p → side.refused ≡ true → (side_told (telling_of l) p side).refused ≡ true
+line_refused (line.Read peer word value) p side ne is = told_refused peer p (Gave value) side (λ e h. cc) is
 line_refused (line.State peer value) p side ne is = told_refused peer p (Wrote value) side (λ e h. cc) is
 line_refused (line.Reset peer) p side ne is = told_refused peer p WasReset side (λ e h. ne (ap line.Reset e)) is
 line_refused (line.Saw peer value) p side ne is = told_refused peer p (Marked (Saw value)) side (λ e h. cc) is

@@ -5,7 +5,7 @@ use native.Mathlib.Decide.{ℕ_discrete}
 use Rattle.std.specs.Prelude.{◌==◌, if◌then◌else◌, reverse}
 use Rattle.std.proofs.lemmas.Bool.{cases_lt}
 use Rattle.scenario_text.specs.Scenario.{World, is_link}
-use Rattle.link_machine.specs.LinkMachine.{Side, fresh_side, Told, Wrote, Marked, WasReset, Row, Log, no_sessions, log_after, MachineRuns, starts, goes, DeliversInOrder}
+use Rattle.link_machine.specs.LinkMachine.{Side, fresh_side, Told, Gave, Wrote, Marked, WasReset, Row, Log, no_sessions, log_after, MachineRuns, starts, goes, DeliversInOrder}
 use Rattle.call_grammar.proofs.OfferLists.{no}
 use Rattle.link_machine.proofs.MachineLaws.{machine}
 use Rattle.lawful_history.specs.declared.line.Line.{Line}
@@ -36,6 +36,7 @@ log_is : (past : List Line) (l : Line) (t : Telling) (q : ℕ) → telling_of l 
 log_is past l t q e = ap (λ (x : Telling). log_told x q (side_of past q) (log_of past q) (log_of past (1 - q))) e
 
 row_of : (world : World) (past : List Line) (p : ℕ) (told : Told) (new : Side) → p < 2 → IsRow world past p told new → Row world.queue (is_link world p) (is_link world (1 - p)) (side_of past p) (side_of past (1 - p)) told new
+row_of world past p (Gave value) new below row = row below
 row_of world past p (Wrote state) new below row = row below
 row_of world past p (Marked mark) new below row = row.1
 row_of world past p WasReset new below row = row below

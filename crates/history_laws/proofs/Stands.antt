@@ -1,5 +1,5 @@
 -- Where two link peers stand after the lines of a history, and the lines that change nothing of it.
-use Rattle.std.proofs.Common.{◌≡◌, ℕ, ◌<◌, Bool, true, false, List, [], ◌∷◌, ◌++◌, length, refl, sym, ◌∙◌, ap, subst, append_assoc}
+use Rattle.std.proofs.Common.{◌≡◌, ◌≢◌, ℕ, ◌<◌, Bool, true, false, List, [], ◌∷◌, ◌++◌, length, refl, sym, ◌∙◌, ap, subst, append_assoc}
 use Rattle.std.specs.Prelude.{if◌then◌else◌, Option, Some, None, nat_lt, reverse}
 use Rattle.std.specs.List.{AllByRecursion}
 use Rattle.std.proofs.lemmas.List.{reverse-append}
@@ -7,10 +7,10 @@ use Rattle.doorbell_irq.specs.declared.effect.Delivery.{Delivery}
 use Rattle.doorbell_irq.specs.Events as device
 use Rattle.doorbell_irq.specs.DeviceRules.{effect_of}
 use Rattle.scenario_text.specs.Scenario.{World, is_link}
-use Rattle.call_grammar.specs.Steps.{Mark, Accept, Deliver, Refuse, Step}
+use Rattle.call_grammar.specs.Steps.{Mark, Reclaim, Accept, Look, Deliver, Refuse, Step}
 use Rattle.call_grammar.specs.Ends.{End}
 use Rattle.call_grammar.specs.Places.{Place}
-use Rattle.link_machine.specs.LinkMachine.{Side, Wrote, Marked, WasReset}
+use Rattle.link_machine.specs.LinkMachine.{Side, Told, Gave, Wrote, Marked, WasReset}
 use Rattle.ends_pair.specs.Ground as pair
 use Rattle.ends_pair.specs.Whole.{Whole}
 use Rattle.ends_pair.proofs.WholeKept.{whole_like}
@@ -27,6 +27,8 @@ use Rattle.history_laws.specs.Told.{Telling, Tells, Silent, telling_of, side_tol
 use Rattle.history_laws.specs.Rows.{EachLine, HasRow}
 use Rattle.history_laws.specs.Reads.{Got, Reading, Passes, reading_of, reads_with, reads_of, IsReadFrame, IsReadBeyond, Takes, Breaks, got}
 use Rattle.history_laws.specs.Spelled.{SpellsNext}
+use Rattle.history_laws.specs.Indexes.{IsIndexRead, IsLoneIndex}
+use Rattle.split_ring.specs.Layout.{AvailableIndex, UsedIndex}
 use Rattle.history_laws.proofs.ReadPlaces.{ReadsAre}
 use Rattle.lawful_history.specs.Sides.{who_of}
 use Rattle.history_laws.proofs.Proper.{ground_of}
@@ -34,15 +36,19 @@ use Rattle.split_ring.specs.declared.ranges.Refused.{Refused}
 use Rattle.split_ring.specs.declared.steps.Access.{Access}
 use Rattle.split_ring.specs.declared.steps.Access.TheVariants as access
 
--- what stands where a mark does: an accepted frame is spelled, a delivered one was read, and a refused value too
+-- what stands where a mark does: an accepted frame is spelled, a delivered one was read, a refused value too, and an index once
 abbrev pub MarkRests : World → List Line → ℕ → Mark → Type 0
+MarkRests world older p (Reclaim count) = IsIndexRead (who_of world p) (reads_of older p) UsedIndex (side_of older p).freed count
 MarkRests world older p (Accept frame) = SpellsNext world older p frame
+MarkRests world older p (Look count) = IsIndexRead (who_of world p) (reads_of older p) AvailableIndex (length (side_of older p).delivered) count
 MarkRests world older p (Deliver frame) = IsReadFrame (who_of world p) (length (side_of older p).delivered) (reads_of older p) frame
-MarkRests world older p (Refuse refused) = IsReadBeyond (who_of world p) (side_of older p) (reads_of older p) refused.field refused.value
+MarkRests world older p (Refuse refused) =
+    IsReadBeyond (who_of world p) (side_of older p) (reads_of older p) refused.field refused.value × IsLoneIndex (who_of world p) (reads_of older p) refused.field refused.value
 MarkRests world older p mark = Unit {0}
 
 -- and an honest side that refused writes 0 alone
 abbrev pub Rests : World → List Line → Telling → Type 0
+Rests world older (Tells p (Gave value)) = Unit {0}
 Rests world older (Tells p (Wrote state)) = is_link world p ≡ true → (side_of older p).refused ≡ true → state ≡ 0
 Rests world older (Tells p (Marked mark)) = MarkRests world older p mark
 Rests world older (Tells p WasReset) = Unit {0}
@@ -79,9 +85,22 @@ pub answers : (world : World) (past : List Line) (line : Line) → Settled world
 answers world [] line settled = tt
 answers world (first ∷ older) line settled = settled_by world (reading_of first) older line settled
 
+-- an honest side in RESET writes no word
+abbrev pub WritesIn : World → List Line → Line → Type 0
+WritesIn world older (line.Write p word value) = is_link world p ≡ true → (side_of older p).state ≢ 0
+WritesIn world older line = Unit {0}
+
+writes_apart : (world : World) (older : List Line) (l : Line) → touch_of l ≡ touch.Apart → WritesIn world older l
+writes_apart world older (line.Write p word value) apart = absurd (cc)
+writes_apart world older l apart = tt
+
+pub writes_told : (world : World) (older : List Line) (l : Line) (p : ℕ) (told : Told) → telling_of l ≡ Tells p told → WritesIn world older l
+writes_told world older (line.Write p word value) q told tells = absurd (cc)
+writes_told world older l p told tells = tt
+
 -- what is kept of each line
 abbrev pub Fine : World → List Line → Line → Type 0
-Fine world older line = HasRow world older line (telling_of line) × Rests world older (telling_of line) × AnswersTo world older line
+Fine world older line = HasRow world older line (telling_of line) × Rests world older (telling_of line) × AnswersTo world older line × WritesIn world older line
 
 -- after these lines the ends stand at these places, each honest one is the side of the lines and has read what is among them, and the state words are those of the sides
 pub record Stands (world : World) (past : List Line) (ends : ℕ → End) (places : ℕ → Place) : Type 0 where
@@ -149,7 +168,7 @@ quiet_line world line past q = record {
   sides = sides_after line past q.silent;
   reads = reads_after line past q.passes;
   settled = λ settled. passes_settled world line past q.passes;
-  fine = λ settled old. let told = silent_fine world line past (telling_of line) q.silent in ((told.0, told.1, answers world past line settled), old);
+  fine = λ settled old. let told = silent_fine world line past (telling_of line) q.silent in ((told.0, told.1, answers world past line settled, writes_apart world past line q.apart), old);
 }
 
 alike_on : (world : World) (old mid new : List Line) → Alike world old mid → Alike world mid new → Alike world old new

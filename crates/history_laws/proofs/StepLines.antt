@@ -7,8 +7,8 @@ use Rattle.split_ring.specs.declared.steps.Access.{Access}
 use Rattle.split_ring.specs.declared.steps.Access.TheVariants as access
 use Rattle.split_ring.specs.Layout.{Sizes}
 use Rattle.scenario_text.specs.Scenario.{World, is_link}
-use Rattle.call_grammar.specs.Steps.{Mark, Saw, Reclaim, Full, Accept, Look, Deliver, Return, Done, Down, Refuse, Over, step_of}
-use Rattle.link_machine.specs.LinkMachine.{Side, Told, Wrote, Marked, WasReset, MarkRow, Row}
+use Rattle.call_grammar.specs.Steps.{value_given, Mark, Saw, Reclaim, Full, Accept, Look, Deliver, Return, Done, Down, Refuse, Over, step_of}
+use Rattle.link_machine.specs.LinkMachine.{Side, Told, Gave, Wrote, Marked, WasReset, MarkRow, Row}
 use Rattle.ends_pair.specs.Steps.{Leaves}
 use Rattle.ends_pair.specs.Sides.{told_of, RowsAlong}
 use Rattle.lawful_history.specs.declared.line.Line.{Line}
@@ -20,17 +20,17 @@ use Rattle.history_laws.specs.Told.{Telling, Tells, telling_of, side_marked, sid
 use Rattle.history_laws.specs.Rows.{EachLine, IsRow, HasRow}
 use Rattle.history_laws.specs.Reads.{Got, got, Reading, Breaks, reading_of, reads_with, reads_of}
 use Rattle.history_laws.proofs.ReadPlaces.{reads_taken, reads_marked}
-use Rattle.history_laws.proofs.Stands.{MarkRests, Rests, Fine, IsQuiet, quiet_lines, memory_after, first_after, AnswersTo, SettledBy, Settled, answers}
+use Rattle.history_laws.proofs.Stands.{MarkRests, Rests, Fine, IsQuiet, quiet_lines, memory_after, first_after, AnswersTo, SettledBy, Settled, writes_told, answers}
 use Rattle.history_laws.proofs.Outside.{here_is, there_is}
 
 -- The row of what is told determines the side after it
 
 mark_new : (sizes : Sizes) (honest : Bool) (side other : Side) (mark : Mark) (new : Side) → MarkRow sizes honest side other mark new → new ≡ side_marked mark side
-mark_new sizes honest side other (Saw value) new row = row.1
-mark_new sizes honest side other (Reclaim count) new row = row.2
+mark_new sizes honest side other (Saw value) new row = row.2
+mark_new sizes honest side other (Reclaim count) new row = row.3
 mark_new sizes honest side other Full new row = row.2
 mark_new sizes honest side other (Accept frame) new row = row.2
-mark_new sizes honest side other (Look count) new row = row.2
+mark_new sizes honest side other (Look count) new row = row.3
 mark_new sizes honest side other (Deliver frame) new row = row.3
 mark_new sizes honest side other Return new row = row.2
 mark_new sizes honest side other Done new row = row.2
@@ -39,6 +39,7 @@ mark_new sizes honest side other (Refuse refused) new row = row.3
 mark_new sizes honest side other Over new row = row
 
 pub row_new : (sizes : Sizes) (mine theirs : Bool) (side other : Side) (told : Told) (new : Side) → Row sizes mine theirs side other told new → new ≡ side_after told side
+row_new sizes mine theirs side other (Gave value) new row = row
 row_new sizes mine theirs side other (Wrote state) new row = row.1
 row_new sizes mine theirs side other (Marked mark) new row = mark_new sizes theirs side other mark new row.1
 row_new sizes mine theirs side other WasReset new row = row
@@ -68,6 +69,7 @@ other_of : (p : ℕ) → p < 2 → p ≢ 1 - p
 other_of p below e = absurd (omega arith)
 
 is_row : (world : World) (past : List Line) (p : ℕ) (told : Told) (new : Side) → p < 2 → Row world.queue (is_link world p) (is_link world (1 - p)) (side_of past p) (side_of past (1 - p)) told new → IsRow world past p told new
+is_row world past p (Gave value) new below row = λ _. row
 is_row world past p (Wrote state) new below row = λ _. row
 is_row world past p (Marked mark) new below row = (below, row)
 is_row world past p WasReset new below row = λ _. row
@@ -85,6 +87,7 @@ one_told world past line p told new below honest tells row rests answered =
         subst (λ (t : Telling). HasRow world past line t) (sym tells) (is_row world past p told (side_of (line ∷ past) p) below row_here),
         subst (λ (t : Telling). Rests world past t) (sym tells) rests,
         answered,
+        writes_told world past line p told tells,
       );
       here = is;
       beside = ap (λ (t : Telling). side_told t (1 - p) (side_of past (1 - p))) tells ∙ there_is p (1 - p) (side_after told (side_of past (1 - p))) (side_of past (1 - p)) (other_of p below);
@@ -188,10 +191,10 @@ pub record StepWent (world : World) (p : ℕ) (past : List Line) (a : Access) (v
   pub settled : Settled world after
   pub fine : EachLine (Fine world) after
 
--- a State access of an honest side that refused is of 0
+-- a State access of an honest side that refused is of 0, and one in RESET writes no word
 abbrev pub RestsAt : World → List Line → ℕ → Access → Type 0
 RestsAt world past p (access.Read word) = Unit {0}
-RestsAt world past p (access.Write word written) = Unit {0}
+RestsAt world past p (access.Write word written) = is_link world p ≡ true → (side_of past p).state ≢ 0
 RestsAt world past p (access.State state) = Rests world past (Tells p (Wrote state))
 RestsAt world past p (access.Ring target vector) = Unit {0}
 RestsAt world past p access.Nothing = Unit {0}
@@ -216,15 +219,17 @@ ReadsAlone world p (access.Ring target vector) value device marks past = Unit {0
 ReadsAlone world p access.Nothing value device marks past = Unit {0}
 
 pub step_went : (world : World) (p : ℕ) (a : Access) (value : ℕ) (device : List Line) (marks : List Mark) (past : List Line) (new : Side) → p < 2 → is_link world p ≡ true → AllByRecursion IsQuiet device →
-    RowsAlong world.queue (is_link world (1 - p)) (side_of past (1 - p)) (side_of past p) (told_of a ++ map Marked marks) new → RestsAt world past p a → MarksRest world (reverse device ++ after_access p a value past) p marks → ReadsAlone world p a value device marks past → Settled world past → EachLine (Fine world) past →
+    RowsAlong world.queue (is_link world (1 - p)) (side_of past (1 - p)) (side_of past p) (told_of a (value_given a value) ++ map Marked marks) new → RestsAt world past p a → MarksRest world (reverse device ++ after_access p a value past) p marks → ReadsAlone world p a value device marks past → Settled world past → EachLine (Fine world) past →
     StepWent world p past a value marks (reverse (step_lines p (step_of a value marks) device) ++ past) new
 step_went world p (access.Read word) value device marks past new below honest quiet along rests marks_rest alone settled fine =
     let first = line.Read p word value in
-    let rest = tail_went world p device marks (first ∷ past) (side_of past p) new below honest quiet refl marks_rest (inr alone) along ((tt, tt, answers world past first settled), fine) in
+    let one = one_told world past first p (Gave value) along.0 below honest refl along.1 tt (answers world past first settled) in
+    let rest = tail_went world p device marks (first ∷ past) along.0 new below honest quiet one.here marks_rest (inr alone)
+    (subst (λ (x : Side). RowsAlong world.queue (is_link world (1 - p)) x along.0 (map Marked marks) new) (sym one.beside) along.2) (one.fine, fine) in
     subst (λ (after : List Line). StepWent world p past (access.Read word) value marks after new) (sym (first_after first (device ++ map (mark_line p) marks) past)) record {
       left = rest.memory;
       here = rest.here;
-      beside = rest.beside;
+      beside = rest.beside ∙ one.beside;
       reads_here = rest.reads_here ∙ ap (reads_marked marks) (here_is p (reads_of past p ++ got word value ∷ []) (reads_of past p));
       reads_beside = rest.reads_beside ∙ there_is p (1 - p) (reads_of past (1 - p) ++ got word value ∷ []) (reads_of past (1 - p)) (other_of p below);
       settled = rest.settled;
@@ -232,7 +237,7 @@ step_went world p (access.Read word) value device marks past new below honest qu
     }
 step_went world p (access.Write word written) value device marks past new below honest quiet along rests marks_rest alone settled fine =
     let first = line.Write p word written in
-    let rest = tail_went world p device marks (first ∷ past) (side_of past p) new below honest quiet refl marks_rest (inl tt) along ((tt, tt, answers world past first settled), fine) in
+    let rest = tail_went world p device marks (first ∷ past) (side_of past p) new below honest quiet refl marks_rest (inl tt) along ((tt, tt, answers world past first settled, rests), fine) in
     subst (λ (after : List Line). StepWent world p past (access.Write word written) value marks after new) (sym (first_after first (device ++ map (mark_line p) marks) past)) record {
       left = record {
         here = ap (λ (m : ℕ → ℕ). m word) rest.memory ∙ here_is word written (last_write past word);
@@ -240,8 +245,8 @@ step_went world p (access.Write word written) value device marks past new below 
       };
       here = rest.here;
       beside = rest.beside;
-      reads_here = rest.reads_here ∙ ap (reads_marked marks) (broken_here first past p refl);
-      reads_beside = rest.reads_beside ∙ broken_beside first past p below refl;
+      reads_here = rest.reads_here;
+      reads_beside = rest.reads_beside;
       settled = rest.settled;
       fine = rest.fine;
     }
@@ -257,14 +262,14 @@ step_went world p (access.State state) value device marks past new below honest 
       };
       here = rest.here;
       beside = rest.beside ∙ one.beside;
-      reads_here = rest.reads_here ∙ ap (reads_marked marks) (broken_here first past p refl);
-      reads_beside = rest.reads_beside ∙ broken_beside first past p below refl;
+      reads_here = rest.reads_here;
+      reads_beside = rest.reads_beside;
       settled = rest.settled;
       fine = rest.fine;
     }
 step_went world p (access.Ring target vector) value device marks past new below honest quiet along rests marks_rest alone settled fine =
     let first = line.Doorbell p target vector in
-    let rest = tail_went world p device marks (first ∷ past) (side_of past p) new below honest quiet refl marks_rest (inl tt) along ((tt, tt, answers world past first settled), fine) in
+    let rest = tail_went world p device marks (first ∷ past) (side_of past p) new below honest quiet refl marks_rest (inl tt) along ((tt, tt, answers world past first settled, tt), fine) in
     subst (λ (after : List Line). StepWent world p past (access.Ring target vector) value marks after new) (sym (first_after first (device ++ map (mark_line p) marks) past))
     record { left = rest.memory; here = rest.here; beside = rest.beside; reads_here = rest.reads_here; reads_beside = rest.reads_beside; settled = rest.settled; fine = rest.fine }
 step_went world p access.Nothing value device marks past new below honest quiet along rests marks_rest alone settled fine =

@@ -37,5 +37,6 @@ without_devices lines = filter (λ line. not (is_of_device line)) lines
 -- to the region, each value read, each mark and each frame is the same, in the same order
 abbrev pub DeviceActsChangeNothing : Type 0
 DeviceActsChangeNothing = (world : World) (others : List Act) (lines other_lines : List Line) → IsWorld world → IsWorld (record world { acts = others }) →
-    without_device_events (schedule world.acts) ≡ without_device_events (schedule others) → IsLawful world lines → IsLawful (record world { acts = others }) other_lines →
+    without_device_events (schedule world.acts) ≡ without_device_events (schedule others) → IsLawful world lines →
+    IsLawful (record world { acts = others }) other_lines →
     without_devices lines ≡ without_devices other_lines

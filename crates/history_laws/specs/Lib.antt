@@ -6,3 +6,5 @@ pub mod Sessions
 pub mod Reads
 pub mod Spelled
 pub mod Devices
+pub mod Indexes
+pub mod Quiet

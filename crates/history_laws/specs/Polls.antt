@@ -28,4 +28,5 @@ IsWithin p Silent = Unit {0}
 
 -- between a look and the end of its poll as many frames are delivered as the look found
 abbrev pub DonePollsDeliverAll : Type 0
-DonePollsDeliverAll = (world : World) (before between after : List Line) (p count : ℕ) → IsWorld world → IsLawful world (before ++ Look p count ∷ between ++ Done p ∷ after) → All (λ line. IsWithin p (telling_of line)) between → deliver_count p between ≡ count
+DonePollsDeliverAll = (world : World) (before between after : List Line) (p count : ℕ) → IsWorld world →
+    IsLawful world (before ++ Look p count ∷ between ++ Done p ∷ after) → All (λ line. IsWithin p (telling_of line)) between → deliver_count p between ≡ count

@@ -26,7 +26,7 @@ pub record Got : Type 0 where
 abbrev pub got : ℕ → ℕ → Got
 got word value = record { word = word; value = value }
 
--- what a line says of a peer's reads: one more; or a write, a mark or a reset, after which they begin anew; or nothing
+-- what a line says of a peer's reads: one more; or a mark or a reset, after which they begin anew; or nothing
 pub data Reading : Type 0 where
   Takes : (peer word value : ℕ) → Reading
   Breaks : (peer : ℕ) → Reading
@@ -34,8 +34,6 @@ pub data Reading : Type 0 where
 
 abbrev pub reading_of : Line → Reading
 reading_of (line.Read peer word value) = Takes peer word value
-reading_of (line.Write peer word value) = Breaks peer
-reading_of (line.State peer value) = Breaks peer
 reading_of (line.Reset peer) = Breaks peer
 reading_of (line.Saw peer value) = Breaks peer
 reading_of (line.Reclaim peer count) = Breaks peer
@@ -55,7 +53,7 @@ reads_with (Takes peer word value) p reads = if peer == p then reads ++ got word
 reads_with (Breaks peer) p reads = if peer == p then [] else reads
 reads_with Passes p reads = reads
 
--- what peer p has read since its last write, mark or reset after these lines, of which the newest is the first; of the reads the oldest is the first
+-- what peer p has read since its last mark or reset after these lines, of which the newest is the first; of the reads the oldest is the first
 abbrev pub reads_of : List Line → ℕ → List Got
 reads_of [] p = []
 reads_of (line ∷ older) p = reads_with (reading_of line) p (reads_of older p)
@@ -89,39 +87,49 @@ pub record IsReadFrame (who : Who) (number : ℕ) (reads : List Got) (frame : Li
   pub good : IsGood who number read
   pub frame_is : frame ≡ frame_in read.bytes read.words
 
--- the last of these reads is of this field of the other's section, and the value that stands in it is outside the field's range, counted from the side's own counts. Of an
--- item the reads before passed their tests, and an id is that of a frame that the side counts as freed
+-- the last of these reads is of this field of the other's section, and the value that stands in it is outside the field's range, counted from the side's own
+-- counts. Of an item the reads before passed their tests, and an id is that of a frame that the side counts as freed
 abbrev pub IsReadBeyond : Who → Side → List Got → FieldName → ℕ → Type 0
 IsReadBeyond who side reads field_name.AvailIndex value =
-    (earlier : List Got) × (word : ℕ) × (reads ≡ earlier ++ got (who.theirs + word_place who.sizes AvailableIndex) word ∷ []) × (value ≡ high_half word) × (¬ IsAvailIndex who.sizes (length side.delivered % 65536) value)
+    (earlier : List Got) × (word : ℕ) × (reads ≡ earlier ++ got (who.theirs + word_place who.sizes AvailableIndex) word ∷ []) × (value ≡ high_half word) ×
+    (¬ IsAvailIndex who.sizes (length side.delivered % 65536) value)
 IsReadBeyond who side reads field_name.AvailEntry value =
-    (read : Item) × (reads ≡ entry_read who (length side.delivered) read ∷ []) × (value ≡ item_entry who (length side.delivered) read) × (¬ IsAvailEntry who.sizes value)
+    (read : Item) × (reads ≡ entry_read who (length side.delivered) read ∷ []) × (value ≡ item_entry who (length side.delivered) read) ×
+    (¬ IsAvailEntry who.sizes value)
 IsReadBeyond who side reads field_name.DescAddress value =
     (read : Item) × (reads ≡ entry_read who (length side.delivered) read ∷ low_read who (length side.delivered) read ∷ high_read who (length side.delivered) read ∷ []) ×
     IsAvailEntry who.sizes (item_entry who (length side.delivered) read) × (value ≡ item_address read) × (¬ IsDescAddress who.sizes value)
 IsReadBeyond who side reads field_name.DescLength value =
     (read : Item) × (reads ≡ entry_read who (length side.delivered) read ∷ low_read who (length side.delivered) read ∷ high_read who (length side.delivered) read ∷ length_read who (length side.delivered) read ∷ []) ×
-    IsAvailEntry who.sizes (item_entry who (length side.delivered) read) × IsDescAddress who.sizes (item_address read) × (value ≡ read.bytes) × (¬ IsDescLength who.sizes (item_address read) value)
+    IsAvailEntry who.sizes (item_entry who (length side.delivered) read) × IsDescAddress who.sizes (item_address read) × (value ≡ read.bytes) ×
+    (¬ IsDescLength who.sizes (item_address read) value)
 IsReadBeyond who side reads field_name.DescFlags value =
     (read : Item) × (reads ≡ entry_read who (length side.delivered) read ∷ low_read who (length side.delivered) read ∷ high_read who (length side.delivered) read ∷ length_read who (length side.delivered) read ∷ flags_read who (length side.delivered) read ∷ []) ×
-    IsAvailEntry who.sizes (item_entry who (length side.delivered) read) × IsDescAddress who.sizes (item_address read) × IsDescLength who.sizes (item_address read) read.bytes × (value ≡ low_half read.flags_word) × (¬ IsDescFlags value)
+    IsAvailEntry who.sizes (item_entry who (length side.delivered) read) × IsDescAddress who.sizes (item_address read) ×
+    IsDescLength who.sizes (item_address read) read.bytes × (value ≡ low_half read.flags_word) × (¬ IsDescFlags value)
 IsReadBeyond who side reads field_name.UsedIndex value =
-    (earlier : List Got) × (word : ℕ) × (reads ≡ earlier ++ got (who.theirs + word_place who.sizes UsedIndex) word ∷ []) × (value ≡ high_half word) × (¬ IsUsedIndex (side.freed % 65536) value (length side.accepted - side.freed))
+    (earlier : List Got) × (word : ℕ) × (reads ≡ earlier ++ got (who.theirs + word_place who.sizes UsedIndex) word ∷ []) × (value ≡ high_half word) ×
+    (¬ IsUsedIndex (side.freed % 65536) value (length side.accepted - side.freed))
 IsReadBeyond who side reads field_name.UsedId value =
-    (earlier : List Got) × (number : ℕ) × (number < side.freed) × (side.freed ≤ number + limit_of who.sizes) × (reads ≡ earlier ++ got (who.theirs + word_place who.sizes (Id (entry_of who number))) value ∷ []) ×
+    (earlier : List Got) × (number : ℕ) × (number < side.freed) × (side.freed ≤ number + limit_of who.sizes) ×
+    (reads ≡ earlier ++ got (who.theirs + word_place who.sizes (Id (entry_of who number))) value ∷ []) ×
     (¬ IsUsedId (number % limit_of who.sizes) value)
 
 -- a delivered frame is the one that was read for its item, whatever the other side writes meanwhile
 abbrev pub DeliveredFramesAreRead : Type 0
-DeliveredFramesAreRead = (world : World) (before after : List Line) (p : ℕ) (frame : List ℕ) → IsWorld world → IsLawful world (before ++ line.Deliver p frame ∷ after) →
+DeliveredFramesAreRead = (world : World) (before after : List Line) (p : ℕ) (frame : List ℕ) → IsWorld world →
+    IsLawful world (before ++ line.Deliver p frame ∷ after) →
     IsReadFrame (who_of world p) (length (side_of (reverse before) p).delivered) (reads_of (reverse before) p) frame
 
 -- a refused value stands in what the peer read last, in the field by whose name it is refused, and is outside its range
 abbrev pub RefusedValuesAreRead : Type 0
-RefusedValuesAreRead = (world : World) (before after : List Line) (p : ℕ) (refused : Refused) → IsWorld world → IsLawful world (before ++ line.Refuse p refused ∷ after) →
+RefusedValuesAreRead = (world : World) (before after : List Line) (p : ℕ) (refused : Refused) → IsWorld world →
+    IsLawful world (before ++ line.Refuse p refused ∷ after) →
     IsReadBeyond (who_of world p) (side_of (reverse before) p) (reads_of (reverse before) p) refused.field refused.value
 
 -- and each value that an honest link peer reads outside its field's range is refused at once, by the name of its field
 abbrev pub OutOfRangeIsRefused : Type 0
-OutOfRangeIsRefused = (world : World) (before after : List Line) (p word value : ℕ) (refused : Refused) → IsWorld world → is_link world p ≡ true → IsLawful world (before ++ line.Read p word value ∷ after) →
-    IsReadBeyond (who_of world p) (side_of (reverse before) p) (reads_of (reverse before) p ++ got word value ∷ []) refused.field refused.value → (rest : List Line) × (after ≡ line.Refuse p refused ∷ rest)
+OutOfRangeIsRefused = (world : World) (before after : List Line) (p word value : ℕ) (refused : Refused) → IsWorld world → is_link world p ≡ true →
+    IsLawful world (before ++ line.Read p word value ∷ after) →
+    IsReadBeyond (who_of world p) (side_of (reverse before) p) (reads_of (reverse before) p ++ got word value ∷ []) refused.field refused.value →
+    (rest : List Line) × (after ≡ line.Refuse p refused ∷ rest)

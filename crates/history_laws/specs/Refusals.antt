@@ -10,7 +10,8 @@ use Rattle.history_laws.specs.Told.{side_of}
 
 -- where both link peers are honest, nobody refuses
 abbrev pub HonestPeersNeverRefuse : Type 0
-HonestPeersNeverRefuse = (world : World) (before after : List Line) (p : ℕ) (refused : Refused) → IsWorld world → is_link world 0 ≡ true → is_link world 1 ≡ true → ¬ IsLawful world (before ++ Refuse p refused ∷ after)
+HonestPeersNeverRefuse = (world : World) (before after : List Line) (p : ℕ) (refused : Refused) → IsWorld world → is_link world 0 ≡ true →
+    is_link world 1 ≡ true → ¬ IsLawful world (before ++ Refuse p refused ∷ after)
 
 -- a refusal: it is an honest link peer's, against a hostile one, in RUN, and the value is outside the range of its field
 pub record IsRefusal (world : World) (past : List Line) (p : ℕ) (refused : Refused) : Type 0 where
@@ -20,8 +21,10 @@ pub record IsRefusal (world : World) (past : List Line) (p : ℕ) (refused : Ref
   pub beyond : IsBeyond world.queue (side_of past p) refused.field refused.value
 
 abbrev pub RefusesOutOfRange : Type 0
-RefusesOutOfRange = (world : World) (before after : List Line) (p : ℕ) (refused : Refused) → IsWorld world → IsLawful world (before ++ Refuse p refused ∷ after) → IsRefusal world (reverse before) p refused
+RefusesOutOfRange = (world : World) (before after : List Line) (p : ℕ) (refused : Refused) → IsWorld world →
+    IsLawful world (before ++ Refuse p refused ∷ after) → IsRefusal world (reverse before) p refused
 
 -- until its device is reset, a peer that refused sets no state but 0
 abbrev pub RefusedPeersRest : Type 0
-RefusedPeersRest = (world : World) (before between after : List Line) (p value : ℕ) (refused : Refused) → IsWorld world → IsLawful world (before ++ Refuse p refused ∷ between ++ State p value ∷ after) → All (λ line. line ≢ Reset p) between → value ≡ 0
+RefusedPeersRest = (world : World) (before between after : List Line) (p value : ℕ) (refused : Refused) → IsWorld world →
+    IsLawful world (before ++ Refuse p refused ∷ between ++ State p value ∷ after) → All (λ line. line ≢ Reset p) between → value ≡ 0

@@ -1,7 +1,7 @@
 -- A lawful history runs the link machine: each line of a link peer that tells the machine something has its row, in every scenario.
 use Rattle.std.specs.Prelude.{ℕ, ◌-◌, ◌<◌, List, [], ◌∷◌, reverse}
 use Rattle.scenario_text.specs.Scenario.{World, IsWorld, is_link}
-use Rattle.link_machine.specs.LinkMachine.{Told, Wrote, Marked, WasReset, Side, Row}
+use Rattle.link_machine.specs.LinkMachine.{Told, Gave, Wrote, Marked, WasReset, Side, Row}
 use Rattle.lawful_history.specs.declared.line.Line.{Line}
 use Rattle.lawful_history.specs.Lawful.{IsLawful}
 use Rattle.history_laws.specs.Told.{Telling, Tells, Silent, telling_of, side_of}
@@ -17,6 +17,7 @@ RowOf world older p told new = Row world.queue (is_link world p) (is_link world 
 
 -- peers 0 and 1 are the link peers; marks are theirs alone
 abbrev pub IsRow : World → List Line → ℕ → Told → Side → Type 0
+IsRow world older p (Gave value) new = p < 2 → RowOf world older p (Gave value) new
 IsRow world older p (Wrote state) new = p < 2 → RowOf world older p (Wrote state) new
 IsRow world older p (Marked mark) new = (p < 2) × RowOf world older p (Marked mark) new
 IsRow world older p WasReset new = p < 2 → RowOf world older p WasReset new

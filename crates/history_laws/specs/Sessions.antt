@@ -18,5 +18,6 @@ log_of (line ∷ older) p = log_told (telling_of line) p (side_of older p) (log_
 
 -- so it stands at each moment: after each beginning of a lawful history, through stops and resets
 abbrev pub HistoriesDeliver : Type 0
-HistoriesDeliver = (world : World) (before after : List Line) (p : ℕ) → IsWorld world → IsLawful world (before ++ after) → is_link world 0 ≡ true → is_link world 1 ≡ true → p < 2 →
+HistoriesDeliver = (world : World) (before after : List Line) (p : ℕ) → IsWorld world → IsLawful world (before ++ after) → is_link world 0 ≡ true →
+    is_link world 1 ≡ true → p < 2 →
     DeliversInOrder (side_of (reverse before) p) (side_of (reverse before) (1 - p)) (log_of (reverse before) p) (log_of (reverse before) (1 - p))

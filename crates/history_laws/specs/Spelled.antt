@@ -16,8 +16,10 @@ section_words world past p word = last_write past (section_start world.geometry 
 
 -- they spell this frame at the position after the frames accepted so far, in the descriptor that is next in turn
 abbrev pub SpellsNext : World → List Line → ℕ → List ℕ → Type 0
-SpellsNext world past p frame = Spells world.queue (section_words world past p) (length (side_of past p).accepted) (length (side_of past p).accepted % limit_of world.queue) frame
+SpellsNext world past p frame = Spells world.queue (section_words world past p) (length (side_of past p).accepted)
+    (length (side_of past p).accepted % limit_of world.queue) frame
 
 -- after the access with which a frame is accepted, on which its mark stands, the section spells it, whatever the other side writes
 abbrev pub HistoriesSpellAccepted : Type 0
-HistoriesSpellAccepted = (world : World) (before after : List Line) (p : ℕ) (frame : List ℕ) → IsWorld world → IsLawful world (before ++ Accept p frame ∷ after) → SpellsNext world (reverse before) p frame
+HistoriesSpellAccepted = (world : World) (before after : List Line) (p : ℕ) (frame : List ℕ) → IsWorld world →
+    IsLawful world (before ++ Accept p frame ∷ after) → SpellsNext world (reverse before) p frame

@@ -3,7 +3,9 @@
 #![tactic(auto)]
 
 ghost use Rattle.history_laws.specs.Devices.{DeviceActsChangeNothing};
+ghost use Rattle.history_laws.specs.Indexes.{IndexesAreReadOnce};
 ghost use Rattle.history_laws.specs.Polls.{DonePollsDeliverAll};
+ghost use Rattle.history_laws.specs.Quiet.{ResetsAreQuiet};
 ghost use Rattle.history_laws.specs.Reads.{DeliveredFramesAreRead, OutOfRangeIsRefused, RefusedValuesAreRead};
 ghost use Rattle.history_laws.specs.Refusals.{HonestPeersNeverRefuse, RefusedPeersRest, RefusesOutOfRange};
 ghost use Rattle.history_laws.specs.Rows.{HistoriesRunTheMachine};
@@ -64,6 +66,16 @@ pub fn refused_values_are_read()
 /// Each value that an honest peer reads outside its field's range is refused at once, by the name of the field.
 pub fn values_out_of_range_are_refused()
     ensures { OutOfRangeIsRefused }
+{}
+
+/// Each look, each reclaim and each refusal of an index has one read of that index of its own.
+pub fn indexes_are_read_once()
+    ensures { IndexesAreReadOnce }
+{}
+
+/// An honest peer in RESET writes nothing to its section.
+pub fn resets_are_quiet()
+    ensures { ResetsAreQuiet }
 {}
 
 /// Where two schedules differ in what devices alone are asked, lose or repeat, the histories differ in lines of devices alone.

@@ -13,5 +13,7 @@ fn laws_of_histories() {
     delivered_frames_are_read();
     refused_values_are_read();
     values_out_of_range_are_refused();
+    indexes_are_read_once();
+    resets_are_quiet();
     device_acts_change_nothing();
 }

@@ -12,7 +12,7 @@ use Rattle.split_ring.specs.Layout.{Sizes}
 use Rattle.call_grammar.specs.Steps.{Mark, Saw, Reclaim, Full, Accept, Look, Deliver, Return, Done, Down, Refuse, Over}
 use Rattle.call_grammar.specs.Rows.{MovesTo}
 use Rattle.call_grammar.proofs.OfferLists.{yes, no}
-use Rattle.link_machine.specs.LinkMachine.{Side, fresh_side, Told, Wrote, Marked, WasReset, side_with, MarkRow, Row, Ended, Log, no_sessions, accepted_in, ended_with, log_after, MachineRuns, starts, goes, AreBeginnings, CarriedFall, MachineDelivers}
+use Rattle.link_machine.specs.LinkMachine.{Side, fresh_side, Told, Gave, Wrote, Marked, WasReset, side_with, MarkRow, Row, Ended, Log, no_sessions, accepted_in, ended_with, log_after, MachineRuns, starts, goes, AreBeginnings, CarriedFall, MachineDelivers}
 
 abbrev pub SawLow : Option ℕ → Type 0
 SawLow None = ⊥
@@ -135,25 +135,23 @@ wrote_kind p q l m v n seen moves = by_table (table (phase_at p.state) v n moves
     by_table (inr (inr (inr h))) = let s = is_ready p.state h.0 in subst (λ k. Kind p q l m (side_with p k) (log_after l m p (Wrote k))) (sym h.2)
         (runs s (subst SawHigh (sym seen) h.1) refl refl record { accepted = refl; delivered = refl } refl refl (λ k. refl) (not_run p l (λ e. omega arith)))
 
-same_side : (p : Side) → Keeps p p
-same_side p = record { accepted = refl; delivered = refl }
-
 mark_kind : (sizes : Sizes) (p q : Side) (l m : Log) (mark : Mark) (new : Side) → MarkRow sizes true p q mark new → Kind p q l m new l
-mark_kind sizes p q l m (Saw value) new row = subst (λ (s : Side). Kind p q l m s l) (sym row.1) (sees refl (ap Some row.0) record { accepted = refl; delivered = refl } refl)
-mark_kind sizes p q l m (Reclaim count) new row = subst (λ (s : Side). Kind p q l m s l) (sym row.2) (counts refl refl record { accepted = refl; delivered = refl } refl)
-mark_kind sizes p q l m Full new row = subst (λ (s : Side). Kind p q l m s l) (sym row.2) (counts refl refl (same_side p) refl)
+mark_kind sizes p q l m (Saw value) new row = subst (λ (s : Side). Kind p q l m s l) (sym row.2) (sees refl (ap Some row.1) record { accepted = refl; delivered = refl } refl)
+mark_kind sizes p q l m (Reclaim count) new row = subst (λ (s : Side). Kind p q l m s l) (sym row.3) (counts refl refl record { accepted = refl; delivered = refl } refl)
+mark_kind sizes p q l m Full new row = subst (λ (s : Side). Kind p q l m s l) (sym row.2) (counts refl refl record { accepted = refl; delivered = refl } refl)
 mark_kind sizes p q l m (Accept frame) new row = subst (λ (s : Side). Kind p q l m s l) (sym row.2) (accepts row.0 frame row.0 refl refl refl refl)
-mark_kind sizes p q l m (Look count) new row = subst (λ (s : Side). Kind p q l m s l) (sym row.2) (counts refl refl record { accepted = refl; delivered = refl } refl)
+mark_kind sizes p q l m (Look count) new row = subst (λ (s : Side). Kind p q l m s l) (sym row.3) (counts refl refl record { accepted = refl; delivered = refl } refl)
 mark_kind sizes p q l m (Deliver frame) new row = subst (λ (s : Side). Kind p q l m s l) (sym row.3) (delivers row.0 frame row.0 refl refl refl row.2 refl)
 mark_kind sizes p q l m Return new row = subst (λ (s : Side). Kind p q l m s l) (sym row.2) (counts refl refl record { accepted = refl; delivered = refl } refl)
-mark_kind sizes p q l m Done new row = subst (λ (s : Side). Kind p q l m s l) (sym row.2) (counts refl refl (same_side p) refl)
-mark_kind sizes p q l m Down new row = subst (λ (s : Side). Kind p q l m s l) (sym row.1) (counts refl refl (same_side p) refl)
+mark_kind sizes p q l m Done new row = subst (λ (s : Side). Kind p q l m s l) (sym row.2) (counts refl refl record { accepted = refl; delivered = refl } refl)
+mark_kind sizes p q l m Down new row = subst (λ (s : Side). Kind p q l m s l) (sym row.1) (counts refl refl record { accepted = refl; delivered = refl } refl)
 mark_kind sizes p q l m (Refuse refused) new row = let f : true ≡ false = row.0 in absurd (cc)
-mark_kind sizes p q l m Over new row = subst (λ (s : Side). Kind p q l m s l) (sym row) (counts refl refl (same_side p) refl)
+mark_kind sizes p q l m Over new row = subst (λ (s : Side). Kind p q l m s l) (sym row) (counts refl refl record { accepted = refl; delivered = refl } refl)
 
 pub kind_of : (sizes : Sizes) (p q : Side) (l m : Log) (told : Told) (new : Side) → Row sizes true true p q told new → Kind p q l m new (log_after l m p told)
+kind_of sizes p q l m (Gave value) new is = subst (λ (s : Side). Kind p q l m s l) (sym is) (counts refl refl record { accepted = refl; delivered = refl } refl)
 kind_of sizes p q l m (Wrote n) new (inl e, is) = subst (λ (s : Side). Kind p q l m s (log_after l m p (Wrote n))) (sym is) (subst (λ k. Kind p q l m (side_with p k) (log_after l m p (Wrote k))) (sym e) (wrote_zero p q l m))
-kind_of sizes p q l m (Wrote n) new (inr h, is) = subst (λ (s : Side). Kind p q l m s (log_after l m p (Wrote n))) (sym is) (wrote_kind p q l m h.0 n h.1 h.2)
+kind_of sizes p q l m (Wrote n) new (inr h, is) = subst (λ (s : Side). Kind p q l m s (log_after l m p (Wrote n))) (sym is) (wrote_kind p q l m h.1.0 n h.1.1 h.1.2)
 kind_of sizes p q l m (Marked mark) new row = mark_kind sizes p q l m mark new row.1
 kind_of sizes p q l m WasReset new is = subst (λ (s : Side). Kind p q l m s (log_after l m p WasReset)) (sym is) (falls_to refl refl record { accepted = refl; delivered = refl } record { opened = refl; carried = refl; earlier = λ k. refl } refl)
 

@@ -4,34 +4,41 @@ use Rattle.link_handshake.specs.PhaseTable.{phase_at}
 use Rattle.split_ring.specs.declared.ranges.FieldName.{FieldName}
 use Rattle.split_ring.specs.declared.ranges.FieldName.TheVariants as field_name
 use Rattle.split_ring.specs.Layout.{Sizes, size_of, limit_of}
+use Rattle.ivs_base.specs.Numbers.{distance}
+use Rattle.split_ring.specs.Spelling.{low_half, high_half, entry_half}
 use Rattle.split_ring.specs.Ranges.{IsAvailIndex, IsAvailEntry, IsDescAddress, IsDescLength, IsDescFlags, IsUsedIndex, IsUsedId}
 use Rattle.call_grammar.specs.Steps.{Mark, Saw, Reclaim, Full, Accept, Look, Deliver, Return, Done, Down, Refuse, Over}
+use Rattle.call_grammar.specs.Words.{address_of}
 use Rattle.call_grammar.specs.Rows.{MovesTo}
 
--- one side of the link: its state word; the value that it saw since it wrote its state last; whether it refused; and of its present session the frames accepted and
--- delivered, how far it looked, and how many frames it returned and freed
+-- one side of the link: its state word; the value that it saw since it wrote its state last; whether it refused; the values that it read since its last mark or
+-- reset; and of its present session the frames accepted and delivered, how far it looked, how many frames it returned and freed, and how many it freed by its
+-- last look at the used index
 pub record Side : Type 0 where
   pub state : ℕ
   pub seen : Option ℕ
   pub refused : Bool
+  pub read : List ℕ
   pub accepted : List (List ℕ)
   pub delivered : List (List ℕ)
   pub looked : ℕ
   pub returned : ℕ
   pub freed : ℕ
+  pub reclaimed : ℕ
 
 abbrev pub fresh_side : Side
-fresh_side = record { state = 0; seen = None; refused = false; accepted = []; delivered = []; looked = 0; returned = 0; freed = 0 }
+fresh_side = record { state = 0; seen = None; refused = false; read = []; accepted = []; delivered = []; looked = 0; returned = 0; freed = 0; reclaimed = 0 }
 
--- what a step tells the machine: a write of the state word, a mark, or the reset of the device
+-- what a step tells the machine: the value that a read gave, a write of the state word, a mark, or the reset of the device
 pub data Told : Type 0 where
+  Gave : (value : ℕ) → Told
   Wrote : (state : ℕ) → Told
   Marked : (mark : Mark) → Told
   WasReset : Told
 
--- an honest side writes 0, or the state to which it moves on from what it saw since its last write; a hostile one any value
+-- an honest side writes 0, or the state to which it moves on from what it saw since its last write, and after a refusal 0 alone; a hostile one any value
 abbrev pub MayWriteState : Bool → Side → ℕ → Type 0
-MayWriteState true side state = (state ≡ 0) ⊎ ((value : ℕ) × (side.seen ≡ Some value) × MovesTo (phase_at side.state) value state)
+MayWriteState true side state = (state ≡ 0) ⊎ ((side.refused ≡ false) × ((value : ℕ) × (side.seen ≡ Some value) × MovesTo (phase_at side.state) value state))
 MayWriteState false side state = Unit {0}
 
 -- a write of 2 opens a session, whose lists and counts are empty
@@ -40,12 +47,18 @@ side_with side state = record {
   state = state;
   seen = None;
   refused = side.refused;
+  read = side.read;
   accepted = if state == 2 then [] else side.accepted;
   delivered = if state == 2 then [] else side.delivered;
   looked = if state == 2 then 0 else side.looked;
   returned = if state == 2 then 0 else side.returned;
   freed = if state == 2 then 0 else side.freed;
+  reclaimed = if state == 2 then 0 else side.reclaimed;
 }
+
+-- An index is read once for each use: the one value that the side read since its last mark is the word of the index, and so far the index is from its own count
+abbrev pub ReadsIndex : Side → (own count : ℕ) → Type 0
+ReadsIndex side own count = (word : ℕ) × (side.read ≡ word ∷ []) × (count ≡ distance (own % 65536) (high_half word))
 
 -- so many frames are reclaimed: all that an honest other returned, or at most those in flight
 abbrev pub MayReclaim : Bool → Side → Side → ℕ → Type 0
@@ -62,36 +75,58 @@ abbrev pub MayDeliver : Bool → Side → Side → List ℕ → Type 0
 MayDeliver true side other frame = slice_get other.accepted (length side.delivered) ≡ Some frame
 MayDeliver false side other frame = (14 ≤ length frame) × (length frame ≤ 65553)
 
--- the value is outside the range of its field, counted from the side's own counts. That of a length depends on an address that was in range, and an id is that of a
--- frame that the side has reclaimed
+-- the value stands in what the side read last, and is outside the range of its field, counted from the side's own counts. Of an item the reads before it are
+-- those
+-- of the item, and its length is tested by the address that was read; the j-th id of an offer is that of the j-th frame freed by the offer
 abbrev pub IsBeyond : Sizes → Side → FieldName → ℕ → Type 0
-IsBeyond sizes side field_name.AvailIndex value = ¬ IsAvailIndex sizes (length side.delivered % 65536) value
-IsBeyond sizes side field_name.AvailEntry value = ¬ IsAvailEntry sizes value
-IsBeyond sizes side field_name.DescAddress value = ¬ IsDescAddress sizes value
-IsBeyond sizes side field_name.DescLength value = (address : ℕ) × IsDescAddress sizes address × (¬ IsDescLength sizes address value)
-IsBeyond sizes side field_name.DescFlags value = ¬ IsDescFlags value
-IsBeyond sizes side field_name.UsedIndex value = ¬ IsUsedIndex (side.freed % 65536) value (length side.accepted - side.freed)
-IsBeyond sizes side field_name.UsedId value = (number : ℕ) × (number < side.freed) × (¬ IsUsedId (number % limit_of sizes) value)
+IsBeyond sizes side field_name.AvailIndex value =
+    (word : ℕ) × (side.read ≡ word ∷ []) × (value ≡ high_half word) × (¬ IsAvailIndex sizes (length side.delivered % 65536) value)
+IsBeyond sizes side field_name.AvailEntry value =
+    (word : ℕ) × (side.read ≡ word ∷ []) × (value ≡ entry_half (length side.delivered % size_of sizes) word) × (¬ IsAvailEntry sizes value)
+IsBeyond sizes side field_name.DescAddress value =
+    (word low high : ℕ) × (side.read ≡ word ∷ low ∷ high ∷ []) × (value ≡ address_of low high) × (¬ IsDescAddress sizes value)
+IsBeyond sizes side field_name.DescLength value =
+    (word low high : ℕ) × (side.read ≡ word ∷ low ∷ high ∷ value ∷ []) × IsDescAddress sizes (address_of low high) ×
+    (¬ IsDescLength sizes (address_of low high) value)
+IsBeyond sizes side field_name.DescFlags value =
+    (word low high bytes flags : ℕ) × (side.read ≡ word ∷ low ∷ high ∷ bytes ∷ flags ∷ []) × (value ≡ low_half flags) × (¬ IsDescFlags value)
+IsBeyond sizes side field_name.UsedIndex value =
+    (word : ℕ) × (side.read ≡ word ∷ []) × (value ≡ high_half word) × (¬ IsUsedIndex (side.freed % 65536) value (length side.accepted - side.freed))
+IsBeyond sizes side field_name.UsedId value =
+    (ids : List ℕ) × (side.read ≡ ids ++ value ∷ []) × (length ids < side.reclaimed) ×
+    (¬ IsUsedId ((side.freed - side.reclaimed + length ids) % limit_of sizes) value)
 
--- the row of a mark: where it is allowed to a side against an other that is honest or not, and what it makes of the side. The marks of offers and polls come in RUN alone
+-- the row of a mark: where it is allowed to a side against an other that is honest or not, and what it makes of the side, whose reads begin anew. The marks of
+-- offers and polls come in RUN alone
 abbrev pub MarkRow : Sizes → Bool → Side → Side → Mark → Side → Type 0
-MarkRow sizes honest side other (Saw value) new = (value ≡ other.state) × (new ≡ record side { seen = Some value })
-MarkRow sizes honest side other (Accept frame) new = (side.state ≡ 3) × (length side.accepted < side.freed + limit_of sizes) × (new ≡ record side { accepted = side.accepted ++ frame ∷ [] })
-MarkRow sizes honest side other (Reclaim count) new = (side.state ≡ 3) × MayReclaim honest side other count × (new ≡ record side { freed = side.freed + count })
-MarkRow sizes honest side other Full new = (side.state ≡ 3) × (length side.accepted ≡ side.freed + limit_of sizes) × (new ≡ side)
-MarkRow sizes honest side other (Look count) new = (side.state ≡ 3) × MayLook sizes honest side other count × (new ≡ record side { looked = length side.delivered + count })
-MarkRow sizes honest side other (Deliver frame) new = (side.state ≡ 3) × (length side.delivered < side.looked) × MayDeliver honest side other frame × (new ≡ record side { delivered = side.delivered ++ frame ∷ [] })
-MarkRow sizes honest side other Return new = (side.state ≡ 3) × (side.returned + 1 ≡ length side.delivered) × (new ≡ record side { returned = side.returned + 1 })
-MarkRow sizes honest side other Done new = (side.state ≡ 3) × (length side.delivered ≡ side.looked) × (new ≡ side)
-MarkRow sizes honest side other Down new = (side.state ≢ 3) × (new ≡ side)
-MarkRow sizes honest side other (Refuse refused) new = (honest ≡ false) × (side.state ≡ 3) × IsBeyond sizes side refused.field refused.value × (new ≡ record side { refused = true })
-MarkRow sizes honest side other Over new = new ≡ side
+MarkRow sizes honest side other (Saw value) new = (side.read ≡ value ∷ []) × (value ≡ other.state) × (new ≡ record side { seen = Some value; read = [] })
+MarkRow sizes honest side other (Accept frame) new =
+    (side.state ≡ 3) × (length side.accepted < side.freed + limit_of sizes) × (new ≡ record side { accepted = side.accepted ++ frame ∷ []; read = [] })
+MarkRow sizes honest side other (Reclaim count) new =
+    (side.state ≡ 3) × ReadsIndex side side.freed count × MayReclaim honest side other count ×
+    (new ≡ record side { freed = side.freed + count; reclaimed = count; read = [] })
+MarkRow sizes honest side other Full new = (side.state ≡ 3) × (length side.accepted ≡ side.freed + limit_of sizes) × (new ≡ record side { read = [] })
+MarkRow sizes honest side other (Look count) new =
+    (side.state ≡ 3) × ReadsIndex side (length side.delivered) count × MayLook sizes honest side other count ×
+    (new ≡ record side { looked = length side.delivered + count; read = [] })
+MarkRow sizes honest side other (Deliver frame) new =
+    (side.state ≡ 3) × (length side.delivered < side.looked) × MayDeliver honest side other frame ×
+    (new ≡ record side { delivered = side.delivered ++ frame ∷ []; read = [] })
+MarkRow sizes honest side other Return new =
+    (side.state ≡ 3) × (side.returned + 1 ≡ length side.delivered) × (new ≡ record side { returned = side.returned + 1; read = [] })
+MarkRow sizes honest side other Done new = (side.state ≡ 3) × (length side.delivered ≡ side.looked) × (new ≡ record side { read = [] })
+MarkRow sizes honest side other Down new = (side.state ≢ 3) × (new ≡ record side { read = [] })
+MarkRow sizes honest side other (Refuse refused) new =
+    (honest ≡ false) × (side.state ≡ 3) × IsBeyond sizes side refused.field refused.value × (new ≡ record side { refused = true; read = [] })
+MarkRow sizes honest side other Over new = new ≡ record side { read = [] }
 
--- the row of a step of a side that is honest or not, against an other that is or not. A hostile side has no marks. A reset ends a refusal; the lists stay until the next session
+-- the row of a step of a side that is honest or not, against an other that is or not. A hostile side has no marks. A reset ends a refusal; the lists stay
+-- until the next session
 abbrev pub Row : Sizes → (mine theirs : Bool) → Side → Side → Told → Side → Type 0
+Row sizes mine theirs side other (Gave value) new = new ≡ record side { read = side.read ++ value ∷ [] }
 Row sizes mine theirs side other (Wrote state) new = MayWriteState mine side state × (new ≡ side_with side state)
 Row sizes mine theirs side other (Marked mark) new = (mine ≡ true) × MarkRow sizes theirs side other mark new
-Row sizes mine theirs side other WasReset new = new ≡ record side { state = 0; seen = None; refused = false }
+Row sizes mine theirs side other WasReset new = new ≡ record side { state = 0; seen = None; refused = false; read = [] }
 
 -- The sessions of a side
 
@@ -100,8 +135,8 @@ pub record Ended : Type 0 where
   pub carried : ℕ
   pub delivered : List (List ℕ)
 
--- how many sessions a side opened; the number of the other's session that its last session in RUN carried, or 0; the frames accepted in each earlier session; and the
--- sessions in RUN that are over, newest first
+-- how many sessions a side opened; the number of the other's session that its last session in RUN carried, or 0; the frames accepted in each earlier session;
+-- and the sessions in RUN that are over, newest first
 pub record Log : Type 0 where
   pub opened : ℕ
   pub carried : ℕ
@@ -127,6 +162,7 @@ log_after log others side (Wrote state) = record {
   earlier = λ number. (if state == 2 then accepted_in log side number else log.earlier number);
   ended = ended_with log side;
 }
+log_after log others side (Gave value) = log
 log_after log others side (Marked mark) = log
 log_after log others side WasReset = record log { ended = ended_with log side }
 
@@ -140,21 +176,24 @@ pub data MachineRuns (sizes : Sizes) (honest : ℕ → Bool) : (ℕ → Side) �
 -- each of these sessions delivered a beginning of what the other accepted in the session that it carried
 abbrev pub AreBeginnings : Log → Side → List Ended → Type 0
 AreBeginnings others other [] = Unit {0}
-AreBeginnings others other (session ∷ sessions) = (session.carried ≤ others.opened) × ((rest : List (List ℕ)) × (accepted_in others other session.carried ≡ session.delivered ++ rest)) × AreBeginnings others other sessions
+AreBeginnings others other (session ∷ sessions) = (session.carried ≤ others.opened) ×
+    ((rest : List (List ℕ)) × (accepted_in others other session.carried ≡ session.delivered ++ rest)) × AreBeginnings others other sessions
 
 -- the numbers that these sessions carried fall from below this one: no two carried the same
 abbrev pub CarriedFall : ℕ → List Ended → Type 0
 CarriedFall above [] = Unit {0}
 CarriedFall above (session ∷ sessions) = (session.carried < above) × CarriedFall session.carried sessions
 
--- what a side has delivered: in RUN the beginning of what the other accepts in its present session, which the other has carried on since; in each session that is over the
--- beginning of what was accepted in the session that it carried; and no session was carried twice
+-- what a side has delivered: in RUN the beginning of what the other accepts in its present session, which the other has carried on since; in each session
+-- that is over the beginning of what was accepted in the session that it carried; and no session was carried twice
 pub record DeliversInOrder (side other : Side) (log others : Log) : Type 0 where
-  pub present : side.state ≡ 3 → (log.carried ≡ others.opened) × ((rest : List (List ℕ)) × (other.accepted ≡ side.delivered ++ rest)) × CarriedFall log.carried log.ended
+  pub present : side.state ≡ 3 → (log.carried ≡ others.opened) × ((rest : List (List ℕ)) × (other.accepted ≡ side.delivered ++ rest)) ×
+      CarriedFall log.carried log.ended
   pub past : AreBeginnings others other log.ended
   pub once : CarriedFall (log.carried + 1) log.ended
 
 -- in a run of two honest sides each delivers in order, through all sessions
 abbrev pub MachineDelivers : Type 0
-MachineDelivers = (sizes : Sizes) (honest : ℕ → Bool) (sides : ℕ → Side) (logs : ℕ → Log) → honest 0 ≡ true → honest 1 ≡ true → MachineRuns sizes honest sides logs →
+MachineDelivers = (sizes : Sizes) (honest : ℕ → Bool) (sides : ℕ → Side) (logs : ℕ → Log) → honest 0 ≡ true → honest 1 ≡ true →
+    MachineRuns sizes honest sides logs →
     (p : ℕ) → p < 2 → DeliversInOrder (sides p) (sides (1 - p)) (logs p) (logs (1 - p))

@@ -22,13 +22,13 @@ use Rattle.call_grammar.specs.Ticks.{Who}
 use Rattle.call_grammar.specs.Offers.{Job, descriptor_of, returned_by}
 use Rattle.call_grammar.specs.Polls.{is_entry, is_address, is_length, published_by}
 use Rattle.call_grammar.specs.Places.{Place, Closed, AtState, Clearing, Setting, Refusing, Downed, AtUsedIndex, AtUsedId, Filling, WritingLow, WritingHigh, WritingLength, WritingFlags, WritingEntry, WritingIndex, RingingOffer, AtAvailIndex, AtEntry, AtLow, AtHigh, AtLength, AtFlags, AtWord, GivingId, GivingLength, GivingIndex, RingingPoll, clear_place, tick_place, fill_place, ids_place, items_place, words_place, first_place, access_at, next_place, step_at}
-use Rattle.link_machine.specs.LinkMachine.{Side, fresh_side, Told, Wrote, Marked, WasReset, MarkRow, Row, Log, no_sessions, log_after, MachineRuns}
+use Rattle.link_machine.specs.LinkMachine.{Side, fresh_side, Told, Gave, Wrote, Marked, WasReset, MarkRow, Row, Log, no_sessions, log_after, MachineRuns}
 use Rattle.link_machine.specs.LinkMachine as machine
 use Rattle.link_machine.proofs.MachineLaws.{SawSome, Half, Kind, falls_to, inits, opens, runs, sees, accepts, delivers, counts, kind_of, half_of}
 use Rattle.ends_pair.specs.Ground.{Ground, IsGround, who_of}
 use Rattle.ends_pair.specs.Steps.{OnlyComes, Meets}
 use Rattle.ends_pair.specs.Alone.{Holds}
-use Rattle.ends_pair.specs.Sides.{told_of, told_by, RowsAlong, SawFor, SeenIs, SideIs}
+use Rattle.ends_pair.specs.Sides.{told_of, told_by, RowsAlong, SawFor, CallIs, SideIs}
 use Rattle.ends_pair.specs.Runs.{HonestRuns}
 use Rattle.ends_pair.specs.Runs as honest
 use Rattle.ends_pair.proofs.RowsKept.{follow_lem}
@@ -119,17 +119,18 @@ theirs_lem p q new l m l' kind o = record { most = o.most; stays = o.stays; none
 
 -- no write of 0 and no reset
 abbrev IsUp : Told → Type 0
+IsUp (Gave value) = Unit {0}
 IsUp (Wrote zero) = ⊥
 IsUp (Wrote (suc n)) = Unit {0}
 IsUp (Marked mark) = Unit {0}
 IsUp WasReset = ⊥
 
 mark_state : (sizes : Sizes) (p q : Side) (mark : Mark) (new : Side) → MarkRow sizes true p q mark new → new.state ≡ p.state
-mark_state sizes p q (Saw value) new row = ap (λ (s : Side). s.state) row.1
+mark_state sizes p q (Saw value) new row = ap (λ (s : Side). s.state) row.2
 mark_state sizes p q (Accept frame) new row = ap (λ (s : Side). s.state) row.2
-mark_state sizes p q (Reclaim count) new row = ap (λ (s : Side). s.state) row.2
+mark_state sizes p q (Reclaim count) new row = ap (λ (s : Side). s.state) row.3
 mark_state sizes p q Full new row = ap (λ (s : Side). s.state) row.2
-mark_state sizes p q (Look count) new row = ap (λ (s : Side). s.state) row.2
+mark_state sizes p q (Look count) new row = ap (λ (s : Side). s.state) row.3
 mark_state sizes p q (Deliver frame) new row = ap (λ (s : Side). s.state) row.3
 mark_state sizes p q Return new row = ap (λ (s : Side). s.state) row.2
 mark_state sizes p q Done new row = ap (λ (s : Side). s.state) row.2
@@ -138,6 +139,7 @@ mark_state sizes p q (Refuse refused) new row = ap (λ (s : Side). s.state) row.
 mark_state sizes p q Over new row = ap (λ (s : Side). s.state) row
 
 stays_up : (sizes : Sizes) (p q : Side) (told : Told) (new : Side) → Row sizes true true p q told new → IsUp told → new.state ≡ 0 → p.state ≡ 0
+stays_up sizes p q (Gave value) new row up e = sym (ap (λ (s : Side). s.state) row) ∙ e
 stays_up sizes p q (Wrote zero) new row up e = absurd up
 stays_up sizes p q (Wrote (suc n)) new row up e = absurd (let s = ap (λ (x : Side). x.state) row.1 in omega arith)
 stays_up sizes p q (Marked mark) new row up e = sym (mark_state sizes p q mark new row.1) ∙ e
@@ -189,16 +191,16 @@ marks_up : (marks : List Mark) → AllByRecursion IsUp (map Marked marks)
 marks_up [] = tt
 marks_up (mark ∷ marks) = (tt, marks_up marks)
 
-access_up : (a : Access) (marks : List Mark) → (a ≡ access.State 0 → ⊥) → AllByRecursion IsUp (told_of a ++ map Marked marks)
-access_up (access.Read word) marks up = marks_up marks
-access_up (access.Write word value) marks up = marks_up marks
-access_up (access.State zero) marks up = absurd (up refl)
-access_up (access.State (suc n)) marks up = (tt, marks_up marks)
-access_up (access.Ring target vector) marks up = marks_up marks
-access_up access.Nothing marks up = marks_up marks
+access_up : (a : Access) (value : ℕ) (marks : List Mark) → (a ≡ access.State 0 → ⊥) → AllByRecursion IsUp (told_of a value ++ map Marked marks)
+access_up (access.Read word) value marks up = (tt, marks_up marks)
+access_up (access.Write word written) value marks up = marks_up marks
+access_up (access.State zero) value marks up = absurd (up refl)
+access_up (access.State (suc n)) value marks up = (tt, marks_up marks)
+access_up (access.Ring target vector) value marks up = marks_up marks
+access_up access.Nothing value marks up = marks_up marks
 
 tolds_up : (who : Who) (place : Place) (value : ℕ) → ¬ IsDown place → place ≢ Refusing → AllByRecursion IsUp (told_by (step_at who place value))
-tolds_up who place value up sound = access_up (access_at who place) (step_at who place value).marks (λ e. ⊎_elim (λ is. up (subst IsDown (sym is) tt)) (λ is. sound is.0) (state_at who place 0 e))
+tolds_up who place value up sound = access_up (access_at who place) (step_at who place value).value (step_at who place value).marks (λ e. ⊎_elim (λ is. up (subst IsDown (sym is) tt)) (λ is. sound is.0) (state_at who place 0 e))
 
 test_up : (b : Bool) (x y : Place) → ¬ IsDown x → ¬ IsDown y → ¬ IsDown (if b then x else y)
 test_up true x y mine theirs = mine
@@ -367,8 +369,8 @@ saw_for end seen state init saw = subst SawSome (sym saw.1) (saw_some saw.0 stat
 
 still_is : (end : End) (place : Place) (side : Side) → end.handshake.phase ≡ Init → SideIs end place side → ¬ SawSome side.seen → IsStill place
 still_is end place side init si none = record {
-  clears = λ at more state e. none (saw_for end side.seen state init (subst (λ x. SeenIs end x side.seen) e si.seen));
-  sets = λ e. ⊎_elim (λ z. absurd (let two : 2 ≡ 0 = z in omega arith)) (λ saw. none (saw_for end side.seen 2 init saw)) (subst (λ x. SeenIs end x side.seen) e si.seen);
+  clears = λ at more state e. none (saw_for end side.seen state init (subst (λ x. CallIs end x side) e si.call).0);
+  sets = λ e. ⊎_elim (λ z. absurd (let two : 2 ≡ 0 = z in omega arith)) (λ saw. none (saw_for end side.seen 2 init saw)) (subst (λ x. CallIs end x side) e si.call).0;
 }
 
 pub deliver_lem : CalmRunsDeliver

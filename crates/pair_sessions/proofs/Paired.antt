@@ -13,13 +13,13 @@ use Rattle.call_grammar.specs.Steps.{Mark}
 use Rattle.call_grammar.specs.Rows.{MovesTo}
 use Rattle.call_grammar.specs.Ends.{End, fresh, after_reset}
 use Rattle.call_grammar.specs.Places.{Place, Closed, Setting, first_place, access_at, step_at}
-use Rattle.link_machine.specs.LinkMachine.{Side, fresh_side, Told, Wrote, Marked, WasReset, Row, Ended, Log, no_sessions, accepted_in, ended_with, log_after, MachineRuns, AreBeginnings, CarriedFall, DeliversInOrder}
+use Rattle.link_machine.specs.LinkMachine.{Side, fresh_side, Told, Gave, Wrote, Marked, WasReset, Row, Ended, Log, no_sessions, accepted_in, ended_with, log_after, MachineRuns, AreBeginnings, CarriedFall, DeliversInOrder}
 use Rattle.link_machine.specs.LinkMachine as machine
 use Rattle.link_machine.proofs.MachineLaws.{machine as machine_lem, SawLow, SawHigh, Attends, Begins, Half, Kind, falls_to, inits, opens, runs, sees, accepts, delivers, counts, table, kind_of, half_of}
 use Rattle.call_grammar.proofs.OfferLists.{yes, no}
 use Rattle.ends_pair.specs.Ground.{Ground, IsGround, who_of}
 use Rattle.ends_pair.specs.Steps.{OnlyComes}
-use Rattle.ends_pair.specs.Sides.{told_of, told_by, RowsAlong, SeenIs, SideIs}
+use Rattle.ends_pair.specs.Sides.{told_of, told_by, RowsAlong, CallIs, SideIs}
 use Rattle.ends_pair.specs.Runs.{HonestRuns}
 use Rattle.ends_pair.specs.Runs as honest
 use Rattle.ends_pair.proofs.RowsKept.{follow_lem}
@@ -41,21 +41,9 @@ marks_step sizes p p2 (mark ∷ marks) sides logs new r along = let a = row_step
   logs_stay = λ q ne. b.logs_stay q ne ∙ a.logs_stay q ne;
 }
 
--- the log after an access
-abbrev log_by : Log → Log → Side → Access → Log
-log_by l m side (access.State state) = log_after l m side (Wrote state)
-log_by l m side (access.Read word) = l
-log_by l m side (access.Write word value) = l
-log_by l m side (access.Ring target vector) = l
-log_by l m side access.Nothing = l
-
-told_step : (sizes : Sizes) (p : ℕ) (p2 : p < 2) (a : Access) (marks : List Mark) (sides : ℕ → Side) (logs : ℕ → Log) (new : Side) → MachineRuns sizes (λ p. true) sides logs → RowsAlong sizes true (sides (1 - p)) (sides p) (told_of a ++ map Marked marks) new →
-    Stepped sizes sides logs p new (log_by (logs p) (logs (1 - p)) (sides p) a)
-told_step sizes p p2 (access.Read word) marks sides logs new r along = marks_step sizes p p2 marks sides logs new r along
-told_step sizes p p2 (access.Write word value) marks sides logs new r along = marks_step sizes p p2 marks sides logs new r along
-told_step sizes p p2 (access.Ring target vector) marks sides logs new r along = marks_step sizes p p2 marks sides logs new r along
-told_step sizes p p2 access.Nothing marks sides logs new r along = marks_step sizes p p2 marks sides logs new r along
-told_step sizes p p2 (access.State state) marks sides logs new r along = let a = row_step sizes p p2 sides logs (Wrote state) along.0 r along.1 in let b = marks_step sizes p p2 marks a.sides' a.logs' new a.run (rows_on sizes p p2 (map Marked marks) sides logs along.0 new _ a along.2) in record {
+told_then : (sizes : Sizes) (p : ℕ) (p2 : p < 2) (told : Told) (marks : List Mark) (sides : ℕ → Side) (logs : ℕ → Log) (new : Side) → MachineRuns sizes (λ p. true) sides logs → RowsAlong sizes true (sides (1 - p)) (sides p) (told ∷ map Marked marks) new →
+    Stepped sizes sides logs p new (log_after (logs p) (logs (1 - p)) (sides p) told)
+told_then sizes p p2 told marks sides logs new r along = let a = row_step sizes p p2 sides logs told along.0 r along.1 in let b = marks_step sizes p p2 marks a.sides' a.logs' new a.run (rows_on sizes p p2 (map Marked marks) sides logs along.0 new _ a along.2) in record {
   sides' = b.sides';
   logs' = b.logs';
   run = b.run;
@@ -64,6 +52,22 @@ told_step sizes p p2 (access.State state) marks sides logs new r along = let a =
   sides_stay = λ q ne. b.sides_stay q ne ∙ a.sides_stay q ne;
   logs_stay = λ q ne. b.logs_stay q ne ∙ a.logs_stay q ne;
 }
+
+-- the log after an access
+abbrev log_by : Log → Log → Side → Access → Log
+log_by l m side (access.State state) = log_after l m side (Wrote state)
+log_by l m side (access.Read word) = l
+log_by l m side (access.Write word value) = l
+log_by l m side (access.Ring target vector) = l
+log_by l m side access.Nothing = l
+
+told_step : (sizes : Sizes) (p : ℕ) (p2 : p < 2) (a : Access) (value : ℕ) (marks : List Mark) (sides : ℕ → Side) (logs : ℕ → Log) (new : Side) → MachineRuns sizes (λ p. true) sides logs → RowsAlong sizes true (sides (1 - p)) (sides p) (told_of a value ++ map Marked marks) new →
+    Stepped sizes sides logs p new (log_by (logs p) (logs (1 - p)) (sides p) a)
+told_step sizes p p2 (access.Read word) value marks sides logs new r along = told_then sizes p p2 (Gave value) marks sides logs new r along
+told_step sizes p p2 (access.Write word written) value marks sides logs new r along = marks_step sizes p p2 marks sides logs new r along
+told_step sizes p p2 (access.Ring target vector) value marks sides logs new r along = marks_step sizes p p2 marks sides logs new r along
+told_step sizes p p2 access.Nothing value marks sides logs new r along = marks_step sizes p p2 marks sides logs new r along
+told_step sizes p p2 (access.State state) value marks sides logs new r along = told_then sizes p p2 (Wrote state) marks sides logs new r along
 
 -- against an other in RESET or INIT no side comes to attend
 stays_away : (p q new : Side) (l m l' : Log) → Kind p q l m new l' → q.state ≤ 1 → ¬ Attends p → ¬ Attends new
@@ -102,7 +106,7 @@ goes_to phase side state is (inl e) = inl e
 goes_to phase side state is (inr h) = goes_by phase side h.0 state is h.1 (table phase h.0 state h.2)
 
 seen_at : (end : End) (place : Place) (side : Side) (state : ℕ) → place ≡ Setting state → SideIs end place side → StateGoes state side
-seen_at end place side state e is = goes_to end.handshake.phase side state is.state (subst (λ x. SeenIs end x side.seen) e is.seen)
+seen_at end place side state e is = goes_to end.handshake.phase side state is.state (subst (λ x. CallIs end x side) e is.call).0
 
 goes_one : (side : Side) (state : ℕ) → state ≡ 1 → StateGoes state side → (side.state ≡ 0) × SawLow side.seen
 goes_one side state is (inl e) = absurd (omega arith)
@@ -321,7 +325,7 @@ tied ground _ _ _ _ _ is (steps memory after words ends after_ends places after_
     let who = who_of ground p in let a = access_at who (places p) in let mine = held.alone p p2 refl in
     let state : (t.sides (1 - p)).state ≡ memory (1 - p) = (t.are (1 - p) o2).state ∙ sym (held.alone (1 - p) o2 refl).state in
     let f = follow_lem.steps ground (λ p. true) memory ends places p value (t.sides p) (t.sides (1 - p)) is p2 refl held (t.are p p2) state (λ _. t.are (1 - p) o2) step.opened step.meets in
-    let x = told_step ground.sizes p p2 a (step_at who (places p) value).marks t.sides t.logs f.0 t.run f.1 in
+    let x = told_step ground.sizes p p2 a (step_at who (places p) value).value (step_at who (places p) value).marks t.sides t.logs f.0 t.run f.1 in
     tied_moved ground words words ends after_ends places after_places numbers next p _ _ (numbers_after (numbers p) (ends p) a) f.0 (log_by (t.logs p) (t.logs (1 - p)) (t.sides p) a) p2 t x f.2
     (own_after (ends p) (places p) (numbers p) (t.logs p) (t.logs (1 - p)) (t.sides p) (numbers (1 - p)).log.opened a (t.are p p2) (t.own p p2) (t.load p p2) (ap (λ (l : Log). l.opened) (t.own (1 - p) o2)) numbered)
     (word_step who (places p) (ends p) (numbers p) (words p) value (λ s e low. low_writes ground p memory (ends p) who (places p) s mine.holds e low) numbered (t.word p p2)) (λ q ne. refl)

@@ -1,4 +1,5 @@
--- Sessions by their numbers. Each end has a session word: before its State step with 2 it stores there the number of the session that it opens, and right before its State step
+-- Sessions by their numbers. Each end has a session word: before its State step with 2 it stores there the number of the session that it opens, and right
+-- before its State step
 -- with 3 it loads the other's, which is the number of the session that it carries.
 use Rattle.std.specs.Prelude.{ℕ, ◌≡◌, ◌≢◌, ◌+◌, ◌-◌, ◌<◌, ◌≤◌, ◌⊎◌, ◌==◌, if◌then◌else◌, Bool, true, false, Option, Some, None}
 use Rattle.split_ring.specs.declared.steps.Access.{Access}
@@ -59,8 +60,8 @@ pub record OnlyNumbers (numbers next : ℕ → Numbers) (p : ℕ) (n : Numbers) 
   pub here : next p ≡ n
   pub beside : (q : ℕ) → q ≢ p → next q ≡ numbers q
 
--- where two honest ends come that number their sessions: they begin calls, take their steps and are reset as ever; and besides an end in INIT stores the next number in its
--- session word, and one that is about to set RUN loads the other's
+-- where two honest ends come that number their sessions: they begin calls, take their steps and are reset as ever; and besides an end in INIT stores the next
+-- number in its session word, and one that is about to set RUN loads the other's
 pub data NumberedRuns (ground : Ground) : (memory words : ℕ → ℕ) → (ℕ → End) → (ℕ → Place) → (ℕ → Numbers) → Type 0 where
   starts : (memory words : ℕ → ℕ) (ends : ℕ → End) (places : ℕ → Place) (numbers : ℕ → Numbers) → ((w : ℕ) → memory w ≡ 0) → ((p : ℕ) → words p ≡ 0) →
       ((p : ℕ) → ends p ≡ fresh) → ((p : ℕ) → places p ≡ Closed) → ((p : ℕ) → numbers p ≡ no_numbers) → NumberedRuns ground memory words ends places numbers
@@ -70,15 +71,17 @@ pub data NumberedRuns (ground : Ground) : (memory words : ℕ → ℕ) → (ℕ 
   steps : (memory after words : ℕ → ℕ) (ends after_ends : ℕ → End) (places after_places : ℕ → Place) (numbers next : ℕ → Numbers) (p value : ℕ) →
       NumberedRuns ground memory words ends places numbers → p < 2 → TakesStep ground memory after ends after_ends places after_places p value →
       IsNumbered (numbers p) (access_at (who_of ground p) (places p)) →
-      OnlyNumbers numbers next p (numbers_after (numbers p) (ends p) (access_at (who_of ground p) (places p))) → NumberedRuns ground after words after_ends after_places next
+      OnlyNumbers numbers next p (numbers_after (numbers p) (ends p) (access_at (who_of ground p) (places p))) →
+      NumberedRuns ground after words after_ends after_places next
   resets : (memory after words : ℕ → ℕ) (ends after_ends : ℕ → End) (places after_places : ℕ → Place) (numbers next : ℕ → Numbers) (p : ℕ) →
       NumberedRuns ground memory words ends places numbers → p < 2 → IsReset memory after ends after_ends places after_places p →
       OnlyNumbers numbers next p (numbers_reset (numbers p) (ends p)) → NumberedRuns ground after words after_ends after_places next
   others : (memory after words : ℕ → ℕ) (ends : ℕ → End) (places : ℕ → Place) (numbers : ℕ → Numbers) →
-      NumberedRuns ground memory words ends places numbers → ((q : ℕ) → q < 2 → IsUntouched ground memory after q) → NumberedRuns ground after words ends places numbers
+      NumberedRuns ground memory words ends places numbers → ((q : ℕ) → q < 2 → IsUntouched ground memory after q) →
+      NumberedRuns ground after words ends places numbers
   stores : (memory words now : ℕ → ℕ) (ends : ℕ → End) (places : ℕ → Place) (numbers next : ℕ → Numbers) (p : ℕ) →
-      NumberedRuns ground memory words ends places numbers → p < 2 → (ends p).handshake.phase ≡ Init → now p ≡ (numbers p).log.opened + 1 → ((q : ℕ) → q ≢ p → now q ≡ words q) →
-      OnlyNumbers numbers next p (with_stored (numbers p)) → NumberedRuns ground memory now ends places next
+      NumberedRuns ground memory words ends places numbers → p < 2 → (ends p).handshake.phase ≡ Init → now p ≡ (numbers p).log.opened + 1 →
+      ((q : ℕ) → q ≢ p → now q ≡ words q) → OnlyNumbers numbers next p (with_stored (numbers p)) → NumberedRuns ground memory now ends places next
   loads : (memory words : ℕ → ℕ) (ends : ℕ → End) (places : ℕ → Place) (numbers next : ℕ → Numbers) (p : ℕ) →
       NumberedRuns ground memory words ends places numbers → p < 2 → places p ≡ Setting 3 →
       OnlyNumbers numbers next p (with_loaded (numbers p) (words (1 - p))) → NumberedRuns ground memory words ends places next
@@ -95,8 +98,9 @@ IsCarrying end place = (state_of end.handshake.phase ≡ 3) ⊎ (place ≡ Setti
 abbrev pub IsOnItsWay : End → Place → Type 0
 IsOnItsWay end place = (state_of end.handshake.phase ≡ 1) ⊎ ((state_of end.handshake.phase ≡ 2) ⊎ ((state_of end.handshake.phase ≡ 0) × (place ≡ Setting 1)))
 
--- the numbers n of one end, at its place, against the numbers m of the other: it delivers in order by its own log; what it carried was opened, and is older than what it carries
--- next; what it loaded is the session that the other opened last; and its session word is the number of its own while the other carries it
+-- the numbers n of one end, at its place, against the numbers m of the other: it delivers in order by its own log; what it carried was opened, and is older
+-- than what it carries next; what it loaded is the session that the other opened last; and its session word is the number of its own while the other carries
+-- it
 pub record IsPaired (end other : End) (place others_place : Place) (n m : Numbers) (word : ℕ) : Type 0 where
   pub deliver : DeliversInOrder (own_side end) (own_side other) n.log m.log
   pub one : 2 ≤ state_of end.handshake.phase → 1 ≤ n.log.opened
@@ -107,7 +111,8 @@ pub record IsPaired (end other : End) (place others_place : Place) (n m : Number
   pub word_is : WordIs end n word
   pub carried : IsCarrying other others_place → word ≡ n.log.opened
 
--- the runs are runs of honest ends, and of the link machine, whose logs are those that the ends keep by the numbers which they load; and the sessions are paired
+-- the runs are runs of honest ends, and of the link machine, whose logs are those that the ends keep by the numbers which they load; and the sessions are
+-- paired
 abbrev pub SessionsArePaired : Type 0
 SessionsArePaired = (ground : Ground) (memory words : ℕ → ℕ) (ends : ℕ → End) (places : ℕ → Place) (numbers : ℕ → Numbers) → IsGround ground →
     NumberedRuns ground memory words ends places numbers → HonestRuns ground memory ends places ×

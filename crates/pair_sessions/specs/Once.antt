@@ -26,8 +26,8 @@ pub record IsStill (place : Place) : Type 0 where
   pub clears : (at more state : ℕ) → place ≢ Clearing at more state
   pub sets : place ≢ Setting 2
 
--- an end that has opened at most one session, and is in READY or RUN ever after; before it, its lists are empty; no open tick takes it back; and while it is in RESET the other
--- is in RESET too, or in INIT and not on its way
+-- an end that has opened at most one session, and is in READY or RUN ever after; before it, its lists are empty; no open tick takes it back; and while it is
+-- in RESET the other is in RESET too, or in INIT and not on its way
 pub record IsOnce (end other : End) (place others_place : Place) (log : Log) : Type 0 where
   pub most : log.opened ≤ 1
   pub stays : 1 ≤ log.opened → 2 ≤ state_of end.handshake.phase

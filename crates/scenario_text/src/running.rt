@@ -94,7 +94,7 @@ fn last_turns(acts: &[Act]) -> usize
     from
 }
 
-/// The first line that the running form doesn't allow (docs/RUNNING.md), or None where it allows them all. It takes
+/// The first line that the running form doesn't allow (docs/FORMATS.md), or None where it allows them all. It takes
 /// no memory.
 pub fn not_running(scenario: &Scenario) -> Option<u64>
     ensures { result ≡ not_running (world_of scenario.now) }

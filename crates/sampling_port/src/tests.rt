@@ -1,3 +1,4 @@
+//! Worked calls of a port, with the values that the words give.
 ghost use Rattle.std.specs.Prelude.{◌≡◌, ◌≤◌, ◌<◌, IfOk, length};
 ghost use Rattle.sampling_port.specs.Views.{KeepsNumbers};
 
@@ -5,7 +6,7 @@ use crate::{
     Port, PortFault, PortField, PortNote, calls_are_lists, calls_stay_in_reach,
     fields_are_read_once, ports_follow_calls,
 };
-use section_map::{Geometry, Region};
+use section_map::Geometry;
 use split_ring::steps::Access;
 use std::alloc::Global;
 use std::process::Abort;
@@ -59,6 +60,7 @@ fn one_message(rt: HostRuntime) -> Result<(), Fail> {
     assert!(rt; !writer.busy());
     let mut reader = port(&rt, rt.alloc(), 1)?;
     assert!(rt; reader.message().is_empty());
+    assert!(rt; !reader.busy());
     reader.sample(0);
     takes(&rt, &mut reader, Access::Read(1_024), 1, None);
     takes(&rt, &mut reader, Access::Read(1_028), 2, None);
@@ -75,22 +77,28 @@ fn one_message(rt: HostRuntime) -> Result<(), Fail> {
     Ok(())
 }
 
+/// A sample of peer 0 that refuses this length.
+fn refuses_length(rt: &impl Abort, reader: &mut Port, value: u32)
+    requires peers { reader.old.shape.peers ≡ 2 }
+    ensures { KeepsNumbers reader.old reader.new }
+{
+    assert!(rt; !reader.busy());
+    reader.sample(0);
+    takes(rt, reader, Access::Read(1_024), 1, None);
+    let refused = Some(PortNote::Refuse {
+        field: PortField::Length,
+        value,
+    });
+    takes(rt, reader, Access::Read(1_028), value, refused);
+}
+
 #[test]
 fn values_of_a_hostile_peer(rt: HostRuntime) -> Result<(), Fail> {
-    let length = |value| {
-        Some(PortNote::Refuse {
-            field: PortField::Length,
-            value,
-        })
-    };
     let mut reader = port(&rt, rt.alloc(), 1)?;
-    for value in [0, 9, 4_294_967_295] {
-        assert!(rt; !reader.busy());
-        reader.sample(0);
-        takes(&rt, &mut reader, Access::Read(1_024), 1, None);
-        takes(&rt, &mut reader, Access::Read(1_028), value, length(value));
-    }
-    // The longest message, the highest number, and another length behind the one that was read.
+    refuses_length(&rt, &mut reader, 0);
+    refuses_length(&rt, &mut reader, 9);
+    refuses_length(&rt, &mut reader, 4_294_967_295);
+    // The longest message, the highest number.
     assert!(rt; !reader.busy());
     reader.sample(0);
     let most = 4_294_967_295;
@@ -140,163 +148,4 @@ fn sizes_of_a_port(rt: HostRuntime) {
         Ok(_) => assert!(rt; false),
     }
     assert!(rt; Port::new(rt.alloc(), 0, &geometry, 2_040).is_ok());
-}
-
-/// One step of the open call of a port of this peer in the region.
-fn steps(rt: &impl Abort, port: &mut Port, region: &mut Region, me: u32) -> Option<PortNote>
-    requires peer { me < region.old.shape.peers }
-    ensures kept { KeepsNumbers port.old port.new }
-    ensures shape { region.new.shape ≡ region.old.shape }
-{
-    assert!(rt; port.busy());
-    match port.next() {
-        Access::Read(word) => {
-            let value = region.read(me, word).expect(rt, "a word of the region");
-            port.took(value)
-        }
-        Access::Write(word, value) => {
-            region.write(me, word, value).expect(rt, "an own word");
-            port.took(0)
-        }
-        _ => {
-            assert!(rt; false, "no access of a port");
-            None
-        }
-    }
-}
-
-/// A message of each number: its bytes are that number.
-const MESSAGES: [[u8; 5]; 4] = [[0; 5], [1; 5], [2; 5], [3; 5]];
-
-/// Publishes message `number` whole.
-fn publishes(rt: &impl Abort, port: &mut Port, region: &mut Region, number: usize)
-    requires number { number < 4 }
-    requires peer { region.old.shape.peers ≡ 2 }
-    requires size { port.old.most ≡ 8 }
-    ensures kept { KeepsNumbers port.old port.new }
-    ensures shape { region.new.shape ≡ region.old.shape }
-{
-    publish(rt, port, &MESSAGES[number]);
-    for _ in 0..4 {
-        let _ = steps(rt, port, region, 0);
-    }
-}
-
-/// A sample during which one message is published, where so many were before: bit k of `order` says whose step k is.
-fn interleaves(rt: &impl Abort, alloc: Global, before: usize, order: u32) -> Result<(), Fail>
-    requires { before ≤ 2 }
-{
-    let mut region = Region::new(alloc, &example(rt))?;
-    let mut writer = port(rt, alloc, 0)?;
-    let mut reader = port(rt, alloc, 1)?;
-    for number in 0..before {
-        publishes(rt, &mut writer, &mut region, number + 1);
-    }
-    publish(rt, &mut writer, &MESSAGES[before + 1]);
-    assert!(rt; !reader.busy());
-    reader.sample(0);
-    let mut note = None;
-    let mut first = 0;
-    for k in 0..9 {
-        if order >> k & 1 == 1 {
-            let _ = steps(rt, &mut writer, &mut region, 0);
-        } else if reader.busy() {
-            if let Access::Read(1_024) = reader.next()
-                && first == 0
-            {
-                first = writer.published() + 1;
-            }
-            note = steps(rt, &mut reader, &mut region, 1);
-        }
-    }
-    assert!(rt; !reader.busy());
-    let seen = first - 1;
-    match note {
-        Some(PortNote::Got(number)) => {
-            assert_eq!(rt;
-                number,
-                seen,
-                "the message published last before the first look"
-            );
-            assert!(rt; number < 4);
-            assert!(rt; reader.message() == MESSAGES[number as usize].as_slice());
-        }
-        Some(PortNote::Again(number, now)) => {
-            assert!(rt; number == seen && now == seen + 1);
-        }
-        Some(PortNote::Nothing) => assert_eq!(rt; seen, 0),
-        _ => assert!(rt; false, "an honest peer is never refused"),
-    }
-    Ok(())
-}
-
-/// All ways to interleave the 4 steps of a publish with the 5 of a sample, in both buffers.
-#[test]
-fn every_interleaving(rt: HostRuntime) -> Result<(), Fail> {
-    for before in 0..3usize {
-        for order in 0..512u32 {
-            if order.count_ones() == 4 {
-                interleaves(&rt, rt.alloc(), before, order)?;
-            }
-        }
-    }
-    Ok(())
-}
-
-/// A sample of a port whose words are these, one of which becomes `value` before step `when`: each field is read once.
-fn hostile_write(rt: &impl Abort, reader: &mut Port, when: usize, word: usize, value: u32)
-    requires word { word < 7 }
-    requires size { reader.old.most ≡ 8 }
-    requires peers { reader.old.shape.peers ≡ 2 }
-    ensures { KeepsNumbers reader.old reader.new }
-{
-    let mut words = [1u32, 0, 0, 0, 5, 0x0403_0201, 5];
-    let mut counts = [0u32; 7];
-    let mut length = 0;
-    assert!(rt; !reader.busy());
-    reader.sample(0);
-    for step in 0..5usize {
-        if step == when {
-            words[word] = value;
-        }
-        if reader.busy() {
-            let Access::Read(place) = reader.next() else {
-                assert!(rt; false, "a sample reads");
-                return;
-            };
-            assert!(rt; 1_024 <= place && place < 1_031);
-            let at = (place - 1_024) as usize;
-            assert!(rt; counts[at] < 2);
-            counts[at] += 1;
-            if step == 1 {
-                length = words[at];
-            }
-            match reader.took(words[at]) {
-                Some(PortNote::Got(_)) => {
-                    assert_eq!(rt; reader.message().len() as u64, u64::from(length));
-                }
-                Some(PortNote::Refuse { field, value }) => {
-                    assert!(rt; field == PortField::Sequence || value == 0 || 8 < value);
-                }
-                _ => {}
-            }
-        }
-    }
-    assert!(rt; !reader.busy());
-    for count in &counts[1..] {
-        assert!(rt; *count < 2, "a field is read once");
-    }
-}
-
-#[test]
-fn hostile_writer_at_every_step(rt: HostRuntime) -> Result<(), Fail> {
-    for when in 0..5usize {
-        for word in 0..7usize {
-            for value in [0, 1, 2, 4, 8, 9, 4_294_967_295] {
-                let mut reader = port(&rt, rt.alloc(), 1)?;
-                hostile_write(&rt, &mut reader, when, word, value);
-            }
-        }
-    }
-    Ok(())
 }

@@ -35,7 +35,7 @@ pub record KeepsTheLaws (world : World) (history : List Line) : Type 0 where
   pub cause : (before after : List Line) (p : ℕ) (refused : Refused) → history ≡ before ++ line.Refuse p refused ∷ after →
       IsRefusal world (reverse before) p refused × IsReadBeyond (who_of world p) (side_of (reverse before) p) (reads_of (reverse before) p) refused.field refused.value
   pub stays : (before between after : List Line) (p value : ℕ) (refused : Refused) → history ≡ before ++ line.Refuse p refused ∷ between ++ line.State p value ∷ after →
-      All (λ line. line ≢ line.Reset p) between → value ≡ 0
+      All (λ found. found ≢ line.Reset p) between → value ≡ 0
   -- two honest link peers never refuse, and at each moment each has delivered in each session a beginning of what the other accepted
   pub agree : (before after : List Line) (p : ℕ) (refused : Refused) → is_link world 0 ≡ true → is_link world 1 ≡ true → history ≢ before ++ line.Refuse p refused ∷ after
   pub prefix : (before after : List Line) (p : ℕ) → is_link world 0 ≡ true → is_link world 1 ≡ true → p < 2 → history ≡ before ++ after →

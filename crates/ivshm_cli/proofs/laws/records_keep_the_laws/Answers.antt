@@ -3,15 +3,15 @@ use Rattle.ivshm_cli.proofs.laws.records_keep_the_laws.Goals as goal
 
 pub returns : goal.returns
 returns c = kept (record {
-    write = c.memory_is_kept.ensures.writes;
-    read = c.memory_is_kept.ensures.reads;
-    machine = c.histories_run_the_machine.ensures;
-    deliver = c.delivered_frames_are_read.ensures;
-    accept = c.accepted_frames_stand_in_the_section.ensures;
-    refuse = c.values_out_of_range_are_refused.ensures;
-    beyond = c.refused_values_are_out_of_range.ensures;
-    value = c.refused_values_are_read.ensures;
-    rest = c.refused_peers_rest.ensures;
-    never = c.honest_peers_never_refuse.ensures;
-    order = c.histories_deliver.ensures;
-  })
+  write = c.memory_is_kept.ensures.writes;
+  read = c.memory_is_kept.ensures.reads;
+  machine = c.histories_run_the_machine.ensures;
+  deliver = c.delivered_frames_are_read.ensures;
+  accept = c.accepted_frames_stand_in_the_section.ensures;
+  refuse = c.values_out_of_range_are_refused.ensures;
+  beyond = c.refused_values_are_out_of_range.ensures;
+  value = c.refused_values_are_read.ensures;
+  rest = c.refused_peers_rest.ensures;
+  never = c.honest_peers_never_refuse.ensures;
+  order = c.histories_deliver.ensures;
+})

@@ -79,7 +79,8 @@ in_phase Init round frames = ChoosesTick
 in_phase Ready round frames = ChoosesTick
 in_phase Run round frames = in_round round frames
 
--- the next call of a peer in this phase, whose frames that are not accepted yet are these, that delivered so many in the whole run and expects so many: the peer is
+-- the next call of a peer in this phase, whose frames that are not accepted yet are these, that delivered so many in the whole run and expects so
+-- many: the peer is
 -- finished where no frame is left and as many were delivered as it expects
 abbrev pub choice_of : Phase → Round → List (List ℕ) → (delivered expected : ℕ) → Choice
 choice_of phase round [] delivered expected = if nat_le expected delivered then IsFinished else in_phase phase round []

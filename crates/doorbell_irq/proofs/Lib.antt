@@ -6,3 +6,5 @@ pub mod EventKinds
 pub mod EntryWrites
 pub mod Rounds
 pub mod PlainRules
+pub mod RouteBits
+pub mod RouteRules

@@ -89,7 +89,11 @@ resets _ peer = false
 
 -- What a write to the register page leaves there: Interrupt Control and State alone keep what is written.
 abbrev pub page_write : ℕ → ℕ → Option Write
-page_write offset value = if offset == interrupt_control_register || offset == state_register then Some (record { offset = offset; width = 4; value = value }) else None
+page_write offset value = if offset == interrupt_control_register || offset == state_register then Some (record {
+  offset = offset;
+  width = 4;
+  value = value;
+}) else None
 
 -- What a write to the MSI-X region leaves in entry n: an aligned word of an entry that the table has.
 abbrev pub entry_write : Wiring → ℕ → ℕ → ℕ → Option Write

@@ -4,3 +4,4 @@ pub mod Registers
 pub mod Triggers
 pub mod DeviceView
 pub mod Stands
+pub mod Routes

@@ -6,10 +6,12 @@ ghost use Rattle.pci_space.specs.Wiring.{IsWiring};
 ghost use Rattle.doorbell_irq.specs.Events.{Devices, Event, ConfigWritten, RegisterWritten, MsixWritten, WasReset, WasDisconnected, WasConnected, Config, vector_count};
 ghost use Rattle.doorbell_irq.specs.DeviceRules.{bytes_after, effect_of, reset_event, register_at, msix_at};
 ghost use Rattle.doorbell_irq.specs.Stands.{Stands, peer_count};
+ghost use Rattle.doorbell_irq.specs.Routes.{IsRoute};
 
 use crate::doorbell::REGISTER_STATE;
 use crate::effect::Effect;
 use crate::registers::Registers;
+use crate::route::Route;
 use crate::trigger::deliver;
 use pci_space::{BadAccess, Wiring};
 use section_map::Geometry;
@@ -106,6 +108,14 @@ impl Device {
             state: (offset == REGISTER_STATE).then_some(value),
             deliveries: deliver(&mut self.registers[..], self.peers, self.wiring, trigger),
         }
+    }
+
+    /// How a doorbell reaches a peer as its registers stand. It takes no memory.
+    pub fn route(&self, peer: u32) -> Route
+        requires { peer < peer_count self.now }
+        ensures { (w : Devices) (events : List Event) → Stands w events self.now → IsRoute w events peer result }
+    {
+        self.registers[peer as usize].route(self.wiring)
     }
 
     /// Reads the MSI-X region of a peer: an aligned 32-bit word of an entry of its table, and 0 at every other offset.

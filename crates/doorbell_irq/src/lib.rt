@@ -8,6 +8,7 @@ mod doorbell;
 mod effect;
 mod laws;
 mod registers;
+mod route;
 mod trigger;
 
 pub use device::Device;
@@ -16,8 +17,10 @@ pub use doorbell::{
 };
 pub use effect::{Delivery, Effect};
 pub use laws::{
-    doorbell_words_have_two_halves, one_shot_turns_interrupts_off, state_is_what_was_written,
+    doorbell_words_have_two_halves, one_shot_turns_interrupts_off, routes_tell_deliveries,
+    state_is_what_was_written,
 };
+pub use route::Route;
 
 #[cfg(test)]
 mod tests;

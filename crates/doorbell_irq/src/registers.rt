@@ -7,8 +7,10 @@ ghost use Rattle.doorbell_irq.specs.Events.{Entry, page_rows, entry_rows, vector
 ghost use Rattle.doorbell_irq.specs.DeviceRules.{bit, state_in, is_enabled, is_one_shot, lets_through, vector_by, register_vector, page_write, entry_write, register_at, msix_at};
 ghost use Rattle.doorbell_irq.specs.Registers.{register_bytes, delivery_at, Writes, Takes, IsPeer, IsReset};
 ghost use Rattle.doorbell_irq.specs.Triggers.{vector_at};
+ghost use Rattle.doorbell_irq.specs.Routes.{would_come, is_intx};
 
 use crate::doorbell::{REGISTER_DOORBELL, REGISTER_STATE};
+use crate::route::Route;
 use crate::trigger::Trigger;
 use pci_space::{BadAccess, ConfigSpace, Field, FieldTable, Space, Wiring, device_space};
 use section_map::Geometry;
@@ -184,6 +186,44 @@ impl Registers {
             Wiring::Msix(_) => vector,
             Wiring::Intx => 0,
         })
+    }
+
+    /// How a doorbell reaches this peer.
+    pub(crate) fn route(&self, wiring: Wiring) -> Route
+        requires { vector_count wiring ≤ 64 }
+        ensures vectors { (n : ℕ) → n < 64 → bit result.vectors n ≡ would_come wiring self.now.connected (register_bytes self.now) n }
+        ensures intx { result.intx ≡ is_intx wiring }
+        ensures one_shot { result.one_shot ≡ is_one_shot (register_bytes self.now) }
+        ensures enabled { result.enabled ≡ is_enabled (register_bytes self.now) }
+    {
+        Route {
+            vectors: self.vectors(wiring),
+            intx: matches!(wiring, Wiring::Intx),
+            one_shot: self.is_one_shot(),
+            enabled: self.is_enabled(),
+        }
+    }
+
+    /// Bit N says that a trigger with vector N would be delivered to this peer if it took interrupts.
+    fn vectors(&self, wiring: Wiring) -> u64
+        requires { vector_count wiring ≤ 64 }
+        ensures { (n : ℕ) → n < 64 → bit result n ≡ would_come wiring self.now.connected (register_bytes self.now) n }
+    {
+        let mut vectors = 0;
+        for vector in 0..64 {
+            if self.would_take(wiring, vector) {
+                vectors |= 1 << vector;
+            }
+        }
+        vectors
+    }
+
+    /// Would a trigger with this vector be delivered to this peer if it took interrupts?
+    fn would_take(&self, wiring: Wiring, vector: u32) -> bool
+        requires { vector_count wiring ≤ 64 }
+        ensures { result ≡ would_come wiring self.now.connected (register_bytes self.now) vector }
+    {
+        self.connected && self.lets_through(wiring, vector)
     }
 
     /// Does the peer take interrupts?

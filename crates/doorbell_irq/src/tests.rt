@@ -3,7 +3,7 @@ ghost use Rattle.std.specs.Prelude.{◌≡◌, ◌<◌, IfOk};
 ghost use Rattle.pci_space.specs.Wiring.{IsWiring};
 ghost use Rattle.doorbell_irq.specs.Stands.{peer_count};
 
-use super::{Delivery, Device, Effect};
+use super::{Delivery, Device, Effect, Route};
 use pci_space::{BadAccess, Wiring};
 use section_map::Geometry;
 use std::test::Fail;
@@ -219,5 +219,46 @@ fn reads(rt: HostRuntime) -> Result<(), Fail> {
     let mut device = worked_device(Wiring::Intx)?;
     device.msix_write(5, 0x0C, 0);
     assert_eq!(rt; device.msix_read(5, 0x0C), 0);
+    Ok(())
+}
+
+#[test]
+fn routes(rt: HostRuntime) -> Result<(), Fail> {
+    let mut device = worked_device(Wiring::Msix(64))?;
+    assert_eq!(rt; device.route(1), Route::default());
+    device.config_write(1, 4, 2, 4)?;
+    device.config_write(1, 98, 2, 32768)?;
+    device.msix_write(1, 0x1C, 0);
+    device.msix_write(1, 0x3FC, 0);
+    // Vectors 1 and 63 are unmasked, while the peer takes no interrupts yet.
+    let masked = Route {
+        vectors: 0x8000_0000_0000_0002,
+        ..Route::default()
+    };
+    assert_eq!(rt; device.route(1), masked);
+    assert_eq!(rt; device.route(0), Route::default());
+    device.register_write(1, INTERRUPT_CONTROL, 1);
+    device.config_write(1, 67, 1, 1)?;
+    let open = Route {
+        one_shot: true,
+        enabled: true,
+        ..masked
+    };
+    assert_eq!(rt; device.route(1), open);
+    device.config_write(1, 98, 2, 0xC000)?;
+    assert_eq!(rt; device.route(1), Route { vectors: 0, ..open });
+    // With INTx any vector comes, by the one line.
+    let mut device = worked_device(Wiring::Intx)?;
+    let line = Route {
+        vectors: 0xFFFF_FFFF_FFFF_FFFF,
+        intx: true,
+        ..Route::default()
+    };
+    assert_eq!(rt; device.route(1), line);
+    device.config_write(1, 4, 2, 0x400)?;
+    assert_eq!(rt; device.route(1), Route { vectors: 0, ..line });
+    device.config_write(1, 4, 2, 0)?;
+    device.disconnect(1);
+    assert_eq!(rt; device.route(1), Route { vectors: 0, ..line });
     Ok(())
 }

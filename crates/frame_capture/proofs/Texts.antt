@@ -1,15 +1,14 @@
 -- The text of a scenario with few enough acts is short enough.
-use Rattle.std.proofs.Common.{◌≡◌, ℕ, zero, suc, ◌+◌, ◌-◌, ◌*◌, ◌<◌, ◌≤◌, List, [], ◌∷◌, ◌++◌, length, map, ap, ◌∙◌, arith, length-append}
+use Rattle.std.proofs.Common.{◌≡◌, ℕ, zero, suc, ◌+◌, ◌-◌, ◌*◌, ◌<◌, ◌≤◌, List, [], ◌∷◌, ◌++◌, length, map, ap, ◌∙◌, arith}
 use Rattle.std.specs.Prelude.{sum_by, decimal}
-use Rattle.std.specs.List.{range_with_len, flat_map, join_with_byte}
+use Rattle.std.specs.List.{range_with_len, flat_map}
 use Rattle.std.proofs.lemmas.Fmt.{length-decimal-le}
 use Rattle.std.proofs.lemmas.List.{map-append}
-use Rattle.std.proofs.lemmas.List.Concat.{flat_map-append, flat_map-cons}
 use Rattle.std.proofs.lemmas.List.Sums.{sum_by-cons}
 use Rattle.hex.specs.Hex.{lower_digits}
 use Rattle.hex.proofs.HexLemmas.{length-encode_with}
-use Rattle.line_text.specs.Forms.{line_of}
-use Rattle.line_text.specs.Rows.{Row, row, fields_of_row, line_of_row, text_of}
+use Rattle.line_text.specs.Rows.{Row, row, line_of_row, text_of}
+use Rattle.line_text.proofs.LengthLaws.{line_most, text_cons, text_append, text_most}
 use Rattle.scenario_text.specs.declared.acts.Act.{Act}
 use Rattle.scenario_text.specs.declared.acts.Act.TheVariants.{Auto, Offer, Turn}
 use Rattle.scenario_text.specs.declared.forms.Form.{Form}
@@ -19,20 +18,6 @@ use Rattle.scenario_text.specs.ActRows.{row_of_act}
 use Rattle.scenario_text.specs.Spelling.{head_rows, spelling}
 use Rattle.frame_capture.specs.Feed.{weight, round_count, act_count, rounds, feed_acts, feed_world}
 
--- the fields, each with a byte after it
-abbrev widths : List (List ℕ) → ℕ
-widths [] = 0
-widths (f ∷ fs) = length f + 1 + widths fs
-
-join_most : (fs : List (List ℕ)) → length (join_with_byte 32 fs) ≤ widths fs
-join_most [] = omega arith
-join_most (f ∷ []) = omega arith
-join_most (f ∷ g ∷ fs) = let rest = join_most (g ∷ fs) in omega (arith, length-append f (32 ∷ join_with_byte 32 (g ∷ fs)))
-
-line_most : (r : Row Form) → length (line_of_row pieces_of r) ≤ 1 + widths (fields_of_row pieces_of r)
-unfolding line_of_row
-line_most r = let fields = join_most (fields_of_row pieces_of r) in omega (arith, length-append (line_of (fields_of_row pieces_of r)) (10 ∷ []))
-
 digits_most : (n : ℕ) → n < 10000000 → length (decimal n) ≤ 7
 digits_most n few = length-decimal-le 7 n (omega arith) (omega arith) (omega arith)
 
@@ -40,26 +25,20 @@ digits_most n few = length-decimal-le 7 n (omega arith) (omega arith) (omega ari
 
 offer_most : (peer : ℕ) (frame : List ℕ) → peer < 2 → length (line_of_row pieces_of (row_of_act (Offer peer frame))) ≤ 8 * weight frame
 offer_most peer frame below =
-    let line = line_most (row_of_act (Offer peer frame)) in
+    let line = line_most pieces_of (row_of_act (Offer peer frame)) in
     omega (arith, line, digits_most peer (omega arith), length-encode_with lower_digits frame)
 
 auto_most : (peer expect : ℕ) → peer < 2 → expect ≤ 4000000 → length (line_of_row pieces_of (row_of_act (Auto peer expect))) ≤ 100
 auto_most peer expect below few =
-    let line = line_most (row_of_act (Auto peer expect)) in
+    let line = line_most pieces_of (row_of_act (Auto peer expect)) in
     omega (arith, line, digits_most peer (omega arith), digits_most expect (omega arith))
 
 turn_most : (peer : ℕ) → peer < 2 → length (line_of_row pieces_of (row_of_act (Turn peer 1000))) ≤ 100
 turn_most peer below =
-    let line = line_most (row_of_act (Turn peer 1000)) in
+    let line = line_most pieces_of (row_of_act (Turn peer 1000)) in
     omega (arith, line, digits_most peer (omega arith), digits_most 1000 (omega arith))
 
 -- ---- the text
-
-text_cons : (r : Row Form) (rs : List (Row Form)) → length (text_of pieces_of (r ∷ rs)) ≡ length (line_of_row pieces_of r) + length (text_of pieces_of rs)
-text_cons r rs = ap length (flat_map-cons (line_of_row pieces_of) r rs) ∙ length-append (line_of_row pieces_of r) (text_of pieces_of rs)
-
-text_append : (rs qs : List (Row Form)) → length (text_of pieces_of (rs ++ qs)) ≡ length (text_of pieces_of rs) + length (text_of pieces_of qs)
-text_append rs qs = ap length (flat_map-append (line_of_row pieces_of) rs qs) ∙ length-append (text_of pieces_of rs) (text_of pieces_of qs)
 
 abbrev text_length : List Act → ℕ
 text_length acts = length (text_of pieces_of (map row_of_act acts))
@@ -68,14 +47,14 @@ offers_most : (peer : ℕ) (frames : List (List ℕ)) → peer < 2 → text_leng
 offers_most peer [] below = omega arith
 offers_most peer (frame ∷ frames) below =
     let rest = offers_most peer frames below in
-    omega (arith, offer_most peer frame below, text_cons (row_of_act (Offer peer frame)) (map row_of_act (map (λ f. Offer peer f) frames)), sum_by-cons weight frame frames)
+    omega (arith, offer_most peer frame below, text_cons pieces_of (row_of_act (Offer peer frame)) (map row_of_act (map (λ f. Offer peer f) frames)), sum_by-cons weight frame frames)
 
 turns_most : (a n : ℕ) → text_length (flat_map (λ _. Turn 0 1000 ∷ Turn 1 1000 ∷ []) (range_with_len a n)) ≤ 200 * n
 turns_most a zero = omega arith
 turns_most a (suc n) =
     let later = flat_map (λ _. Turn 0 1000 ∷ Turn 1 1000 ∷ []) (range_with_len (a + 1) n) in
     let rest = turns_most (a + 1) n in
-    omega (arith, turn_most 0 (omega arith), turn_most 1 (omega arith), text_cons (row_of_act (Turn 0 1000)) (map row_of_act (Turn 1 1000 ∷ later)), text_cons (row_of_act (Turn 1 1000)) (map row_of_act later))
+    omega (arith, turn_most 0 (omega arith), turn_most 1 (omega arith), text_cons pieces_of (row_of_act (Turn 0 1000)) (map row_of_act (Turn 1 1000 ∷ later)), text_cons pieces_of (row_of_act (Turn 1 1000)) (map row_of_act later))
 
 rounds_most : (count : ℕ) → text_length (rounds count) ≤ 200 * count
 unfolding rounds
@@ -86,32 +65,23 @@ acts_most peer frames below few =
     let offers = map (λ f. Offer peer f) frames in
     let all = offers ++ rounds (round_count frames) in
     let split : text_length all ≡ text_length offers + text_length (rounds (round_count frames)) =
-    ap (λ (rs : List (Row Form)). length (text_of pieces_of rs)) (map-append row_of_act offers (rounds (round_count frames))) ∙ text_append (map row_of_act offers) (map row_of_act (rounds (round_count frames))) in
+    ap (λ (rs : List (Row Form)). length (text_of pieces_of rs)) (map-append row_of_act offers (rounds (round_count frames))) ∙ text_append pieces_of (map row_of_act offers) (map row_of_act (rounds (round_count frames))) in
     omega (
       arith,
       auto_most peer 0 below (omega arith),
       auto_most (1 - peer) (length frames) (omega arith) few,
       offers_most peer frames below,
       rounds_most (round_count frames),
-      text_cons (row_of_act (Auto peer 0)) (map row_of_act (Auto (1 - peer) (length frames) ∷ all)),
-      text_cons (row_of_act (Auto (1 - peer) (length frames))) (map row_of_act all),
+      text_cons pieces_of (row_of_act (Auto peer 0)) (map row_of_act (Auto (1 - peer) (length frames) ∷ all)),
+      text_cons pieces_of (row_of_act (Auto (1 - peer) (length frames))) (map row_of_act all),
     )
-
--- no more than these bytes
-abbrev most_of : List (Row Form) → ℕ
-most_of [] = 0
-most_of (r ∷ rs) = 1 + widths (fields_of_row pieces_of r) + most_of rs
-
-text_most : (rs : List (Row Form)) → length (text_of pieces_of rs) ≤ most_of rs
-text_most [] = omega arith
-text_most (r ∷ rs) = omega (arith, text_cons r rs, line_most r, text_most rs)
 
 head_most : (peer : ℕ) (frames : List (List ℕ)) → length (text_of pieces_of (head_rows (feed_world peer frames))) ≤ 1000
 unfolding feed_world
 head_most peer frames =
     omega (
       arith,
-      text_most (head_rows (feed_world peer frames)),
+      text_most pieces_of (head_rows (feed_world peer frames)),
       digits_most 0 (omega arith),
       digits_most 1 (omega arith),
       digits_most 2 (omega arith),
@@ -130,9 +100,9 @@ feed_text peer frames below few =
       arith,
       head_most peer frames,
       acts_most peer frames below (omega arith),
-      text_most (row Begin [] [] ∷ []),
-      text_most (row End [] [] ∷ []),
-      text_append (head_rows w ++ row Begin [] [] ∷ [] ++ acts) (row End [] [] ∷ []),
-      text_append (head_rows w ++ row Begin [] [] ∷ []) acts,
-      text_append (head_rows w) (row Begin [] [] ∷ []),
+      text_most pieces_of (row Begin [] [] ∷ []),
+      text_most pieces_of (row End [] [] ∷ []),
+      text_append pieces_of (head_rows w ++ row Begin [] [] ∷ [] ++ acts) (row End [] [] ∷ []),
+      text_append pieces_of (head_rows w ++ row Begin [] [] ∷ []) acts,
+      text_append pieces_of (head_rows w) (row Begin [] [] ∷ []),
     )

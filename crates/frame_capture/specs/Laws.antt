@@ -20,7 +20,8 @@ FileIsOfOneCapture = (bytes : List ℕ) (a b : Capture) → AreBytes bytes → I
 
 -- bytes with a fault are a file of no capture
 abbrev pub FaultsAreOfNoFile : Type 0
-FaultsAreOfNoFile = (bytes : List ℕ) (fault : CaptureFault) (capture : Capture) → AreBytes bytes → fault ≢ NoMemory → IsCaptureFault bytes fault → ¬ IsCaptureFile capture bytes
+FaultsAreOfNoFile = (bytes : List ℕ) (fault : CaptureFault) (capture : Capture) → AreBytes bytes → fault ≢ NoMemory → IsCaptureFault bytes fault
+    → ¬ IsCaptureFile capture bytes
 
 -- bytes have one fault at most
 abbrev pub FaultsAreOne : Type 0

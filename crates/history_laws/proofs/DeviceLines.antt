@@ -143,6 +143,7 @@ device_apart (line.Accept p frame) is = refl
 device_apart (line.Deliver p frame) is = refl
 device_apart (line.Return p) is = refl
 device_apart (line.Refuse p refused) is = refl
+device_apart (line.Session p opened other) is = refl
 device_apart (line.Read p word value) is = absurd (cc)
 device_apart (line.Write p word value) is = absurd (cc)
 device_apart (line.Denied p word) is = absurd (cc)

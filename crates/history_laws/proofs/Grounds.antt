@@ -8,7 +8,7 @@ use Rattle.lawful_history.specs.Sides.{partner, traffic_vector, who_of}
 use Rattle.history_laws.proofs.Proper.{ground_of}
 use Rattle.history_laws.proofs.Outside.{section_is}
 
-partner_is : (q : ℕ) → q < 2 → partner q ≡ 1 - q
+pub partner_is : (q : ℕ) → q < 2 → partner q ≡ 1 - q
 partner_is zero below = refl
 partner_is (suc zero) below = refl
 partner_is (suc (suc q)) below = absurd (omega arith)

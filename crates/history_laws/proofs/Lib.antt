@@ -18,3 +18,7 @@ pub mod Runs
 pub mod AtMarks
 pub mod DeviceLines
 pub mod DeviceActs
+pub mod WholeCalls
+pub mod OwnEntries
+pub mod MadeCalls
+pub mod Marking

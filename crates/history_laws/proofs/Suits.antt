@@ -1,21 +1,19 @@
 -- What a peer may have before it: an honest link peer calls that may be given, any other peer none.
 use Rattle.std.proofs.Common.{◌≡◌, ℕ, Bool, true, false, List, [], ◌∷◌, ◌++◌, refl, sym, ◌∙◌}
-use Rattle.std.specs.Prelude.{drop, nat_le, if◌then◌else◌}
 use Rattle.std.specs.List.{AllByRecursion}
-use Rattle.link_handshake.specs.declared.Phase.{Phase}
-use Rattle.link_handshake.specs.declared.Phase.TheVariants.{Reset, Init, Ready, Run}
 use Rattle.scenario_text.specs.Scenario.{World, is_link}
-use Rattle.call_grammar.specs.Steps.{Mark, Saw, Reclaim, Full, Accept, Look, Deliver, Return, Done, Down, Refuse, Over}
+use Rattle.call_grammar.specs.Steps.{Mark}
 use Rattle.call_grammar.specs.Trees.{CallTree, Ended, Does, Reads}
 use Rattle.call_grammar.specs.Calls.{Who, Call, Tick, Stop, Offer, Poll}
-use Rattle.call_grammar.specs.Automatic.{Round, Anew, AfterOffer, AfterPoll, Choice, ChoosesTick, ChoosesOffer, ChoosesPoll, IsFinished, in_phase, choice_of}
+use Rattle.call_grammar.specs.Automatic.{Choice, ChoosesTick, ChoosesOffer, ChoosesPoll, IsFinished, choice_of}
 use Rattle.ends_pair.specs.Ground.{IsOffered, IsGivenTo}
 use Rattle.lawful_history.specs.declared.line.Line.{Line}
 use Rattle.lawful_history.specs.Schedule.{Event, Asked, Automated, Stormed, Turned, Acted, WasReset, Reached, Loses, Repeated, event_peer}
 use Rattle.lawful_history.specs.Memory.{last_write}
 use Rattle.lawful_history.specs.Sides.{who_of}
-use Rattle.lawful_history.specs.Peers.{Auto, Driver, Waits, Chooses, Storms, Peer, at_start, asked_by, cut, with_choice, chosen, opened_by, opened, counted, counted_all, driver_after}
+use Rattle.lawful_history.specs.Peers.{Auto, Driver, Waits, Chooses, Storms, Peer, at_start, asked_by, cut, with_choice, chosen, opened_by, opened, driver_after}
 use Rattle.lawful_history.specs.History.{driven, moved_by, peer_in}
+use Rattle.lawful_history.proofs.Left.{left_keeps}
 use Rattle.history_laws.proofs.Proper.{ground_of, IsProper}
 
 -- an honest peer isn't a storm, and no other is automatic; the frames of an automatic peer may be offered
@@ -31,31 +29,6 @@ pub record Suits (world : World) (honest : Bool) (peer : Peer) : Type 0 where
 
 never : {A : Type 0} → (b : Bool) → b ≡ true → b ≡ false → A
 never b is_one is_none = let f : true ≡ false = sym is_one ∙ is_none in absurd (cc)
-
--- The choice of an automatic peer
-
-abbrev pub ChoiceSuits : World → Choice → Type 0
-ChoiceSuits world ChoosesTick = Unit {0}
-ChoiceSuits world (ChoosesOffer frame) = IsOffered (ground_of world) frame
-ChoiceSuits world ChoosesPoll = Unit {0}
-ChoiceSuits world IsFinished = Unit {0}
-
-phase_suits : (world : World) (phase : Phase) (round : Round) (frames : List (List ℕ)) → AllByRecursion (IsOffered (ground_of world)) frames → ChoiceSuits world (in_phase phase round frames)
-phase_suits world Reset round frames given = tt
-phase_suits world Init round frames given = tt
-phase_suits world Ready round frames given = tt
-phase_suits world Run Anew [] given = tt
-phase_suits world Run Anew (frame ∷ frames) given = given.0
-phase_suits world Run AfterOffer frames given = tt
-phase_suits world Run AfterPoll frames given = tt
-
-finished_suits : (world : World) (b : Bool) (choice : Choice) → ChoiceSuits world choice → ChoiceSuits world (if b then IsFinished else choice)
-finished_suits world true choice suits = tt
-finished_suits world false choice suits = suits
-
-pub choice_suits : (world : World) (phase : Phase) (round : Round) (frames : List (List ℕ)) (delivered expected : ℕ) → AllByRecursion (IsOffered (ground_of world)) frames → ChoiceSuits world (choice_of phase round frames delivered expected)
-choice_suits world phase round [] delivered expected given = finished_suits world (nat_le expected delivered) _ (phase_suits world phase round [] given)
-choice_suits world phase round (frame ∷ frames) delivered expected given = phase_suits world phase round (frame ∷ frames) given
 
 -- A peer is opened
 
@@ -81,27 +54,9 @@ opened_suits world who peer honest s = opened_by_suits world who peer honest pee
 
 -- It moves
 
-tail_offered : (world : World) (frames : List (List ℕ)) → AllByRecursion (IsOffered (ground_of world)) frames → AllByRecursion (IsOffered (ground_of world)) (drop 1 frames)
-tail_offered world [] given = tt
-tail_offered world (frame ∷ frames) given = given.1
-
-counted_offered : (world : World) (auto : Auto) (marks : List Mark) → AllByRecursion (IsOffered (ground_of world)) auto.frames → AllByRecursion (IsOffered (ground_of world)) (counted_all auto marks).frames
-counted_offered world auto [] given = given
-counted_offered world auto (Saw value ∷ marks) given = counted_offered world auto marks given
-counted_offered world auto (Reclaim count ∷ marks) given = counted_offered world auto marks given
-counted_offered world auto (Full ∷ marks) given = counted_offered world auto marks given
-counted_offered world auto (Accept frame ∷ marks) given = counted_offered world (counted auto (Accept frame)) marks (tail_offered world auto.frames given)
-counted_offered world auto (Look count ∷ marks) given = counted_offered world auto marks given
-counted_offered world auto (Deliver frame ∷ marks) given = counted_offered world (counted auto (Deliver frame)) marks given
-counted_offered world auto (Return ∷ marks) given = counted_offered world auto marks given
-counted_offered world auto (Done ∷ marks) given = counted_offered world auto marks given
-counted_offered world auto (Down ∷ marks) given = counted_offered world auto marks given
-counted_offered world auto (Refuse refused ∷ marks) given = counted_offered world auto marks given
-counted_offered world auto (Over ∷ marks) given = counted_offered world auto marks given
-
 driver_suits : (world : World) (honest : Bool) (driver : Driver) (marks : List Mark) → DriverSuits world honest driver → DriverSuits world honest (driver_after driver marks)
 driver_suits world honest Waits marks given = tt
-driver_suits world honest (Chooses auto) marks given = (given.0, counted_offered world auto marks given.1)
+driver_suits world honest (Chooses auto) marks given = (given.0, left_keeps (IsOffered (ground_of world)) auto marks given.1)
 driver_suits world honest (Storms x) marks given = given
 
 driven_suits : (world : World) (honest : Bool) (peer : Peer) (driver : Driver) → DriverSuits world honest driver → Suits world honest peer → Suits world honest (driven peer driver)
@@ -116,11 +71,11 @@ moved_suits world honest peer (Reads word marks rest) past is s = record { waiti
 
 -- It is asked, or reset
 
-waiting_given : (P : Call → Type 0) (waiting : List Call) (call : Call) → AllByRecursion P waiting → P call → AllByRecursion P (waiting ++ call ∷ [])
+pub waiting_given : (P : Call → Type 0) (waiting : List Call) (call : Call) → AllByRecursion P waiting → P call → AllByRecursion P (waiting ++ call ∷ [])
 waiting_given P [] call given this = (this, tt)
 waiting_given P (other ∷ waiting) call given this = (given.0, waiting_given P waiting call given.1 this)
 
-frames_offered : (world : World) (frames : List (List ℕ)) (frame : List ℕ) → AllByRecursion (IsOffered (ground_of world)) frames → IsOffered (ground_of world) frame → AllByRecursion (IsOffered (ground_of world)) (frames ++ frame ∷ [])
+pub frames_offered : (world : World) (frames : List (List ℕ)) (frame : List ℕ) → AllByRecursion (IsOffered (ground_of world)) frames → IsOffered (ground_of world) frame → AllByRecursion (IsOffered (ground_of world)) (frames ++ frame ∷ [])
 frames_offered world [] frame given this = (this, tt)
 frames_offered world (other ∷ frames) frame given this = (given.0, frames_offered world frames frame given.1 this)
 

@@ -16,7 +16,7 @@ use Rattle.call_grammar.specs.Automatic.{Choice, ChoosesTick, ChoosesOffer, Choo
 use Rattle.call_grammar.specs.Places.{Place, Closed, first_place, access_at, next_place, step_at, is_open, remaining}
 use Rattle.call_grammar.proofs.OfferLists.{yes, no}
 use Rattle.call_grammar.proofs.Following.{following}
-use Rattle.ends_pair.specs.Ground.{Ground}
+use Rattle.ends_pair.specs.Ground.{IsOffered, Ground}
 use Rattle.ends_pair.specs.Steps.{Meets}
 use Rattle.ends_pair.specs.Ground as pair
 use Rattle.ends_pair.specs.Ground.{IsGivenTo}
@@ -28,11 +28,12 @@ use Rattle.lawful_history.specs.Sides.{who_of}
 use Rattle.lawful_history.specs.Entries.{step_lines, turn_lines}
 use Rattle.lawful_history.specs.Peers.{Auto, Driver, Waits, Chooses, Storms, Peer, with_choice, chosen, opened_by, opened}
 use Rattle.lawful_history.specs.History.{driven_step, driven, step_by, moved_by}
+use Rattle.lawful_history.proofs.Left.{HoldsOfOffer, choice_offers}
 use Rattle.history_laws.proofs.Proper.{ground_of}
 use Rattle.history_laws.proofs.Stands.{Stands, IsQuiet, quiet_lines, stands_alike, ends_alike, BringsNone}
 use Rattle.history_laws.proofs.Grounds.{who_is}
 use Rattle.history_laws.proofs.OwnSteps.{begins_stands, step_stands}
-use Rattle.history_laws.proofs.Suits.{DriverSuits, Suits, ChoiceSuits, choice_suits, opened_suits}
+use Rattle.history_laws.proofs.Suits.{DriverSuits, Suits, opened_suits}
 
 -- one peer's place changed
 pub placed : (ℕ → Place) → ℕ → Place → ℕ → Place
@@ -59,13 +60,13 @@ open_or_closed : (place : Place) → (is_open place ≡ true) ⊎ (place ≡ Clo
 open_or_closed Closed = inr refl
 open_or_closed place = inl refl
 
-ended_is_closed : (who : Who) (place : Place) → remaining who place ≡ Ended → place ≡ Closed
+pub ended_is_closed : (who : Who) (place : Place) → remaining who place ≡ Ended → place ≡ Closed
 ended_is_closed who place is = elim (open_or_closed place) [
   | inl opened ↦ let goes = following.comes who place 0 opened in let none : Goes Ended (step_at who place 0) (remaining who (next_place who place 0)) = subst (λ (t : CallTree). Goes t (step_at who place 0) (remaining who (next_place who place 0))) is goes in absurd none
   | inr closed ↦ closed
 ]
 
-goes_is_open : (who : Who) (place : Place) (step : Step) (left : CallTree) → Goes (remaining who place) step left → is_open place ≡ true
+pub goes_is_open : (who : Who) (place : Place) (step : Step) (left : CallTree) → Goes (remaining who place) step left → is_open place ≡ true
 goes_is_open who place step left goes = elim (open_or_closed place) [
   | inl opened ↦ opened
   | inr closed ↦ let none : Goes Ended step left = subst (λ (x : Place). Goes (remaining who x) step left) closed goes in absurd none
@@ -77,7 +78,7 @@ goes_is_open who place step left goes = elim (open_or_closed place) [
 abbrev OpensAs : World → Who → End → Place → CallTree → Type 0
 OpensAs world who end place left = ((remaining who place ≡ left)) ⊎ ((place ≡ Closed) × ((call : Call) × IsGivenTo (ground_of world) call × (tree_of who end call ≡ left)))
 
-with_choice_opens : (world : World) (who : Who) (peer : Peer) (auto : Auto) (place : Place) (choice : Choice) → place ≡ Closed → remaining who place ≡ peer.left → ChoiceSuits world choice → OpensAs world who peer.end place (with_choice who peer auto choice).left
+with_choice_opens : (world : World) (who : Who) (peer : Peer) (auto : Auto) (place : Place) (choice : Choice) → place ≡ Closed → remaining who place ≡ peer.left → HoldsOfOffer (IsOffered (ground_of world)) choice → OpensAs world who peer.end place (with_choice who peer auto choice).left
 with_choice_opens world who peer auto place ChoosesTick closed is suits = inr (closed, (Tick, tt, refl))
 with_choice_opens world who peer auto place (ChoosesOffer frame) closed is suits = inr (closed, (Offer frame, suits, refl))
 with_choice_opens world who peer auto place ChoosesPoll closed is suits = inr (closed, (Poll, tt, refl))
@@ -86,7 +87,7 @@ with_choice_opens world who peer auto place IsFinished closed is suits = inl is
 chosen_opens : (world : World) (who : Who) (peer : Peer) (place : Place) (driver : Driver) → place ≡ Closed → remaining who place ≡ peer.left → DriverSuits world true driver → OpensAs world who peer.end place (chosen who peer driver).left
 chosen_opens world who peer place Waits closed is suits = inl is
 chosen_opens world who peer place (Chooses auto) closed is suits =
-    with_choice_opens world who peer auto place (choice_of peer.end.handshake.phase auto.round auto.frames auto.delivered auto.expected) closed is (choice_suits world peer.end.handshake.phase auto.round auto.frames auto.delivered auto.expected suits.1)
+    with_choice_opens world who peer auto place (choice_of peer.end.handshake.phase auto.round auto.frames auto.delivered auto.expected) closed is (choice_offers (IsOffered (ground_of world)) peer.end.handshake.phase auto.round auto.frames auto.delivered auto.expected suits.1)
 chosen_opens world who peer place (Storms x) closed is suits = inl is
 
 opened_by_opens : (world : World) (who : Who) (peer : Peer) (place : Place) (tree : CallTree) (waiting : List Call) → remaining who place ≡ tree → tree ≡ peer.left → AllByRecursion (IsGivenTo (ground_of world)) waiting → Suits world true peer →

@@ -3,8 +3,10 @@ pub mod Rows
 pub mod Refusals
 pub mod Polls
 pub mod Sessions
+pub mod Marks
 pub mod Reads
 pub mod Spelled
 pub mod Devices
 pub mod Indexes
 pub mod Quiet
+pub mod Calls

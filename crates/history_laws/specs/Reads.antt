@@ -83,7 +83,8 @@ word_reads who address at (word ∷ words) = got (who.theirs + (address / 4 + at
 -- these are the reads of a good item, each field read once and in range, and the frame is the bytes of the words that were read
 pub record IsReadFrame (who : Who) (number : ℕ) (reads : List Got) (frame : List ℕ) : Type 0 where
   pub read : Item
-  pub reads_are : reads ≡ entry_read who number read ∷ low_read who number read ∷ high_read who number read ∷ length_read who number read ∷ flags_read who number read ∷ word_reads who (item_address read) 0 read.words
+  pub reads_are : reads ≡ entry_read who number read ∷ low_read who number read ∷ high_read who number read ∷ length_read who number read
+      ∷ flags_read who number read ∷ word_reads who (item_address read) 0 read.words
   pub good : IsGood who number read
   pub frame_is : frame ≡ frame_in read.bytes read.words
 
@@ -97,14 +98,18 @@ IsReadBeyond who side reads field_name.AvailEntry value =
     (read : Item) × (reads ≡ entry_read who (length side.delivered) read ∷ []) × (value ≡ item_entry who (length side.delivered) read) ×
     (¬ IsAvailEntry who.sizes value)
 IsReadBeyond who side reads field_name.DescAddress value =
-    (read : Item) × (reads ≡ entry_read who (length side.delivered) read ∷ low_read who (length side.delivered) read ∷ high_read who (length side.delivered) read ∷ []) ×
+    (read : Item) × (reads ≡ entry_read who (length side.delivered) read ∷ low_read who (length side.delivered) read
+    ∷ high_read who (length side.delivered) read ∷ []) ×
     IsAvailEntry who.sizes (item_entry who (length side.delivered) read) × (value ≡ item_address read) × (¬ IsDescAddress who.sizes value)
 IsReadBeyond who side reads field_name.DescLength value =
-    (read : Item) × (reads ≡ entry_read who (length side.delivered) read ∷ low_read who (length side.delivered) read ∷ high_read who (length side.delivered) read ∷ length_read who (length side.delivered) read ∷ []) ×
+    (read : Item) × (reads ≡ entry_read who (length side.delivered) read ∷ low_read who (length side.delivered) read
+    ∷ high_read who (length side.delivered) read ∷ length_read who (length side.delivered) read ∷ []) ×
     IsAvailEntry who.sizes (item_entry who (length side.delivered) read) × IsDescAddress who.sizes (item_address read) × (value ≡ read.bytes) ×
     (¬ IsDescLength who.sizes (item_address read) value)
 IsReadBeyond who side reads field_name.DescFlags value =
-    (read : Item) × (reads ≡ entry_read who (length side.delivered) read ∷ low_read who (length side.delivered) read ∷ high_read who (length side.delivered) read ∷ length_read who (length side.delivered) read ∷ flags_read who (length side.delivered) read ∷ []) ×
+    (read : Item) × (reads ≡ entry_read who (length side.delivered) read ∷ low_read who (length side.delivered) read
+    ∷ high_read who (length side.delivered) read ∷ length_read who (length side.delivered) read ∷ flags_read who (length side.delivered) read
+    ∷ []) ×
     IsAvailEntry who.sizes (item_entry who (length side.delivered) read) × IsDescAddress who.sizes (item_address read) ×
     IsDescLength who.sizes (item_address read) read.bytes × (value ≡ low_half read.flags_word) × (¬ IsDescFlags value)
 IsReadBeyond who side reads field_name.UsedIndex value =

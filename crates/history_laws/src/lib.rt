@@ -2,8 +2,10 @@
 //! keep. It holds no code: each law is the contract of a function that does nothing.
 #![tactic(auto)]
 
+ghost use Rattle.history_laws.specs.Calls.{CallsEndWithinBounds};
 ghost use Rattle.history_laws.specs.Devices.{DeviceActsChangeNothing};
 ghost use Rattle.history_laws.specs.Indexes.{IndexesAreReadOnce};
+ghost use Rattle.history_laws.specs.Marks.{SessionsAreNumbered};
 ghost use Rattle.history_laws.specs.Polls.{DonePollsDeliverAll};
 ghost use Rattle.history_laws.specs.Quiet.{ResetsAreQuiet};
 ghost use Rattle.history_laws.specs.Reads.{DeliveredFramesAreRead, OutOfRangeIsRefused, RefusedValuesAreRead};
@@ -12,7 +14,7 @@ ghost use Rattle.history_laws.specs.Rows.{HistoriesRunTheMachine};
 ghost use Rattle.history_laws.specs.Sessions.{HistoriesDeliver};
 ghost use Rattle.history_laws.specs.Spelled.{HistoriesSpellAccepted};
 
-use lawful_history::{history_is_lawful, one_history};
+use lawful_history::{history_is_lawful, one_history, versions_differ_in_marks};
 
 #[cfg(test)]
 mod tests;
@@ -48,6 +50,14 @@ pub fn histories_deliver()
     ensures { HistoriesDeliver }
 {}
 
+/// In a history of version 2 each mark of a session numbers the sessions of both link peers, also beside a hostile one, and is that of an
+/// honest link peer that enters RUN.
+pub fn sessions_are_numbered()
+    ensures { SessionsAreNumbered }
+{
+    versions_differ_in_marks();
+}
+
 /// Where a frame is accepted the section of its peer spells it, whatever the other side writes.
 pub fn accepted_frames_stand_in_the_section()
     ensures { HistoriesSpellAccepted }
@@ -76,6 +86,12 @@ pub fn indexes_are_read_once()
 /// An honest peer in RESET writes nothing to its section.
 pub fn resets_are_quiet()
     ensures { ResetsAreQuiet }
+{}
+
+/// The steps of an honest link peer since its last reset are finished calls in their order, each within its bound, and then a beginning
+/// of one, which ends within its bound where it is given its steps.
+pub fn calls_end_within_bounds()
+    ensures { CallsEndWithinBounds }
 {}
 
 /// Where two schedules differ in what devices alone are asked, lose or repeat, the histories differ in lines of devices alone.

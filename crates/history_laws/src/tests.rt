@@ -15,5 +15,7 @@ fn laws_of_histories() {
     values_out_of_range_are_refused();
     indexes_are_read_once();
     resets_are_quiet();
+    sessions_are_numbered();
+    calls_end_within_bounds();
     device_acts_change_nothing();
 }

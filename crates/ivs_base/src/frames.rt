@@ -4,7 +4,7 @@ ghost use Rattle.std.specs.Str.{bytes_eq};
 ghost use Rattle.std.specs.Cmp.Rules.{comparing};
 ghost use Rattle.std.proofs.Common.{rules};
 
-use std::alloc::{AllocError, Global};
+use std::alloc::{AllocError, AllocFailed, Global};
 use std::marker::Model;
 use thiserror::Error;
 
@@ -15,6 +15,16 @@ pub struct NoMemory;
 
 impl From<AllocError> for NoMemory {
     fn from(_e: AllocError) -> NoMemory {
+        NoMemory
+    }
+}
+
+/// So that `?` serves after `push`. The value that found no room is dropped.
+impl<T> From<AllocFailed<T>> for NoMemory
+where
+    T: Drop,
+{
+    fn from(_e: AllocFailed<T>) -> NoMemory {
         NoMemory
     }
 }

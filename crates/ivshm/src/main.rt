@@ -5,6 +5,7 @@
 
 use ivs_base::{InputSource, OutputSink};
 use ivshm_cli::{status_of_words, words_of};
+use peer_runner::OpenGate;
 use std::process::ExitCode;
 use std::{env, io};
 
@@ -12,5 +13,15 @@ fn main(rt: HostRuntime) -> ExitCode {
     let words = words_of(rt.alloc(), env::args(&rt));
     let mut source = InputSource::new(rt.reader());
     let mut sink = OutputSink::new(io::writer(&rt));
-    status_of_words(rt.alloc(), words, &mut source, &mut sink).exit_code()
+    let mut ran = None;
+    status_of_words(
+        &rt,
+        rt.alloc(),
+        words,
+        &mut source,
+        &mut sink,
+        &OpenGate,
+        &mut ran,
+    )
+    .exit_code()
 }

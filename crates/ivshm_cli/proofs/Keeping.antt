@@ -1,20 +1,25 @@
 -- Each record that `sim` writes keeps the laws of lawful histories.
 use Rattle.std.proofs.Common.{◌≡◌, List, subst}
+use Rattle.scenario_text.specs.Scenario.{World, IsWorld}
 use Rattle.lawful_history.specs.declared.line.Line.{Line}
-use Rattle.lawful_history.specs.Lawful.{IsLawful, ReadsWhatWasWritten, WritesWhereItMay}
+use Rattle.lawful_history.specs.Sessions.{without_sessions}
+use Rattle.lawful_history.specs.Lawful.{IsLawful, IsLawfulIn, HasMarksInTwo, ReadsWhatWasWritten, WritesWhereItMay}
+use Rattle.history_laws.specs.Calls.{CallsEndWithinBounds}
 use Rattle.history_laws.specs.Rows.{HistoriesRunTheMachine}
 use Rattle.history_laws.specs.Reads.{DeliveredFramesAreRead, OutOfRangeIsRefused, RefusedValuesAreRead}
 use Rattle.history_laws.specs.Refusals.{HonestPeersNeverRefuse, RefusedPeersRest, RefusesOutOfRange}
 use Rattle.history_laws.specs.Sessions.{HistoriesDeliver}
+use Rattle.history_laws.specs.Marks.{SessionsAreNumbered}
 use Rattle.history_laws.specs.Spelled.{HistoriesSpellAccepted}
 use Rattle.ivshm_cli.specs.Headline.{Simulates}
-use Rattle.ivshm_cli.specs.Whole.{RecordsKeepTheLaws}
+use Rattle.ivshm_cli.specs.Whole.{KeepsTheLaws, RecordsKeepTheLaws}
 
 -- the laws that are cited
 pub record Laws : Type 0 where
   pub write : WritesWhereItMay
   pub read : ReadsWhatWasWritten
   pub machine : HistoriesRunTheMachine
+  pub call : CallsEndWithinBounds
   pub deliver : DeliveredFramesAreRead
   pub accept : HistoriesSpellAccepted
   pub refuse : OutOfRangeIsRefused
@@ -23,19 +28,28 @@ pub record Laws : Type 0 where
   pub rest : RefusedPeersRest
   pub never : HonestPeersNeverRefuse
   pub order : HistoriesDeliver
+  pub marked : HasMarksInTwo
+  pub number : SessionsAreNumbered
+
+keeps : Laws → (world : World) (history : List Line) → IsWorld world → IsLawful world history → KeepsTheLaws world history
+keeps laws world history is lawful =
+    let so : (lines : List Line) → history ≡ lines → IsLawful world lines = λ lines same. subst (λ (ls : List Line). IsLawful world ls) same lawful in
+    record {
+      writes = λ older newer peer word value same. laws.write world older newer peer word value (so _ same);
+      reads = λ older newer peer word value same. laws.read world older newer peer word value (so _ same);
+      rows = laws.machine world history is lawful;
+      calls = λ entries older newer p by honest cut. laws.call world history entries older newer p is by honest cut;
+      once = λ older newer p frame same. laws.deliver world older newer p frame is (so _ same);
+      spelled = λ older newer p frame same. laws.accept world older newer p frame is (so _ same);
+      refused = λ older newer p word value refused honest same beyond. laws.refuse world older newer p word value refused is honest (so _ same) beyond;
+      cause = λ older newer p refused same. (laws.beyond world older newer p refused is (so _ same), laws.value world older newer p refused is (so _ same));
+      stays = λ older between newer p value refused same none. laws.rest world older between newer p value refused is (so _ same) none;
+      agree = λ older newer p refused zero one same. laws.never world older newer p refused is zero one (so _ same);
+      prefix = λ older newer p zero one p2 same. laws.order world older newer p is (so _ same) zero one p2;
+    }
 
 pub kept : Laws → RecordsKeepTheLaws
-kept laws before now before' now' s =
-    let lawful : (lines : List Line) → s.history ≡ lines → IsLawful s.world lines = λ lines is. subst (λ (ls : List Line). IsLawful s.world ls) is s.lawful in
-    record {
-      writes = λ older newer peer word value is. laws.write s.world older newer peer word value (lawful _ is);
-      reads = λ older newer peer word value is. laws.read s.world older newer peer word value (lawful _ is);
-      rows = laws.machine s.world s.history s.spelled.0 s.lawful;
-      once = λ older newer p frame is. laws.deliver s.world older newer p frame s.spelled.0 (lawful _ is);
-      spelled = λ older newer p frame is. laws.accept s.world older newer p frame s.spelled.0 (lawful _ is);
-      refused = λ older newer p word value refused honest is beyond. laws.refuse s.world older newer p word value refused s.spelled.0 honest (lawful _ is) beyond;
-      cause = λ older newer p refused is. (laws.beyond s.world older newer p refused s.spelled.0 (lawful _ is), laws.value s.world older newer p refused s.spelled.0 (lawful _ is));
-      stays = λ older between newer p value refused is none. laws.rest s.world older between newer p value refused s.spelled.0 (lawful _ is) none;
-      agree = λ older newer p refused zero one is. laws.never s.world older newer p refused s.spelled.0 zero one (lawful _ is);
-      prefix = λ older newer p zero one p2 is. laws.order s.world older newer p s.spelled.0 (lawful _ is) zero one p2;
-    }
+kept laws before now before' now' s = record {
+  laws = keeps laws s.world (without_sessions s.history) s.spelled.0 (laws.marked s.world s.history s.lawful).0;
+  marks = λ older newer p opened other same. laws.number s.world older newer p opened other s.spelled.0 (subst (λ (ls : List Line). IsLawfulIn s.world 2 ls) same s.lawful);
+}

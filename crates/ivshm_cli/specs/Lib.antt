@@ -3,6 +3,8 @@ pub mod Headline
 pub mod Configuration
 pub mod Load
 pub mod Replay
+pub mod Capture
+pub mod Running
 pub mod Forms
 pub mod Due
 pub mod Whole

@@ -1,5 +1,5 @@
 -- The headline whole: what holds of every record that `sim` writes, law by law.
-use Rattle.std.specs.Prelude.{ℕ, ◌≡◌, ◌≢◌, ◌-◌, ◌<◌, true, List, [], ◌∷◌, ◌++◌, length, reverse, All}
+use Rattle.std.specs.Prelude.{ℕ, ◌≡◌, ◌≢◌, ◌-◌, ◌<◌, true, Some, List, [], ◌∷◌, ◌++◌, length, reverse, All}
 use Rattle.section_map.specs.MayWrite.{MayWrite}
 use Rattle.split_ring.specs.declared.ranges.Refused.{Refused}
 use Rattle.ivs_base.specs.Ends.{Input, Output}
@@ -8,14 +8,25 @@ use Rattle.lawful_history.specs.declared.line.Line.{Line}
 use Rattle.lawful_history.specs.declared.line.Line.TheVariants as line
 use Rattle.lawful_history.specs.Memory.{WasWrittenLast}
 use Rattle.lawful_history.specs.Sides.{who_of}
+use Rattle.lawful_history.specs.Entries.{Entry, own}
+use Rattle.lawful_history.specs.Sessions.{without_sessions}
+use Rattle.lawful_history.specs.Lawful.{IsLawfulBy}
 use Rattle.link_machine.specs.LinkMachine.{DeliversInOrder}
+use Rattle.history_laws.specs.Calls.{MakesCalls}
 use Rattle.history_laws.specs.Told.{side_of}
 use Rattle.history_laws.specs.Rows.{KeepsRows}
 use Rattle.history_laws.specs.Reads.{got, reads_of, IsReadFrame, IsReadBeyond}
 use Rattle.history_laws.specs.Refusals.{IsRefusal}
 use Rattle.history_laws.specs.Sessions.{log_of}
+use Rattle.history_laws.specs.Marks.{IsNumbered}
 use Rattle.history_laws.specs.Spelled.{SpellsNext}
+use Rattle.trace_replay.specs.declared.verdict.Verdict.TheVariants.{Same}
+use Rattle.ivshm_cli.specs.declared.words.Form.TheVariants.{Sim, Replay}
+use Rattle.ivshm_cli.specs.declared.exit.Status.{Status}
+use Rattle.ivshm_cli.specs.declared.exit.Status.TheVariants.{Done}
+use Rattle.ivshm_cli.specs.Due.{IsDue}
 use Rattle.ivshm_cli.specs.Headline.{Simulates}
+use Rattle.ivshm_cli.specs.Replay.{verdict_line}
 
 -- A history that keeps the laws
 pub record KeepsTheLaws (world : World) (history : List Line) : Type 0 where
@@ -24,23 +35,42 @@ pub record KeepsTheLaws (world : World) (history : List Line) : Type 0 where
   pub reads : (before after : List Line) (peer word value : ℕ) → history ≡ before ++ line.Read peer word value ∷ after → WasWrittenLast before word value
   -- each line of a link peer has its row of the link machine
   pub rows : KeepsRows world (reverse history)
+  -- the turn steps of an honest link peer since its last reset are finished calls in their order, each within its bound, and then a beginning of one
+  pub calls : (entries before after : List Entry) (p : ℕ) → IsLawfulBy world history entries → is_link world p ≡ true → own p entries ≡ before ++ after →
+      MakesCalls world p (reverse before)
   -- a delivered frame is the one that was read for its item, each field once and in range; an accepted one stands in its peer's section
   pub once : (before after : List Line) (p : ℕ) (frame : List ℕ) → history ≡ before ++ line.Deliver p frame ∷ after →
       IsReadFrame (who_of world p) (length (side_of (reverse before) p).delivered) (reads_of (reverse before) p) frame
-  pub spelled : (before after : List Line) (p : ℕ) (frame : List ℕ) → history ≡ before ++ line.Accept p frame ∷ after → SpellsNext world (reverse before) p frame
+  pub spelled : (before after : List Line) (p : ℕ) (frame : List ℕ) → history ≡ before ++ line.Accept p frame ∷ after
+      → SpellsNext world (reverse before) p frame
   -- a value read out of range refuses the link at once, by its field; nothing else is refused, and the end stays refused until its reset
-  pub refused : (before after : List Line) (p word value : ℕ) (refused : Refused) → is_link world p ≡ true → history ≡ before ++ line.Read p word value ∷ after →
+  pub refused : (before after : List Line) (p word value : ℕ) (refused : Refused) → is_link world p ≡ true
+      → history ≡ before ++ line.Read p word value ∷ after →
       IsReadBeyond (who_of world p) (side_of (reverse before) p) (reads_of (reverse before) p ++ got word value ∷ []) refused.field refused.value →
       (rest : List Line) × (after ≡ line.Refuse p refused ∷ rest)
   pub cause : (before after : List Line) (p : ℕ) (refused : Refused) → history ≡ before ++ line.Refuse p refused ∷ after →
-      IsRefusal world (reverse before) p refused × IsReadBeyond (who_of world p) (side_of (reverse before) p) (reads_of (reverse before) p) refused.field refused.value
-  pub stays : (before between after : List Line) (p value : ℕ) (refused : Refused) → history ≡ before ++ line.Refuse p refused ∷ between ++ line.State p value ∷ after →
+      IsRefusal world (reverse before) p refused
+      × IsReadBeyond (who_of world p) (side_of (reverse before) p) (reads_of (reverse before) p) refused.field refused.value
+  pub stays : (before between after : List Line) (p value : ℕ) (refused : Refused)
+      → history ≡ before ++ line.Refuse p refused ∷ between ++ line.State p value ∷ after →
       All (λ found. found ≢ line.Reset p) between → value ≡ 0
   -- two honest link peers never refuse, and at each moment each has delivered in each session a beginning of what the other accepted
-  pub agree : (before after : List Line) (p : ℕ) (refused : Refused) → is_link world 0 ≡ true → is_link world 1 ≡ true → history ≢ before ++ line.Refuse p refused ∷ after
+  pub agree : (before after : List Line) (p : ℕ) (refused : Refused) → is_link world 0 ≡ true → is_link world 1 ≡ true
+      → history ≢ before ++ line.Refuse p refused ∷ after
   pub prefix : (before after : List Line) (p : ℕ) → is_link world 0 ≡ true → is_link world 1 ≡ true → p < 2 → history ≡ before ++ after →
       DeliversInOrder (side_of (reverse before) p) (side_of (reverse before) (1 - p)) (log_of (reverse before) p) (log_of (reverse before) (1 - p))
 
--- whatever record `sim` wrote, its history keeps the laws
+-- The lines of a record of version 2: without the marks of sessions they keep the laws, and each mark numbers the sessions of both link peers
+pub record TellsTheLaws (world : World) (lines : List Line) : Type 0 where
+  pub laws : KeepsTheLaws world (without_sessions lines)
+  pub marks : (before after : List Line) (p opened other : ℕ) → lines ≡ before ++ line.Session p opened other ∷ after →
+      IsNumbered world (reverse before) p opened other
+
+-- so it is of whatever record `sim` wrote
 abbrev pub RecordsKeepTheLaws : Type 0
-RecordsKeepTheLaws = (before now : Input) (before' now' : Output) → (s : Simulates before now before' now') → KeepsTheLaws s.world s.history
+RecordsKeepTheLaws = (before now : Input) (before' now' : Output) → (s : Simulates before now before' now') → TellsTheLaws s.world s.history
+
+-- whatever `sim` wrote, one text alone is due to `replay` for it: the line `same`. So it is never too long for `replay`, nor refused, and never differs
+abbrev pub WrittenRecordsReplayAsSame : Type 0
+WrittenRecordsReplayAsSame = (bytes text found : List ℕ) (status : Status) → IsDue (Some Sim) bytes Done text → IsDue (Some Replay) text status found →
+    (status ≡ Done) × (found ≡ verdict_line Same)

@@ -1,20 +1,23 @@
 //! The headline whole, in one place: the laws of every lawful history, as laws of each record that `sim` writes.
-ghost use Rattle.ivshm_cli.specs.Whole.{RecordsKeepTheLaws};
+ghost use Rattle.ivshm_cli.specs.Whole.{RecordsKeepTheLaws, WrittenRecordsReplayAsSame};
 
 use history_laws::{
-    accepted_frames_stand_in_the_section, delivered_frames_are_read, histories_deliver,
-    histories_run_the_machine, honest_peers_never_refuse, refused_peers_rest,
-    refused_values_are_out_of_range, refused_values_are_read, values_out_of_range_are_refused,
+    accepted_frames_stand_in_the_section, calls_end_within_bounds, delivered_frames_are_read,
+    histories_deliver, histories_run_the_machine, honest_peers_never_refuse, refused_peers_rest,
+    refused_values_are_out_of_range, refused_values_are_read, sessions_are_numbered,
+    values_out_of_range_are_refused,
 };
-use lawful_history::memory_is_kept;
+use lawful_history::{memory_is_kept, versions_differ_in_marks};
+use record_sizes::records_are_short;
 
-/// Whatever record `sim` wrote, its history keeps the laws: who writes where, what a read gives, that each foreign field is read once and
-/// in range or refuses the link, and that two honest ends agree.
+/// Whatever record `sim` wrote, its history keeps the laws, and its marks of sessions number them: who writes where, what a read gives, that each foreign field is read once and
+/// in range or refuses the link, that each call ends within its bound, and that two honest ends agree.
 pub fn records_keep_the_laws()
     ensures { RecordsKeepTheLaws }
 {
     memory_is_kept();
     histories_run_the_machine();
+    calls_end_within_bounds();
     delivered_frames_are_read();
     accepted_frames_stand_in_the_section();
     values_out_of_range_are_refused();
@@ -23,4 +26,14 @@ pub fn records_keep_the_laws()
     refused_peers_rest();
     honest_peers_never_refuse();
     histories_deliver();
+    versions_differ_in_marks();
+    sessions_are_numbered();
+}
+
+/// Whatever record `sim` wrote, `replay` answers it with `same`, where neither end fails and memory suffices: the record is short enough to be
+/// read, it is read as what was written, and its history is the lawful one.
+pub fn written_records_replay_as_same()
+    ensures { WrittenRecordsReplayAsSame }
+{
+    records_are_short();
 }

@@ -2,12 +2,14 @@
 
 ghost use Rattle.std.specs.Prelude.{◌≡◌, ◌≢◌, ◌^◌, ◌<◌, ◌≤◌, ℕ, List, true, false, Option, Some, None, Ok, IsSome, IsTrue, IfOk, OnOk, IsErrOf, length};
 ghost use Rattle.ivs_base.specs.Ends.{SourceFailed, LastReadFailed};
-ghost use Rattle.ivshm_cli.specs.Forms.{limit_of, passes, scenario_fault, IsInRange, IsTextVerdict, Replies};
+ghost use Rattle.ivshm_cli.specs.Forms.{limit_of, passes, scenario_fault, IsInRange, IsTextVerdict, Replies, IsLeft};
 ghost use Rattle.ivshm_cli.specs.Due.{IsDue, HasRead, has_reply};
 ghost use Rattle.scenario_text.specs.Scenario.{World};
 ghost use Rattle.scenario_text.specs.Spelling.{IsSpelling, world_of};
 ghost use Rattle.scenario_text.specs.Judge.{answer as judged};
 ghost use Rattle.section_dump.specs.Listing.{IsListing};
+ghost use Rattle.sampling_port.specs.Record.{IsRecord as IsPortRecord};
+ghost use Rattle.frame_bridge.specs.Output.{IsBridged};
 ghost use Rattle.ivshm_cli.specs.Headline.{IsRecordOf};
 ghost use Rattle.ivshm_cli.specs.Replay.{Spells, status_of};
 ghost use Rattle.ivshm_cli.specs.Configuration.{IsConfigurationOf};
@@ -15,26 +17,36 @@ ghost use Rattle.ivshm_cli.specs.Load.{IsLoadOf};
 ghost use Rattle.ivshm_cli.specs.declared.refusals.Fault.{Fault};
 ghost use Rattle.ivshm_cli.specs.declared.replies.NoReply.TheVariants.{NoMemory as OutOfMemory};
 
+use crate::captures::{capture_file, fed};
 use crate::configuration::configuration;
 use crate::exit::Status;
 use crate::refusals::{Fault, refusal_line};
+use crate::runs::{Ran, RunReply, run};
 use crate::summary::summary;
-use crate::verdicts::verdict_text;
+use crate::verdicts::{difference_text, verdict_text};
 use crate::words::{Form, limit};
+use bridge_text::{BridgeFault, spelled_is_read};
+use frame_bridge::bridge;
 use ivs_base::{NoMemory, ReadEnd, Source, read_all};
+use lawful_history::one_history;
+use peer_runner::Gate;
+use port_text::{PortsFault, printed_is_read_again};
 use record_text::{RecordFault, Trace, parse as parse_record, print};
+use sampling_port::ports;
 use scenario_text::{Scenario, ScenarioFault, load, parse};
 use section_dump::{DumpFault, dump};
 use sim_world::simulate;
 use std::alloc::{AllocError, Global};
+use std::thread::Threads;
 use thiserror::Error;
 use trace_replay::{Verdict, replay};
 
-/// A status and the text that is due with it.
+/// A status and the text that is due with it, and what is left of peers that ran for it.
 #[derive(Drop)]
 pub(crate) struct Reply {
     pub(crate) status: Status,
     pub(crate) text: Vec<u8>,
+    pub(crate) ran: Option<Ran>,
 }
 
 /// Why a form has no reply of its own.
@@ -89,7 +101,7 @@ pub(crate) fn read_for<S: Source>(
 }
 
 /// The scenario that the bytes spell.
-fn scenario_in(alloc: Global, bytes: &[u8]) -> Result<Scenario, NoReply>
+pub(crate) fn scenario_in(alloc: Global, bytes: &[u8]) -> Result<Scenario, NoReply>
     ensures spelled { IfOk result (λ scenario. IsSpelling (world_of scenario) bytes.now) }
     ensures read { IfOk result (λ scenario. judged bytes.now ≡ Ok (world_of scenario)) }
     ensures refused { (fault : Fault) → IsErrOf result (NoReply.Refused fault)
@@ -116,7 +128,8 @@ fn simulated(alloc: Global, bytes: &[u8]) -> Result<Vec<u8>, NoReply>
 /// The record that the bytes spell.
 fn record_in(alloc: Global, bytes: &[u8]) -> Result<Trace, NoReply>
     ensures accepted { OnOk result (IsTextVerdict Form.Replay bytes.now None) }
-    ensures spelled { IfOk result (λ trace. Spells bytes.now (world_of trace.scenario) trace.lines) }
+    ensures spelled { IfOk result (λ trace. Spells bytes.now (world_of trace.scenario) trace.version trace.lines) }
+    ensures few { IfOk result (λ trace. length trace.lines ≤ length bytes.now) }
     ensures refused { (fault : Fault) → IsErrOf result (NoReply.Refused fault) → IsTextVerdict Form.Replay bytes.now (Some fault) }
 {
     match parse_record(alloc, bytes) {
@@ -140,6 +153,7 @@ fn verdict_status(verdict: Verdict) -> Status
 fn replayed(alloc: Global, bytes: &[u8]) -> Result<Reply, NoReply>
     ensures accepted { OnOk result (IsTextVerdict Form.Replay bytes.now None) }
     ensures verdict { IfOk result (λ r. Replies Form.Replay bytes.now r.status r.text.items) }
+    ensures left { IfOk result (λ r. r.ran ≡ None) }
     ensures refused { (fault : Fault) → IsErrOf result (NoReply.Refused fault) → IsTextVerdict Form.Replay bytes.now (Some fault) }
 {
     let trace = record_in(alloc, bytes)?;
@@ -148,7 +162,43 @@ fn replayed(alloc: Global, bytes: &[u8]) -> Result<Reply, NoReply>
     Ok(Reply {
         status: verdict_status(verdict),
         text,
+        ran: None,
     })
+}
+
+/// The record of version 2 that tells the lawful history of the record that the bytes spell, or where that history differs.
+fn renewed(alloc: Global, bytes: &[u8]) -> Result<Reply, NoReply>
+    ensures accepted { OnOk result (IsTextVerdict Form.Renew bytes.now None) }
+    ensures verdict { IfOk result (λ r. Replies Form.Renew bytes.now r.status r.text.items) }
+    ensures left { IfOk result (λ r. r.ran ≡ None) }
+    ensures refused { (fault : Fault) → IsErrOf result (NoReply.Refused fault) → IsTextVerdict Form.Renew bytes.now (Some fault) }
+{
+    one_history();
+    let trace = record_in(alloc, bytes)?;
+    match replay(alloc, &trace)? {
+        Verdict::Same => {
+            let renewed = simulate(alloc, trace.scenario)?;
+            Ok(done(print(alloc, &renewed)?))
+        }
+        Verdict::Differs(fault) => Ok(differs(difference_text(alloc, fault)?)),
+    }
+}
+
+/// The capture file of what the record that the bytes spell delivers to the peer, where its history is the lawful one, or
+/// where it differs.
+fn captured(alloc: Global, peer: u32, bytes: &[u8]) -> Result<Reply, NoReply>
+    requires peer { peer < 2 }
+    requires short { length bytes.now < 2 ^ 32 }
+    ensures accepted { OnOk result (IsTextVerdict (Form.Capture peer) bytes.now None) }
+    ensures verdict { IfOk result (λ r. Replies (Form.Capture peer) bytes.now r.status r.text.items) }
+    ensures left { IfOk result (λ r. r.ran ≡ None) }
+    ensures refused { (fault : Fault) → IsErrOf result (NoReply.Refused fault) → IsTextVerdict (Form.Capture peer) bytes.now (Some fault) }
+{
+    let trace = record_in(alloc, bytes)?;
+    match replay(alloc, &trace)? {
+        Verdict::Same => Ok(done(capture_file(alloc, peer, &trace)?)),
+        Verdict::Differs(fault) => Ok(differs(difference_text(alloc, fault)?)),
+    }
 }
 
 /// The listing of the image that the bytes are.
@@ -161,6 +211,34 @@ fn listed(alloc: Global, bytes: &[u8]) -> Result<Vec<u8>, NoReply>
         Ok(text) => Ok(text),
         Err(DumpFault::NoMemory) => Err(NoReply::NoMemory),
         Err(fault) => Err(NoReply::Refused(Fault::Image(fault))),
+    }
+}
+
+/// The record of the schedule of ports that the bytes spell.
+fn sampled(alloc: Global, bytes: &[u8]) -> Result<Vec<u8>, NoReply>
+    ensures accepted { OnOk result (IsTextVerdict Form.Ports bytes.now None) }
+    ensures record { IfOk result (λ text. IsPortRecord bytes.now text.items) }
+    ensures refused { (fault : Fault) → IsErrOf result (NoReply.Refused fault) → IsTextVerdict Form.Ports bytes.now (Some fault) }
+{
+    printed_is_read_again();
+    match ports(alloc, bytes) {
+        Ok(text) => Ok(text),
+        Err(PortsFault::NoMemory) => Err(NoReply::NoMemory),
+        Err(fault) => Err(NoReply::Refused(Fault::PortText(fault))),
+    }
+}
+
+/// The output of the run of a bridge that the bytes spell.
+fn bridged(alloc: Global, bytes: &[u8]) -> Result<Vec<u8>, NoReply>
+    ensures accepted { OnOk result (IsTextVerdict Form.Bridge bytes.now None) }
+    ensures output { IfOk result (λ text. IsBridged bytes.now text.items) }
+    ensures refused { (fault : Fault) → IsErrOf result (NoReply.Refused fault) → IsTextVerdict Form.Bridge bytes.now (Some fault) }
+{
+    spelled_is_read();
+    match bridge(alloc, bytes) {
+        Ok(text) => Ok(text),
+        Err(BridgeFault::NoMemory) => Err(NoReply::NoMemory),
+        Err(fault) => Err(NoReply::Refused(Fault::BridgeText(fault))),
     }
 }
 
@@ -190,42 +268,88 @@ fn loaded(alloc: Global, count: u32) -> Result<Vec<u8>, NoMemory>
 
 /// The reply Done with this text.
 fn done(text: Vec<u8>) -> Reply
-    ensures { result ≡ record { status = Status.Done; text = text } }
+    ensures { result ≡ record { status = Status.Done; text = text; ran = None } }
 {
     Reply {
         status: Status::Done,
         text,
+        ran: None,
+    }
+}
+
+/// The reply Differs with this text.
+fn differs(text: Vec<u8>) -> Reply
+    ensures { result ≡ record { status = Status.Differs; text = text; ran = None } }
+{
+    Reply {
+        status: Status::Differs,
+        text,
+        ran: None,
+    }
+}
+
+/// The reply Done with the running record of peers.
+fn ran(reply: RunReply) -> Reply
+    ensures { result ≡ record { status = Status.Done; text = reply.text; ran = Some reply.ran } }
+{
+    let RunReply { text, ran } = reply;
+    Reply {
+        status: Status::Done,
+        text,
+        ran: Some(ran),
     }
 }
 
 /// The reply of a form to the bytes that it read.
-fn reply_for(alloc: Global, form: Form, bytes: &[u8]) -> Result<Reply, NoReply>
-    requires { IsInRange form }
+fn reply_for<R: Threads + Sync, G: Gate + Sync>(
+    rt: &R,
+    alloc: Global,
+    form: Form,
+    bytes: &[u8],
+    gate: &G,
+) -> Result<Reply, NoReply>
+    requires range { IsInRange form }
+    requires short { passes (limit_of form) bytes.now ≡ false }
     ensures accepted { OnOk result (IsTextVerdict form bytes.now None) }
     ensures replies { IfOk result (λ r. Replies form bytes.now r.status r.text.items) }
+    ensures left { IfOk result (λ r. IsLeft r.status (Some form) bytes.now r.text.items r.ran) }
     ensures refused { (fault : Fault) → IsErrOf result (NoReply.Refused fault) → IsTextVerdict form bytes.now (Some fault) }
 {
     match form {
         Form::Sim => Ok(done(simulated(alloc, bytes)?)),
+        Form::Run => Ok(ran(run(rt, alloc, bytes, gate)?)),
         Form::Replay => replayed(alloc, bytes),
+        Form::Renew => renewed(alloc, bytes),
         Form::Dump => Ok(done(listed(alloc, bytes)?)),
         Form::Config(peer) => Ok(done(configured(alloc, peer, bytes)?)),
         Form::Load(count) => Ok(done(loaded(alloc, count)?)),
+        Form::Capture(peer) => captured(alloc, peer, bytes),
+        Form::Feed(peer) => Ok(done(fed(alloc, peer, bytes)?)),
+        Form::Ports => Ok(done(sampled(alloc, bytes)?)),
+        Form::Bridge => Ok(done(bridged(alloc, bytes)?)),
     }
 }
 
 /// What is due to a form and to the bytes that it read, which aren't too long.
-pub(crate) fn reply_to(alloc: Global, form: Form, bytes: &[u8]) -> Result<Reply, NoMemory>
+pub(crate) fn reply_to<R: Threads + Sync, G: Gate + Sync>(
+    rt: &R,
+    alloc: Global,
+    form: Form,
+    bytes: &[u8],
+    gate: &G,
+) -> Result<Reply, NoMemory>
     requires short { passes (limit_of form) bytes.now ≡ false }
     requires range { IsInRange form }
     ensures due { IfOk result (λ r. IsDue (Some form) bytes.now r.status r.text.items) }
+    ensures left { IfOk result (λ r. IsLeft r.status (Some form) bytes.now r.text.items r.ran) }
     ensures reply { IfOk result (λ r. IsTrue (has_reply r.status)) }
 {
-    match reply_for(alloc, form, bytes) {
+    match reply_for(rt, alloc, form, bytes, gate) {
         Ok(reply) => Ok(reply),
         Err(NoReply::Refused(fault)) => Ok(Reply {
             status: Status::Refused,
             text: refusal_line(alloc, fault)?,
+            ran: None,
         }),
         Err(NoReply::NoMemory) => Err(NoMemory),
     }

@@ -1,6 +1,6 @@
 -- The history that is computed is lawful.
 use Rattle.std.proofs.Common.{◌≡◌, ◌≢◌, ℕ, ◌+◌, ◌*◌, ◌/◌, ◌%◌, ◌<◌, ◌≤◌, Bool, true, false, List, [], ◌∷◌, ◌++◌, length, refl, sym, ◌∙◌, ap, subst, arith, append_assoc, replicate, inl, inr, ◌⊎◌, length-set}
-use Rattle.std.specs.Prelude.{◌==◌, ◌&&◌, ◌||◌, nat_lt, nat_le, if◌then◌else◌, Option, Some, None, map, reverse, drop}
+use Rattle.std.specs.Prelude.{◌==◌, ◌&&◌, ◌||◌, nat_lt, nat_le, if◌then◌else◌, Option, Some, None, map, reverse}
 use Rattle.std.specs.List.{flat_map, AllByRecursion}
 use Rattle.std.proofs.lemmas.List.{reverse-append, reverse-reverse, append-nil, get_or-set_same, get_or-set_other, get_or-replicate, get_or_past, length-replicate}
 use Rattle.std.proofs.lemmas.Bool.Decides.{nat_tests}
@@ -16,12 +16,10 @@ use Rattle.scenario_text.specs.Scenario.{World, IsWorld}
 use Rattle.doorbell_irq.specs.declared.effect.Delivery.{Delivery}
 use Rattle.doorbell_irq.specs.Events as device
 use Rattle.doorbell_irq.specs.DeviceRules.{effect_of}
-use Rattle.link_handshake.specs.declared.Phase.{Phase}
-use Rattle.link_handshake.specs.declared.Phase.TheVariants.{Reset, Init, Ready, Run}
-use Rattle.call_grammar.specs.Steps.{Mark, Saw, Reclaim, Full, Accept, Look, Deliver, Return, Done, Down, Refuse, Over, Step, step_of}
+use Rattle.call_grammar.specs.Steps.{Mark, Step, step_of}
 use Rattle.call_grammar.specs.Trees.{CallTree, Ended, Does, Reads}
 use Rattle.call_grammar.specs.Calls.{Who, Call, Tick, Stop, Offer, Poll}
-use Rattle.call_grammar.specs.Automatic.{Round, Anew, AfterOffer, AfterPoll, Choice, ChoosesTick, ChoosesOffer, ChoosesPoll, IsFinished, in_phase, choice_of}
+use Rattle.call_grammar.specs.Automatic.{Choice, ChoosesTick, ChoosesOffer, ChoosesPoll, IsFinished}
 use Rattle.call_grammar.specs.Reach.{MayDo, StaysInReach, HasSections, IsGiven, CallsStayInReach}
 use Rattle.lawful_history.specs.declared.line.Line.{Line}
 use Rattle.lawful_history.specs.declared.line.Line.TheVariants as line
@@ -30,11 +28,12 @@ use Rattle.lawful_history.specs.Schedule.{Event, Asked, Automated, Stormed, Turn
 use Rattle.lawful_history.specs.Sides.{who_of}
 use Rattle.lawful_history.specs.Storm.{next_number, draw, drawn_access, storm_step}
 use Rattle.lawful_history.specs.Entries.{Entry, event_of, owner, mark_line, access_lines, step_lines, turn_lines, acted_lines, lines_by, lines_of, own}
-use Rattle.lawful_history.specs.Peers.{Auto, Driver, Waits, Chooses, Storms, Peer, at_start, asked_by, cut, with_choice, chosen, opened_by, opened, counted, counted_all, driver_after}
+use Rattle.lawful_history.specs.Peers.{Auto, Driver, Waits, Chooses, Storms, Peer, at_start, asked_by, cut, with_choice, chosen, opened_by, opened, driver_after}
 use Rattle.lawful_history.specs.Order.{Progress, outset, Acts, noted, Serves}
 use Rattle.lawful_history.specs.Device.{devices_of, device_events, arrival, arrived, arrivals_by, lost_count, told_by, brought_by, step_interrupts, reached_line, device_lines, DeviceRules}
 use Rattle.lawful_history.specs.History.{Moment, driven_step, driven, step_by, moved_by, may_write, acted_step, step_in, peer_in, peer_at, step_of_event, entry_of, peer_after, kept_of, IsWithin, happens, run, beginning, HistoryIsLawful}
 use Rattle.lawful_history.proofs.InOrder.{keeps_order}
+use Rattle.lawful_history.proofs.Left.{HoldsOfOffer, choice_offers, left_keeps}
 use Rattle.lawful_history.proofs.Owners.{is_same, is_other, not_below}
 use Rattle.lawful_history.proofs.Apart.{Harmless, harmless_law, marks_harmless}
 use Rattle.lawful_history.specs.Given.{IsThere}
@@ -162,7 +161,7 @@ not_own own own_end table common_end word is low high = grind (arith, nat_tests)
 not_common : (own own_end table common_end word : ℕ) → ((nat_le own word && nat_lt word own_end) || (nat_le table word && nat_lt word common_end)) ≡ false → table ≤ word → word < common_end → ⊥
 not_common own own_end table common_end word is low high = grind (arith, nat_tests)
 
-may : (g : Shape) (p word : ℕ) → may_write g p word ≡ true → MayWrite g p word
+pub may : (g : Shape) (p word : ℕ) → may_write g p word ≡ true → MayWrite g p word
 may g p word is = either_in (section_start g p) (section_start g p + g.out) g.table (g.table + g.common) word is
 
 may_not : (g : Shape) (p word : ℕ) → may_write g p word ≡ false → ¬ MayWrite g p word
@@ -202,31 +201,7 @@ pub record IsFit (who : Who) (peer : Peer) : Type 0 where
   pub given : AllByRecursion (IsGiven who) peer.waiting
   pub frames : AreGiven who peer.driver
 
-abbrev ChoiceFits : Who → Choice → Type 0
-ChoiceFits who ChoosesTick = Unit {0}
-ChoiceFits who (ChoosesOffer frame) = IsGiven who (Offer frame)
-ChoiceFits who ChoosesPoll = Unit {0}
-ChoiceFits who IsFinished = Unit {0}
-
-phase_fits : (who : Who) (phase : Phase) (round : Round) (frames : List (List ℕ)) → AllByRecursion (λ frame. IsGiven who (Offer frame)) frames → ChoiceFits who (in_phase phase round frames)
-phase_fits who Reset round frames given = tt
-phase_fits who Init round frames given = tt
-phase_fits who Ready round frames given = tt
-phase_fits who Run Anew [] given = tt
-phase_fits who Run Anew (frame ∷ frames) given = given.0
-phase_fits who Run AfterOffer frames given = tt
-phase_fits who Run AfterPoll frames given = tt
-
-finished_fits : (who : Who) (b : Bool) (choice : Choice) → ChoiceFits who choice → ChoiceFits who (if b then IsFinished else choice)
-finished_fits who true choice fits = tt
-finished_fits who false choice fits = fits
-
-choice_fits : (who : Who) (phase : Phase) (round : Round) (frames : List (List ℕ)) (delivered expected : ℕ) → AllByRecursion (λ frame. IsGiven who (Offer frame)) frames →
-    ChoiceFits who (choice_of phase round frames delivered expected)
-choice_fits who phase round [] delivered expected given = finished_fits who (nat_le expected delivered) _ (phase_fits who phase round [] given)
-choice_fits who phase round (frame ∷ frames) delivered expected given = phase_fits who phase round (frame ∷ frames) given
-
-with_choice_fits : CallsStayInReach → (who : Who) (peer : Peer) (auto : Auto) (choice : Choice) → HasSections who → ChoiceFits who choice → AllByRecursion (λ frame. IsGiven who (Offer frame)) auto.frames → IsFit who peer →
+with_choice_fits : CallsStayInReach → (who : Who) (peer : Peer) (auto : Auto) (choice : Choice) → HasSections who → HoldsOfOffer (λ frame. IsGiven who (Offer frame)) choice → AllByRecursion (λ frame. IsGiven who (Offer frame)) auto.frames → IsFit who peer →
     IsFit who (with_choice who peer auto choice)
 with_choice_fits reach who peer auto ChoosesTick has fits given fit = record { stays = reach.calls who peer.end Tick has tt; given = fit.given; frames = given }
 with_choice_fits reach who peer auto (ChoosesOffer frame) has fits given fit = record { stays = reach.calls who peer.end (Offer frame) has fits; given = fit.given; frames = given }
@@ -236,7 +211,7 @@ with_choice_fits reach who peer auto IsFinished has fits given fit = fit
 chosen_fits : CallsStayInReach → (who : Who) (peer : Peer) (driver : Driver) → HasSections who → AreGiven who driver → IsFit who peer → IsFit who (chosen who peer driver)
 chosen_fits reach who peer Waits has given fit = fit
 chosen_fits reach who peer (Chooses auto) has given fit =
-    with_choice_fits reach who peer auto _ has (choice_fits who peer.end.handshake.phase auto.round auto.frames auto.delivered auto.expected given) given fit
+    with_choice_fits reach who peer auto _ has (choice_offers (λ frame. IsGiven who (Offer frame)) peer.end.handshake.phase auto.round auto.frames auto.delivered auto.expected given) given fit
 chosen_fits reach who peer (Storms x) has given fit = fit
 
 opened_by_fits : CallsStayInReach → (who : Who) (peer : Peer) (tree : CallTree) (waiting : List Call) → HasSections who → AllByRecursion (IsGiven who) waiting → IsFit who peer → IsFit who (opened_by who peer tree waiting)
@@ -248,27 +223,9 @@ opened_by_fits reach who peer (Reads word marks rest) waiting has given fit = fi
 pub opened_fits : CallsStayInReach → (who : Who) (peer : Peer) → HasSections who → IsFit who peer → IsFit who (opened who peer)
 opened_fits reach who peer has fit = opened_by_fits reach who peer peer.left peer.waiting has fit.given fit
 
-tail_given : (who : Who) (frames : List (List ℕ)) → AllByRecursion (λ frame. IsGiven who (Offer frame)) frames → AllByRecursion (λ frame. IsGiven who (Offer frame)) (drop 1 frames)
-tail_given who [] given = tt
-tail_given who (frame ∷ frames) given = given.1
-
-counted_given : (who : Who) (auto : Auto) (marks : List Mark) → AllByRecursion (λ frame. IsGiven who (Offer frame)) auto.frames → AllByRecursion (λ frame. IsGiven who (Offer frame)) (counted_all auto marks).frames
-counted_given who auto [] given = given
-counted_given who auto (Saw value ∷ marks) given = counted_given who auto marks given
-counted_given who auto (Reclaim count ∷ marks) given = counted_given who auto marks given
-counted_given who auto (Full ∷ marks) given = counted_given who auto marks given
-counted_given who auto (Accept frame ∷ marks) given = counted_given who (counted auto (Accept frame)) marks (tail_given who auto.frames given)
-counted_given who auto (Look count ∷ marks) given = counted_given who auto marks given
-counted_given who auto (Deliver frame ∷ marks) given = counted_given who (counted auto (Deliver frame)) marks given
-counted_given who auto (Return ∷ marks) given = counted_given who auto marks given
-counted_given who auto (Done ∷ marks) given = counted_given who auto marks given
-counted_given who auto (Down ∷ marks) given = counted_given who auto marks given
-counted_given who auto (Refuse refused ∷ marks) given = counted_given who auto marks given
-counted_given who auto (Over ∷ marks) given = counted_given who auto marks given
-
 driver_given : (who : Who) (driver : Driver) (marks : List Mark) → AreGiven who driver → AreGiven who (driver_after driver marks)
 driver_given who Waits marks given = tt
-driver_given who (Chooses auto) marks given = counted_given who auto marks given
+driver_given who (Chooses auto) marks given = left_keeps (λ frame. IsGiven who (Offer frame)) auto marks given
 driver_given who (Storms x) marks given = tt
 
 driven_fits : (who : Who) (peer : Peer) (driver : Driver) → IsFit who peer → IsFit who (driven peer driver)

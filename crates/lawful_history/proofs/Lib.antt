@@ -2,7 +2,10 @@ pub mod Owners
 pub mod Unique
 pub mod Apart
 pub mod InOrder
+pub mod Left
 pub mod Exists
 pub mod There
 pub mod Written
 pub mod Begins
+pub mod Marks
+pub mod Few

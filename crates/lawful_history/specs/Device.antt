@@ -4,7 +4,7 @@ use Rattle.std.specs.Prelude.{ℕ, ◌≡◌, ◌+◌, ◌==◌, nat_lt, if◌th
 use Rattle.pci_space.specs.Numbers.{number_from}
 use Rattle.doorbell_irq.specs.declared.effect.Delivery.{Delivery}
 use Rattle.doorbell_irq.specs.Events as device
-use Rattle.doorbell_irq.specs.DeviceRules.{bytes_after, effect_of, register_at, msix_at}
+use Rattle.doorbell_irq.specs.DeviceRules.{Bytes, bytes_after, effect_of, register_at, msix_at}
 use Rattle.scenario_text.specs.Scenario.{World}
 use Rattle.call_grammar.specs.Steps.{Step}
 use Rattle.lawful_history.specs.declared.line.Line.{Line}
@@ -74,13 +74,18 @@ abbrev pub step_interrupts : World → List Line → (ℕ → ℕ) → ℕ → O
 step_interrupts world older losses peer None = []
 step_interrupts world older losses peer (Some step) = brought_by world older losses (access_lines peer step.access step.value)
 
+-- the bytes of the peer's device after these lines
+abbrev pub bytes_of : World → List Line → ℕ → Bytes
+bytes_of world older peer = bytes_after (devices_of world) (device_events older) peer
+
 -- the line of an access to a part of the device: what is read there after these lines, or what is written
 abbrev pub reached_line : World → List Line → ℕ → DeviceAccess → Line
-reached_line world older peer (ReadsConfig offset width) = line.ConfigRead peer offset width (number_from (bytes_after (devices_of world) (device_events older) peer device.Config) offset width)
+reached_line world older peer (ReadsConfig offset width) =
+    line.ConfigRead peer offset width (number_from (bytes_of world older peer device.Config) offset width)
 reached_line world older peer (WritesConfig offset width value) = line.ConfigWrite peer offset width value
-reached_line world older peer (ReadsRegister offset) = line.RegisterRead peer offset (register_at (bytes_after (devices_of world) (device_events older) peer) offset)
+reached_line world older peer (ReadsRegister offset) = line.RegisterRead peer offset (register_at (bytes_of world older peer) offset)
 reached_line world older peer (WritesRegister offset value) = line.RegisterWrite peer offset value
-reached_line world older peer (ReadsMsix offset) = line.MsixRead peer offset (msix_at world.wiring (bytes_after (devices_of world) (device_events older) peer) offset)
+reached_line world older peer (ReadsMsix offset) = line.MsixRead peer offset (msix_at world.wiring (bytes_of world older peer) offset)
 reached_line world older peer (WritesMsix offset value) = line.MsixWrite peer offset value
 
 -- the device's lines of an event in which this step was made, after these lines, where so many interrupts of each peer are to be lost
@@ -104,4 +109,5 @@ losses_with _ losses at = losses at
 abbrev pub DeviceRules : World → List Line → (ℕ → ℕ) → List Entry → Type 0
 DeviceRules world older losses [] = Unit {0}
 DeviceRules world older losses (entry ∷ entries) =
-    (entry.device ≡ device_lines world older losses entry.event entry.went) × DeviceRules world (reverse (lines_of entry) ++ older) (losses_with entry.event losses) entries
+    (entry.device ≡ device_lines world older losses entry.event entry.went)
+    × DeviceRules world (reverse (lines_of entry) ++ older) (losses_with entry.event losses) entries

@@ -17,7 +17,8 @@ use Rattle.lawful_history.specs.Storm.{storm_step, storm_after}
 use Rattle.lawful_history.specs.Peers.{Peer, Driver, Waits, Chooses, Storms, at_start, asked, automated, stormed, was_reset, opened, stepped}
 use Rattle.lawful_history.specs.Order.{Chooser, Nobody, TheRule, TheStorm, chooser, asked_since, frames_left, delivered_in, Progress, Acts, noted}
 use Rattle.lawful_history.specs.Device.{device_lines, losses_with}
-use Rattle.lawful_history.specs.Lawful.{IsLawful}
+use Rattle.lawful_history.specs.Sessions.{told_in}
+use Rattle.lawful_history.specs.Lawful.{IsLawful, IsLawfulIn}
 
 -- the lines so far, of which the newest is the first, how many interrupts of each peer are to be lost, and where each peer is, from peer 0
 pub record Moment : Type 0 where
@@ -40,13 +41,17 @@ driven peer (Storms x) = record peer { driver = Storms (storm_after x) }
 abbrev pub step_by : World → ℕ → Driver → CallTree → List Line → Option Step
 step_by world p driver Ended past = driven_step world p driver
 step_by world p driver (Does a marks rest) past = Some (step_of a 0 marks)
-step_by world p driver (Reads word marks rest) past = Some (step_of (access.Read word) (last_write past word) (marks (last_write past word)))
+step_by world p driver (Reads word marks rest) past =
+    let value = last_write past word in
+    Some (step_of (access.Read word) value (marks value))
 
 -- and the peer after it
 abbrev pub moved_by : Peer → CallTree → List Line → Peer
 moved_by peer Ended past = driven peer peer.driver
 moved_by peer (Does a marks rest) past = stepped peer (step_of a 0 marks) rest
-moved_by peer (Reads word marks rest) past = stepped peer (step_of (access.Read word) (last_write past word) (marks (last_write past word))) (rest (last_write past word))
+moved_by peer (Reads word marks rest) past =
+    let value = last_write past word in
+    stepped peer (step_of (access.Read word) value (marks value)) (rest value)
 
 abbrev pub moved : Peer → List Line → Peer
 moved peer past = moved_by peer peer.left past
@@ -155,19 +160,29 @@ IsWithin peer = peer.begun ≤ length (asked_since peer.past)
 abbrev pub GoesOnInOrder : World → Progress → List Line → Event → List Line → Type 0
 GoesOnInOrder world peer past event device =
     (mid : Progress) × Acts world (event_peer event) peer event (step_in world (kept_of peer) past event) mid
-    × (peer_in world (kept_of peer) past event ≡ kept_of (noted mid (record { event = event; went = step_in world (kept_of peer) past event; device = device })))
+    × (peer_in world (kept_of peer) past event ≡ kept_of (noted mid (record {
+      event = event;
+      went = step_in world (kept_of peer) past event;
+      device = device;
+    })))
     × IsWithin (noted mid (record { event = event; went = step_in world (kept_of peer) past event; device = device }))
 
 -- what the computed history keeps of its peers goes on, by each event, as the order of their calls does
 abbrev pub PeersKeepOrder : Type 0
-PeersKeepOrder = (world : World) (peer : Progress) (past : List Line) (event : Event) (device : List Line) → IsWithin peer → GoesOnInOrder world peer past event device
+PeersKeepOrder = (world : World) (peer : Progress) (past : List Line) (event : Event) (device : List Line) → IsWithin peer
+    → GoesOnInOrder world peer past event device
 
 -- a scenario has a lawful history, and this is it
 abbrev pub HistoryIsLawful : Type 0
 HistoryIsLawful = (world : World) → IsWorld world → IsLawful world (history world)
 
+-- and a record of each version tells it
+abbrev pub HistoryIsLawfulIn : Type 0
+HistoryIsLawfulIn = (world : World) (version : ℕ) → IsWorld world → IsLawfulIn world version (told_in world version (history world))
+
 -- a schedule that goes on from where another one ends has a history that goes on from the other's: of two lawful histories one begins the other where
 -- one is cut
 abbrev pub CutHistoriesBegin : Type 0
 CutHistoriesBegin = (world : World) (acts : List Act) (more : List Event) (lines others : List Line) → IsWorld world → IsWorld (record world { acts = acts }) →
-    schedule acts ≡ schedule world.acts ++ more → IsLawful world lines → IsLawful (record world { acts = acts }) others → (rest : List Line) × (others ≡ lines ++ rest)
+    schedule acts ≡ schedule world.acts ++ more → IsLawful world lines → IsLawful (record world { acts = acts }) others
+    → (rest : List Line) × (others ≡ lines ++ rest)

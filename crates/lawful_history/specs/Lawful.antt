@@ -1,5 +1,5 @@
--- Which history of a scenario is lawful. `ivshm`'s headline and `simulate` cite `IsLawful`.
-use Rattle.std.specs.Prelude.{ℕ, ◌≡◌, ◌<◌, List, [], ◌++◌, ◌∷◌, map, reverse, All}
+-- Which history of a scenario is lawful, and which lines a record tells of it. `ivshm`'s headline and `simulate` cite `IsLawfulIn`.
+use Rattle.std.specs.Prelude.{ℕ, ◌≡◌, ◌↔◌, ◌<◌, List, [], ◌++◌, ◌∷◌, map, reverse, All}
 use Rattle.std.specs.List.{flat_map}
 use Rattle.section_map.specs.MayWrite.{MayWrite}
 use Rattle.scenario_text.specs.Scenario.{World}
@@ -10,6 +10,7 @@ use Rattle.lawful_history.specs.Schedule.{schedule}
 use Rattle.lawful_history.specs.Entries.{Entry, event_of, owner, lines_of, own}
 use Rattle.lawful_history.specs.Order.{Progress, outset, Serves}
 use Rattle.lawful_history.specs.Device.{DeviceRules}
+use Rattle.lawful_history.specs.Sessions.{told_in, with_sessions, without_sessions}
 
 -- These entries make up a lawful history of the scenario: their events are the schedule, each is one of the world's peers, the
 -- lines are theirs, reads and writes keep the memory law, the device's rules hold, and each peer's entries are its calls in order
@@ -25,14 +26,39 @@ pub record IsLawfulBy (world : World) (lines : List Line) (entries : List Entry)
 abbrev pub IsLawful : World → List Line → Type 0
 IsLawful world lines = (entries : List Entry) × IsLawfulBy world lines entries
 
+-- the lines are what a record of this version tells of a lawful history of the scenario
+abbrev pub IsLawfulIn : World → (version : ℕ) → List Line → Type 0
+IsLawfulIn world version lines = (history : List Line) × IsLawful world history × (lines ≡ told_in world version history)
+
 -- a scenario has one lawful history at most
 abbrev pub HasOneHistory : Type 0
 HasOneHistory = (world : World) (lines others : List Line) → IsLawful world lines → IsLawful world others → lines ≡ others
 
+-- and so has a record of each version
+abbrev pub HasOneHistoryIn : Type 0
+HasOneHistoryIn = (world : World) (version : ℕ) (lines others : List Line) → IsLawfulIn world version lines → IsLawfulIn world version others
+    → lines ≡ others
+
+-- a record of version 1 tells the lawful history as it is, and that has no mark of a session
+abbrev pub HasNoMarksInOne : Type 0
+HasNoMarksInOne = (world : World) (lines : List Line) → (IsLawfulIn world 1 lines ↔ IsLawful world lines) × (IsLawful world lines → without_sessions lines ≡ lines)
+
+-- a record of version 2 tells the lawful history that is left without the marks, and the marks are those of its sessions
+abbrev pub HasMarksInTwo : Type 0
+HasMarksInTwo = (world : World) (lines : List Line) → IsLawfulIn world 2 lines →
+    IsLawful world (without_sessions lines) × (lines ≡ with_sessions world [] (without_sessions lines))
+
+-- and each lawful history is told so
+abbrev pub IsToldInTwo : Type 0
+IsToldInTwo = (world : World) (history : List Line) → IsLawful world history →
+    IsLawfulIn world 2 (with_sessions world [] history) × (without_sessions (with_sessions world [] history) ≡ history)
+
 -- what a read of a lawful history gave is what was written last
 abbrev pub ReadsWhatWasWritten : Type 0
-ReadsWhatWasWritten = (world : World) (before after : List Line) (peer word value : ℕ) → IsLawful world (before ++ Read peer word value ∷ after) → WasWrittenLast before word value
+ReadsWhatWasWritten = (world : World) (before after : List Line) (peer word value : ℕ) → IsLawful world (before ++ Read peer word value ∷ after)
+    → WasWrittenLast before word value
 
 -- a write of a lawful history is where its peer may write
 abbrev pub WritesWhereItMay : Type 0
-WritesWhereItMay = (world : World) (before after : List Line) (peer word value : ℕ) → IsLawful world (before ++ Write peer word value ∷ after) → MayWrite world.geometry peer word
+WritesWhereItMay = (world : World) (before after : List Line) (peer word value : ℕ) → IsLawful world (before ++ Write peer word value ∷ after)
+    → MayWrite world.geometry peer word

@@ -8,5 +8,7 @@ pub mod Storm
 pub mod Order
 pub mod Peers
 pub mod Device
+pub mod Sessions
 pub mod Lawful
 pub mod History
+pub mod Versions

@@ -60,7 +60,10 @@ was_reset peer = record { end = after_reset peer.end; left = Ended; waiting = []
 -- the call that an automatic peer chose is opened
 abbrev pub with_choice : Who → Peer → Auto → Choice → Peer
 with_choice who peer auto ChoosesTick = record peer { left = tree_of who peer.end Tick; driver = Chooses (record auto { round = Anew }) }
-with_choice who peer auto (ChoosesOffer frame) = record peer { left = tree_of who peer.end (Offer frame); driver = Chooses (record auto { round = AfterOffer }) }
+with_choice who peer auto (ChoosesOffer frame) = record peer {
+  left = tree_of who peer.end (Offer frame);
+  driver = Chooses (record auto { round = AfterOffer });
+}
 with_choice who peer auto ChoosesPoll = record peer { left = tree_of who peer.end Poll; driver = Chooses (record auto { round = AfterPoll }) }
 with_choice who peer auto IsFinished = peer
 

@@ -25,7 +25,11 @@ drawn_access world peer kind place value =
 
 -- the step of a storm whose generator is at x, and where the generator is then: three numbers further
 abbrev pub storm_step : World → ℕ → ℕ → Step
-storm_step world peer x = step_of (drawn_access world peer (draw (next_number x)) (draw (next_number (next_number x))) (draw (next_number (next_number (next_number x))))) 0 []
+storm_step world peer x =
+    let first = next_number x in
+    let second = next_number first in
+    let third = next_number second in
+    step_of (drawn_access world peer (draw first) (draw second) (draw third)) 0 []
 
 abbrev pub storm_after : ℕ → ℕ
 storm_after x = next_number (next_number (next_number x))

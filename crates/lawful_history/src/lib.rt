@@ -9,5 +9,6 @@ mod same;
 
 pub use laws::{
     cut_histories_begin, history_is_lawful, memory_is_kept, one_history, peers_keep_order,
+    records_tell_one_history, versions_differ_in_marks,
 };
 pub use line::{Line, Lines};

@@ -145,6 +145,12 @@ pub enum Line {
         peer: u32,
         refused: Refused,
     },
+    /// Mark: the peer enters RUN, in the session that it opened as this one of its own, beside this one of the other's.
+    Session {
+        peer: u32,
+        opened: u32,
+        other: u32,
+    },
 }
 
 /// A history: its lines in their order.
@@ -185,10 +191,8 @@ impl Lines {
         ensures put { OnOk result (self.new ≡ self.old ++ line ∷ []) }
         ensures unchanged { OnErr result (self.new ≡ self.old) }
     {
-        match self.lines.push(line) {
-            Ok(()) => Ok(()),
-            Err(_) => Err(NoMemory),
-        }
+        self.lines.push(line)?;
+        Ok(())
     }
 
     /// Drops the lines. The room that they had stays.
@@ -203,5 +207,12 @@ impl Lines {
         ensures { result.now ≡ self.now }
     {
         self.lines.as_slice()
+    }
+
+    /// The lines in their order, as a vector.
+    pub fn into_items(self) -> Vec<Line>
+        ensures { result.items ≡ self }
+    {
+        self.lines
     }
 }

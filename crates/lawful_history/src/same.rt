@@ -219,6 +219,18 @@ impl Line {
                     && refused.value == its_refused.value,
                 _ => false,
             },
+            Line::Session {
+                peer,
+                opened,
+                other,
+            } => match found {
+                Line::Session {
+                    peer: its_peer,
+                    opened: its_opened,
+                    other: its_other,
+                } => peer == its_peer && opened == its_opened && other == its_other,
+                _ => false,
+            },
         }
     }
 }

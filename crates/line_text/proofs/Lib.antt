@@ -9,5 +9,6 @@ pub mod MachineLaws
 pub mod ReadingLaws
 pub mod TableLaws
 pub mod RowLaws
+pub mod LengthLaws
 pub mod StepLaws
 pub mod FitLaws

@@ -1,17 +1,20 @@
-//! What the texts of scenarios and records stand on: cutting bytes into lines and lines into
-//! fields, numbers in decimal, bytes as hexadecimal digits, and forms of lines as tables of pieces. It stands
-//! on `arrayvec`, `hex`, `itoa` and `memchr`. Its contracts promise that reading a form's fields and writing
-//! them are one relation, so that each value has one spelling, whatever the table of forms is.
+//! What the texts of scenarios and records stand on: reading a text line by line, cutting bytes into lines and lines
+//! into fields, numbers in decimal, bytes as hexadecimal digits, and forms of lines as tables of pieces. It stands
+//! on `ivs_base`, `arrayvec`, `hex`, `itoa` and `memchr`. Its contracts promise that reading a form's fields and writing
+//! them are one relation, so that each value has one spelling, whatever the table of forms is, and that the first
+//! line that is wrong is told, whatever its lines are.
 #![tactic(auto)]
 
 mod cuts;
 mod forms;
 mod hex_digits;
 mod numbers;
+mod reading;
 mod writing;
 
 pub use cuts::cut;
-pub use forms::{Slot, fields, has_form, hex_field, numbers_in};
+pub use forms::{Slot, fields, has_form, hex_field, is_printable, number_at, numbers_in};
 pub use hex_digits::read_hex;
 pub use numbers::number;
+pub use reading::{LineFault, TakeLines, TextFault, read_text};
 pub use writing::put_line;

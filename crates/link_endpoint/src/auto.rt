@@ -69,10 +69,8 @@ impl Auto {
         ensures added { OnOk result (self.new ≡ record self.old { frames = self.old.frames ++ frame ∷ [] }) }
         ensures unchanged { IfErr result (λ _. self.new ≡ self.old) }
     {
-        match self.frames.push_back(frame) {
-            Ok(()) => Ok(()),
-            Err(_) => Err(NoMemory),
-        }
+        self.frames.push_back(frame)?;
+        Ok(())
     }
 
     /// The first frame that isn't accepted yet.

@@ -111,6 +111,13 @@ impl Endpoint {
         self.refused
     }
 
+    /// The bytes of the longest frame that may be offered: 18 more than the MTU.
+    pub fn longest(&self) -> u32
+        ensures { result ≡ self.now.who.sizes.mtu + 18 }
+    {
+        self.tx.longest()
+    }
+
     /// The frame of the open offer.
     pub fn offered(&self) -> &[u8]
         ensures { result.now ≡ offered self.now }

@@ -3,7 +3,7 @@ use Rattle.std.proofs.Common.{◌≡◌, ℕ, ◌+◌, ◌<◌, ◌≤◌, List,
 use Rattle.std.proofs.lemmas.List.{append_cancel_left}
 use Rattle.scenario_text.specs.Scenario.{World}
 use Rattle.lawful_history.specs.declared.line.Line.{Line}
-use Rattle.lawful_history.specs.Lawful.{IsLawful}
+use Rattle.lawful_history.specs.Lawful.{IsLawfulIn}
 use Rattle.link_model.specs.declared.fault.Unlawful.{Unlawful}
 use Rattle.link_model.specs.BrokenLaw.{law_between}
 use Rattle.link_model.specs.Difference.{head_of, DiffersAt, BeginsNone, Differs, Leaves}
@@ -31,8 +31,8 @@ longer lawful found more fault differs within =
       law = differs.law ∙ ap (λ h. law_between (head_of differs.due) h) (sym head);
     }
 
-pub leaves_longer : (world : World) (found more : List Line) (fault : Unlawful) → Leaves world found fault → Leaves world (found ++ more) fault
-leaves_longer world found more fault leaves =
+pub leaves_longer : (world : World) (version : ℕ) (found more : List Line) (fault : Unlawful) → Leaves world version found fault → Leaves world version (found ++ more) fault
+leaves_longer world version found more fault leaves =
     let within = leaves.within in
     record {
       none = λ lawful rest is same. leaves.none lawful (more ++ rest) is (same ∙ append_assoc found more rest);
@@ -41,8 +41,8 @@ leaves_longer world found more fault leaves =
     }
 
 -- no lawful history begins with lines that leave it
-pub none_begins : (world : World) (found : List Line) (fault : Unlawful) → Differs world found fault → fault.line ≤ length found → BeginsNone world found
-none_begins world found fault each within = λ lawful rest is same.
+pub none_begins : (world : World) (version : ℕ) (found : List Line) (fault : Unlawful) → Differs world version found fault → fault.line ≤ length found → BeginsNone world version found
+none_begins world version found fault each within = λ lawful rest is same.
     let differs = each lawful is in
     let head = head_more differs.given rest (some_given differs.before differs.given found fault.line differs.found_is differs.line within) in
     let due : differs.due ≡ differs.given ++ rest =
@@ -51,7 +51,7 @@ none_begins world found fault each within = λ lawful rest is same.
     differs.differ (ap head_of due ∙ head)
 
 -- lines that differ from the lawful history aren't it
-pub not_lawful : (world : World) (found : List Line) (fault : Unlawful) → Differs world found fault → IsLawful world found → ⊥
-not_lawful world found fault differs is =
+pub not_lawful : (world : World) (version : ℕ) (found : List Line) (fault : Unlawful) → Differs world version found fault → IsLawfulIn world version found → ⊥
+not_lawful world version found fault differs is =
     let here = differs found is in
     here.differ (ap head_of (append_cancel_left here.before here.due here.given (sym here.lawful_is ∙ here.found_is)))

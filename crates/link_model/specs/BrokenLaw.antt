@@ -35,6 +35,7 @@ kind_of (line.Accept peer frame) = Marked
 kind_of (line.Deliver peer frame) = Marked
 kind_of (line.Return peer) = Marked
 kind_of (line.Refuse peer refused) = Marked
+kind_of (line.Session peer opened other) = Marked
 
 -- whose line it is
 abbrev pub peer_of : Line → ℕ
@@ -64,6 +65,7 @@ peer_of (line.Accept peer frame) = peer
 peer_of (line.Deliver peer frame) = peer
 peer_of (line.Return peer) = peer
 peer_of (line.Refuse peer refused) = peer
+peer_of (line.Session peer opened other) = peer
 
 abbrev pub is_scheduled : Kind → Bool
 is_scheduled Scheduled = true

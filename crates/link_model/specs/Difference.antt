@@ -1,8 +1,8 @@
--- Where a list of lines leaves the lawful history of a scenario.
-use Rattle.std.specs.Prelude.{◌≡◌, ◌≢◌, ◌+◌, ◌≤◌, Option, Some, None, List, [], ◌∷◌, ◌++◌, length}
+-- Where a list of lines leaves what a record tells of the lawful history of a scenario. Lines are lawful in a version where a record of it tells them.
+use Rattle.std.specs.Prelude.{ℕ, ◌≡◌, ◌≢◌, ◌+◌, ◌≤◌, Option, Some, None, List, [], ◌∷◌, ◌++◌, length}
 use Rattle.scenario_text.specs.Scenario.{World}
 use Rattle.lawful_history.specs.declared.line.Line.{Line}
-use Rattle.lawful_history.specs.Lawful.{IsLawful}
+use Rattle.lawful_history.specs.Lawful.{IsLawfulIn}
 use Rattle.link_model.specs.declared.fault.Unlawful.{Unlawful}
 use Rattle.link_model.specs.BrokenLaw.{law_between}
 
@@ -24,19 +24,19 @@ pub record DiffersAt (lawful found : List Line) (fault : Unlawful) : Type 0 wher
   pub law : fault.law ≡ law_between (head_of due) (head_of given)
 
 -- each lawful history of the scenario begins with these lines
-abbrev pub Begins : World → List Line → Type 0
-Begins world lines = (lawful : List Line) → IsLawful world lawful → (rest : List Line) × (lawful ≡ lines ++ rest)
+abbrev pub Begins : World → (version : ℕ) → List Line → Type 0
+Begins world version lines = (lawful : List Line) → IsLawfulIn world version lawful → (rest : List Line) × (lawful ≡ lines ++ rest)
 
 -- no lawful history of the scenario begins with these lines
-abbrev pub BeginsNone : World → List Line → Type 0
-BeginsNone world lines = (lawful rest : List Line) → IsLawful world lawful → lawful ≢ lines ++ rest
+abbrev pub BeginsNone : World → (version : ℕ) → List Line → Type 0
+BeginsNone world version lines = (lawful rest : List Line) → IsLawfulIn world version lawful → lawful ≢ lines ++ rest
 
 -- the lines differ from each lawful history of the scenario there
-abbrev pub Differs : World → List Line → Unlawful → Type 0
-Differs world lines fault = (lawful : List Line) → IsLawful world lawful → DiffersAt lawful lines fault
+abbrev pub Differs : World → (version : ℕ) → List Line → Unlawful → Type 0
+Differs world version lines fault = (lawful : List Line) → IsLawfulIn world version lawful → DiffersAt lawful lines fault
 
 -- one of these lines is the first that isn't lawful, and no lawful history begins with them
-pub record Leaves (world : World) (lines : List Line) (fault : Unlawful) : Type 0 where
-  pub none : BeginsNone world lines
-  pub differs : Differs world lines fault
+pub record Leaves (world : World) (version : ℕ) (lines : List Line) (fault : Unlawful) : Type 0 where
+  pub none : BeginsNone world version lines
+  pub differs : Differs world version lines fault
   pub within : fault.line ≤ length lines

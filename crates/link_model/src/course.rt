@@ -1,7 +1,10 @@
 //! The lawful history on its course: a stage that is played only as far as the lines that are taken.
 ghost use Rattle.std.specs.Prelude.{◌≡◌, ◌≢◌, ◌+◌, ◌-◌, ◌^◌, ◌<◌, Some, IsTrue, List, [], ◌∷◌, ◌++◌, IfOk, OnOk, IfErr, MatchResult, true, false, length, slice_get, slice_index_or};
 ghost use Rattle.std.specs.Option.{option_copied};
-ghost use Rattle.lawful_history.specs.Lawful.{IsLawful};
+ghost use Rattle.lawful_history.specs.Lawful.{IsLawfulIn};
+ghost use Rattle.lawful_history.specs.Versions.{is_version};
+ghost use Rattle.stage.specs.Log.{Output};
+ghost use Rattle.stage.specs.Stage.{kept};
 ghost use Rattle.link_model.specs.Difference.{Differs};
 ghost use Rattle.link_model.specs.Taken.{IsCause};
 ghost use Rattle.link_model.specs.Course.{world_in, IsPlayed, IsAlong, IsOver, GoesOn, remains};
@@ -9,7 +12,7 @@ ghost use Rattle.link_model.specs.Course.{world_in, IsPlayed, IsAlong, IsOver, G
 use crate::fault::{Law, StepFault, Unlawful};
 use crate::law::broken_law;
 use ivs_base::NoMemory;
-use lawful_history::{Line, history_is_lawful, one_history};
+use lawful_history::{Line, records_tell_one_history};
 use scenario_text::{Act, Scenario};
 use stage::Stage;
 use std::alloc::Global;
@@ -19,6 +22,8 @@ use std::alloc::Global;
 pub struct Course<'a> {
     /// The scenario.
     pub scenario: &'a Scenario,
+    /// The version of the record whose lines are taken.
+    pub version: u32,
     /// Its stage, played so far.
     pub stage: Stage,
     /// The number of the act that comes next, from 0.
@@ -33,12 +38,14 @@ pub struct Course<'a> {
 
 impl<'a> Course<'a> {
     /// A course of which no line was taken.
-    pub fn new(alloc: Global, scenario: &'a Scenario) -> Result<Course<'a>, NoMemory>
-        ensures { IfOk result (λ course. GoesOn [] course × (course.scenario.now ≡ scenario.now)) }
+    pub fn new(alloc: Global, scenario: &'a Scenario, version: u32) -> Result<Course<'a>, NoMemory>
+        requires { is_version version ≡ true }
+        ensures { IfOk result (λ course. GoesOn [] course × (course.scenario.now ≡ scenario.now) × (course.version ≡ version)) }
     {
         let mut course = Course {
             scenario,
-            stage: Stage::new(alloc, scenario)?,
+            version,
+            stage: Stage::new(alloc, scenario, version)?,
             at: 0,
             peer: 0,
             left: 0,
@@ -50,15 +57,16 @@ impl<'a> Course<'a> {
 
     /// Plays an act, or notes the turns that it asks for.
     fn play_act(&mut self, act: &Act) -> Result<(), NoMemory>
-        requires played { (drained : List Line) × IsPlayed drained self.old }
+        requires played { (output : Output) × IsPlayed output self.old }
         requires left { self.old.left ≡ 0 }
         requires inside { self.old.at < length (world_in self.old).acts }
         requires at { act.now ≡ slice_index_or (world_in self.old).acts self.old.at act.now }
         requires room { self.old.at < 2 ^ 64 - 1 }
-        ensures played { (drained : List Line) → IsPlayed drained self.old → OnOk result (IsPlayed drained self.new) }
+        ensures played { (output : Output) → IsPlayed output self.old → OnOk result (IsPlayed output self.new) }
         ensures fewer { OnOk result (remains self.new < remains self.old) }
         ensures passed { self.new.passed ≡ self.old.passed }
         ensures scenario { self.new.scenario.now ≡ self.old.scenario.now }
+        ensures version { self.new.version ≡ self.old.version }
     {
         match act {
             Act::Turn { peer, steps } => {
@@ -77,12 +85,13 @@ impl<'a> Course<'a> {
 
     /// Plays the next turn or act. Returns whether there was one.
     fn play_next(&mut self) -> Result<bool, NoMemory>
-        requires { (drained : List Line) × IsPlayed drained self.old }
-        ensures played { (drained : List Line) → IsPlayed drained self.old → OnOk result (IsPlayed drained self.new) }
+        requires { (output : Output) × IsPlayed output self.old }
+        ensures played { (output : Output) → IsPlayed output self.old → OnOk result (IsPlayed output self.new) }
         ensures fewer { IfOk result (λ more. more ≡ true → remains self.new < remains self.old) }
         ensures over { IfOk result (λ more. more ≡ false → IsOver self.new) }
         ensures passed { self.new.passed ≡ self.old.passed }
         ensures scenario { self.new.scenario.now ≡ self.old.scenario.now }
+        ensures version { self.new.version ≡ self.old.version }
     {
         if self.left > 0 {
             self.stage.turn(self.peer)?;
@@ -99,11 +108,12 @@ impl<'a> Course<'a> {
 
     /// Drains the lines of the stage, which were all taken.
     fn drain(&mut self)
-        requires { self.old.passed ≡ length self.old.stage.scene.lines }
+        requires { self.old.passed ≡ length (kept self.old.stage) }
         ensures along { (lines : List Line) → IsAlong lines self.old → IsAlong lines self.new }
         ensures remains { remains self.new ≡ remains self.old }
         ensures passed { self.new.passed ≡ 0 }
         ensures scenario { self.new.scenario.now ≡ self.old.scenario.now }
+        ensures version { self.new.version ≡ self.old.version }
     {
         self.stage.drain();
         self.passed = 0;
@@ -114,6 +124,7 @@ impl<'a> Course<'a> {
         requires { (lines : List Line) × IsAlong lines self.old }
         ensures on { (lines : List Line) → IsAlong lines self.old → OnOk result (GoesOn lines self.new) }
         ensures scenario { self.new.scenario.now ≡ self.old.scenario.now }
+        ensures version { self.new.version ≡ self.old.version }
     {
         while self.passed == self.stage.lines().len() {
             self.drain();
@@ -126,15 +137,15 @@ impl<'a> Course<'a> {
 
     /// The line by which the lawful history goes on, if it does.
     fn due(&self) -> Option<&Line>
-        ensures { option_copied result ≡ slice_get self.now.stage.scene.lines self.now.passed }
+        ensures { option_copied result ≡ slice_get (kept self.now.stage) self.now.passed }
     {
         self.stage.lines().get(self.passed)
     }
 
     /// Is this the line by which the lawful history goes on?
     fn is_due(&self, line: &Line) -> bool
-        ensures due { IsTrue result → slice_get self.now.stage.scene.lines self.now.passed ≡ Some line.now }
-        ensures other { result ≡ false → slice_get self.now.stage.scene.lines self.now.passed ≢ Some line.now }
+        ensures due { IsTrue result → slice_get (kept self.now.stage) self.now.passed ≡ Some line.now }
+        ensures other { result ≡ false → slice_get (kept self.now.stage) self.now.passed ≢ Some line.now }
         ensures room { IsTrue result → self.now.passed < 2 ^ 64 - 1 }
     {
         let lines = self.stage.lines();
@@ -145,11 +156,11 @@ impl<'a> Course<'a> {
     pub fn take(&mut self, number: u64, line: &Line) -> Result<(), StepFault>
         requires { (lines : List Line) × GoesOn lines self.old }
         ensures on { (lines : List Line) → GoesOn lines self.old → OnOk result (GoesOn (lines ++ line.now ∷ []) self.new) }
-        ensures cause { (lines : List Line) → GoesOn lines self.old → number ≡ length lines + 1 → IfErr result (IsCause (world_in self.old) (lines ++ line.now ∷ [])) }
+        ensures cause { (lines : List Line) → GoesOn lines self.old → number ≡ length lines + 1 → IfErr result (IsCause (world_in self.old) self.old.version (lines ++ line.now ∷ [])) }
         ensures scenario { self.new.scenario.now ≡ self.old.scenario.now }
+        ensures version { self.new.version ≡ self.old.version }
     {
-        one_history();
-        history_is_lawful();
+        records_tell_one_history();
         if !self.is_due(line) {
             let law = broken_law(self.due(), line);
             return Err(StepFault::Unlawful(Unlawful { line: number, law }));
@@ -161,10 +172,9 @@ impl<'a> Course<'a> {
 
     /// Were all lines taken? Else the next line, which has this number, is missing.
     pub fn close(&self, number: u64) -> Result<(), Unlawful>
-        ensures { (lines : List Line) → GoesOn lines self.now → number ≡ length lines + 1 → MatchResult result (λ _. IsLawful (world_in self.now) lines) (Differs (world_in self.now) lines) }
+        ensures { (lines : List Line) → GoesOn lines self.now → number ≡ length lines + 1 → MatchResult result (λ _. IsLawfulIn (world_in self.now) self.now.version lines) (Differs (world_in self.now) self.now.version lines) }
     {
-        one_history();
-        history_is_lawful();
+        records_tell_one_history();
         match self.due() {
             None => Ok(()),
             Some(_) => Err(Unlawful {

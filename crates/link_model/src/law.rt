@@ -90,7 +90,8 @@ fn kind_and_peer(line: &Line) -> (Kind, u32)
         | Line::Accept { peer, .. }
         | Line::Deliver { peer, .. }
         | Line::Return { peer }
-        | Line::Refuse { peer, .. } => (Kind::Marked, *peer),
+        | Line::Refuse { peer, .. }
+        | Line::Session { peer, .. } => (Kind::Marked, *peer),
         Line::Write { peer, .. } | Line::State { peer, .. } | Line::Doorbell { peer, .. } => {
             (Kind::Accessed, *peer)
         }

@@ -47,7 +47,7 @@ fn take(run: &mut Run, lines: &[Line]) -> Result<(), StepFault>
 fn a_whole_history(rt: HostRuntime) -> Result<(), Fail> {
     let alloc = rt.alloc();
     let scenario = parse(alloc, SCENARIO)?;
-    let mut run = Run::new(alloc, &scenario)?;
+    let mut run = Run::new(alloc, &scenario, 1)?;
     take(&mut run, lines(alloc)?.as_slice())?;
     assert!(rt; run.close().is_ok());
     let surplus = Line::Idle { peer: 0 };
@@ -61,7 +61,7 @@ fn a_whole_history(rt: HostRuntime) -> Result<(), Fail> {
 fn a_history_that_is_cut(rt: HostRuntime) -> Result<(), Fail> {
     let alloc = rt.alloc();
     let scenario = parse(alloc, SCENARIO)?;
-    let mut run = Run::new(alloc, &scenario)?;
+    let mut run = Run::new(alloc, &scenario, 1)?;
     assert!(rt; run.close() == Err(unlawful(1, Law::Order)));
     take(&mut run, lines(alloc)?.get(..3).unwrap_or(&[]))?;
     assert!(rt; run.close() == Err(unlawful(4, Law::Order)));
@@ -72,7 +72,7 @@ fn a_history_that_is_cut(rt: HostRuntime) -> Result<(), Fail> {
 fn a_fault_stays(rt: HostRuntime) -> Result<(), Fail> {
     let alloc = rt.alloc();
     let scenario = parse(alloc, SCENARIO)?;
-    let mut run = Run::new(alloc, &scenario)?;
+    let mut run = Run::new(alloc, &scenario, 1)?;
     let wrong = Line::Saw { peer: 0, value: 7 };
     let fault = unlawful(2, Law::Link);
     let right = Line::Saw { peer: 0, value: 0 };

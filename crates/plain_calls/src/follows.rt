@@ -54,10 +54,8 @@ impl End {
         ensures seen { OnOk result ((seen : ends.End) → IsSeenAs self.old seen → IsSeenAs self.new (stated seen (Write word value))) }
         ensures counts { OnOk result (HasCounted self.old [] self.new) }
     {
-        match self.stores.insert(0, Store { word, value }) {
-            Ok(()) => Ok(()),
-            Err(_) => Err(NoMemory),
-        }
+        self.stores.insert(0, Store { word, value })?;
+        Ok(())
     }
 
     /// What an access changes.

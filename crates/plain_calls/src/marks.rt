@@ -23,10 +23,8 @@ fn only(alloc: Global, mark: Mark) -> Result<Vec<Mark>, NoMemory>
     ensures { IfOk result (λ marks. marks.items ≡ mark ∷ []) }
 {
     let mut marks = Vec::new(alloc);
-    match marks.push(mark) {
-        Ok(()) => Ok(marks),
-        Err(_) => Err(NoMemory),
-    }
+    marks.push(mark)?;
+    Ok(marks)
 }
 
 /// These two marks.
@@ -34,10 +32,8 @@ fn both(alloc: Global, first: Mark, second: Mark) -> Result<Vec<Mark>, NoMemory>
     ensures { IfOk result (λ marks. marks.items ≡ first ∷ second ∷ []) }
 {
     let mut marks = only(alloc, first)?;
-    match marks.push(second) {
-        Ok(()) => Ok(marks),
-        Err(_) => Err(NoMemory),
-    }
+    marks.push(second)?;
+    Ok(marks)
 }
 
 /// The mark of a value that its field refuses.

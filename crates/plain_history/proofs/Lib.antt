@@ -6,3 +6,5 @@ pub mod Counting
 pub mod Opening
 pub mod Turning
 pub mod Running
+pub mod Marking
+pub mod Versions

@@ -3,3 +3,4 @@ pub mod Told
 pub mod Peers
 pub mod Events
 pub mod Moments
+pub mod Marks

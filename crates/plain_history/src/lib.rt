@@ -1,8 +1,9 @@
 //! Whether a history is lawful, decided by reading its lines from the first to the last: a plain program that goes over the
 //! schedule event by event, works out the lines of each from the lines before it, and looks for them in the history. What a
 //! word holds, where the devices stand and how many interrupts were lost it finds in the lines before, each time that it
-//! needs them. It stands on `plain_calls` for the calls and on `doorbell_irq` for the devices, and shares no code with an
-//! engine or a stage. Its contract promises an answer of yes exactly where the history is lawful.
+//! needs them. Each mark of a session, of version 2, it works out by itself, from the lines before it. It stands on
+//! `plain_calls` for the calls and on `doorbell_irq` for the devices, and shares no code with an engine or a stage. Its contract
+//! promises an answer of yes exactly where the lines are what a record of the version tells of the lawful history.
 #![tactic(auto)]
 
 ghost use Rattle.std.specs.Prelude.{◌≡◌, ◌↔◌, ℕ, ◌+◌, ◌≤◌, IsTrue, IfOk};
@@ -11,7 +12,8 @@ ghost use Rattle.lawful_history.specs.Schedule.{events_of};
 ghost use Rattle.lawful_history.specs.History as history;
 ghost use Rattle.lawful_history.specs.History.{run};
 ghost use Rattle.lawful_history.specs.Sides.{world_of};
-ghost use Rattle.lawful_history.specs.Lawful.{IsLawful};
+ghost use Rattle.lawful_history.specs.Lawful.{IsLawful, IsLawfulIn};
+ghost use Rattle.lawful_history.specs.Sessions.{told_in};
 ghost use Rattle.plain_history.specs.Events.{IsAct};
 ghost use Rattle.plain_history.specs.Moments.{IsMoment, GoesOn};
 
@@ -19,6 +21,7 @@ mod devices;
 mod events;
 mod interrupts;
 mod lines;
+mod marks;
 mod memory;
 mod moments;
 mod peers;
@@ -29,7 +32,8 @@ mod turns;
 
 use events::event_of;
 use ivs_base::NoMemory;
-use lawful_history::{Line, history_is_lawful, one_history};
+use lawful_history::{Line, Lines, history_is_lawful, one_history, records_tell_one_history};
+use marks::without_marks;
 use moments::Moment;
 use scenario_text::{Act, Scenario};
 use std::alloc::Global;
@@ -63,8 +67,8 @@ fn read_act(
     Ok(true)
 }
 
-/// Are these lines a lawful history of the scenario? NoMemory comes only where memory ran out.
-pub fn is_lawful(alloc: Global, scenario: Scenario, lines: &[Line]) -> Result<bool, NoMemory>
+/// Are these lines a lawful history of the scenario, without marks of sessions?
+fn is_history(alloc: Global, scenario: Scenario, lines: &[Line]) -> Result<bool, NoMemory>
     ensures { IfOk result (λ yes. IsTrue yes ↔ IsLawful (world_of scenario) lines.now) }
 {
     one_history();
@@ -77,4 +81,23 @@ pub fn is_lawful(alloc: Global, scenario: Scenario, lines: &[Line]) -> Result<bo
         }
     }
     Ok(moment.read == lines.len())
+}
+
+/// Are these lines what a record of this version tells of a lawful history of the scenario? In version 2 the marks of sessions have to
+/// stand where they are due; the others are the lines of a history. NoMemory comes only where memory ran out.
+pub fn is_lawful(
+    alloc: Global,
+    scenario: Scenario,
+    version: u32,
+    lines: Lines,
+) -> Result<bool, NoMemory>
+    ensures lawful { IfOk result (λ yes. IsTrue yes ↔ IsLawfulIn (world_of scenario) version lines) }
+    // There is one such history, the computed one.
+    ensures told { let world = world_of scenario in IfOk result (λ yes. IsTrue yes ↔ lines ≡ told_in world version (history.history world)) }
+{
+    records_tell_one_history();
+    let Some(history) = without_marks(&scenario, version, lines.into_items()) else {
+        return Ok(false);
+    };
+    is_history(alloc, scenario, history.as_slice())
 }

@@ -48,10 +48,7 @@ impl Moment {
     {
         let mut peers = Vec::new(alloc);
         for _p in 0..scenario.geometry.peers() {
-            match peers.push(Peer::at_start(alloc)) {
-                Ok(()) => {}
-                Err(_) => return Err(NoMemory),
-            }
+            peers.push(Peer::at_start(alloc))?;
         }
         Ok(Moment {
             read: 0,

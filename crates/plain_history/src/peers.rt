@@ -156,15 +156,10 @@ impl Peer {
             IsPeer who most self.new (asked peer (call_seen call))) }
     {
         match (&mut self.driver, call) {
-            (Driver::Chooses(auto), Call::Offer(frame)) => match auto.frames.push(frame) {
-                Ok(()) => Ok(()),
-                Err(_) => Err(NoMemory),
-            },
-            (_, call) => match self.waiting.push(call) {
-                Ok(()) => Ok(()),
-                Err(_) => Err(NoMemory),
-            },
+            (Driver::Chooses(auto), Call::Offer(frame)) => auto.frames.push(frame)?,
+            (_, call) => self.waiting.push(call)?,
         }
+        Ok(())
     }
 
     /// The peer chooses its calls from now on.

@@ -1,6 +1,6 @@
 //! A worked history, and the same with each of its lines changed.
 use super::is_lawful;
-use lawful_history::Line;
+use lawful_history::{Line, Lines};
 use scenario_text::parse;
 use std::alloc::Global;
 use std::test::Fail;
@@ -9,10 +9,10 @@ use std::test::Fail;
 const SCENARIO: &[u8] =
     b"ivshm 1\npeers 2\ntable 4096\ncommon 0\nout 16384\nmtu 256\nirq msix 2\npeer 0 honest\npeer 1 honest\nbegin\ntick 0\nturn 0 2\ntick 0\nturn 0 3\nend\n";
 
-/// Its nine lines, the one with this number changed; 9 changes none.
-fn lines(alloc: Global, changed: u32) -> Result<Vec<Line>, Fail> {
+/// Its nine lines, the one with this number changed; 9 changes none. No peer enters RUN, so both versions tell the same.
+fn lines(alloc: Global, changed: u32) -> Result<Lines, Fail> {
     let by = |line: u32| u32::from(line == changed);
-    let mut lines = Vec::new(alloc);
+    let mut lines = Lines::new(alloc);
     lines.push(Line::Read {
         peer: 0,
         word: 1,
@@ -43,22 +43,25 @@ fn lines(alloc: Global, changed: u32) -> Result<Vec<Line>, Fail> {
 }
 
 /// The answer for these lines of the scenario.
-fn answer(alloc: Global, lines: &[Line]) -> Result<bool, Fail> {
+fn answer(alloc: Global, version: u32, lines: Lines) -> Result<bool, Fail> {
     let scenario = parse(alloc, SCENARIO)?;
-    Ok(is_lawful(alloc, scenario, lines)?)
+    Ok(is_lawful(alloc, scenario, version, lines)?)
 }
 
 #[test]
 fn one_peer_alone(rt: HostRuntime) -> Result<(), Fail> {
     let alloc = rt.alloc();
-    let whole = lines(alloc, 9)?;
-    assert!(rt; answer(alloc, whole.as_slice())?);
-    assert!(rt; !answer(alloc, whole.get(..8).unwrap_or(&[]))?);
-    for changed in 0..9 {
-        assert!(rt;
-            !answer(alloc, lines(alloc, changed)?.as_slice())?,
-            "line {changed}"
-        );
+    for version in [1, 2] {
+        assert!(rt; answer(alloc, version, lines(alloc, 9)?)?);
+        let mut longer = lines(alloc, 9)?;
+        longer.push(Line::Idle { peer: 0 })?;
+        assert!(rt; !answer(alloc, version, longer)?);
+        for changed in 0..9 {
+            assert!(rt;
+                !answer(alloc, version, lines(alloc, changed)?)?,
+                "line {changed}"
+            );
+        }
     }
     Ok(())
 }

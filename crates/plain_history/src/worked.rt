@@ -1,5 +1,5 @@
-//! Worked schedules with the lines that each has: they are accepted, and with a line changed, one line less or one more they are
-//! not.
+//! Worked schedules with the lines that each has in version 2: they are accepted, and with a line changed, one line less or one more
+//! they are not. Without their marks of sessions they are accepted in version 1.
 use super::is_lawful;
 use record_text::{Trace, parse};
 use std::alloc::Global;
@@ -40,12 +40,18 @@ const FIRST: &str =
 const SECOND: &str = "s 0 2\nover 0\nr 1 0 2\nsaw 1 2\n";
 
 const THIRD: &str =
-    "s 1 2\nover 1\nr 0 1 2\nsaw 0 2\ns 0 3\nover 0\nr 1 0 3\nsaw 1 3\ns 1 3\nover 1\n";
+    "s 1 2\nover 1\nr 0 1 2\nsaw 0 2\ns 0 3\nsession 0 1 1\nover 0\nr 1 0 3\nsaw 1 3\ns 1 3\nsession 1 1 1\nover 1\n";
+
+/// The lines of a stop of both peers, and what `THIRD` is in their second session.
+const STOPPED: &str = "s 0 0\nover 0\nr 1 0 0\nsaw 1 0\ns 1 0\nover 1\n";
+
+const THIRD_AGAIN: &str =
+    "s 1 2\nover 1\nr 0 1 2\nsaw 0 2\ns 0 3\nsession 0 2 2\nover 0\nr 1 0 3\nsaw 1 3\ns 1 3\nsession 1 2 2\nover 1\n";
 
 /// Those of `ONE_RUNS`, before and after the section.
 const BEFORE: &str = "r 0 1 0\nsaw 0 0\ns 0 1\nover 0\ns 1 2\nr 0 1 2\nsaw 0 2\n";
 
-const AFTER: &str = "s 0 2\nover 0\nr 0 1 2\nsaw 0 2\ns 0 3\nover 0\n";
+const AFTER: &str = "s 0 2\nover 0\nr 0 1 2\nsaw 0 2\ns 0 3\nsession 0 1 0\nover 0\n";
 
 /// The history of these parts, where the first lines that are spelled `from` are spelled `to`.
 fn history(alloc: Global, parts: &[Part], from: &str, to: &str) -> Result<String, Fail> {
@@ -79,17 +85,61 @@ fn history(alloc: Global, parts: &[Part], from: &str, to: &str) -> Result<String
     Ok(text)
 }
 
-/// Is this history, spelled line by line, lawful after these acts?
-fn answer(alloc: Global, head: &str, acts: &str, history: &str) -> Result<bool, Fail> {
+/// The history without its marks of sessions.
+fn without_marks(alloc: Global, history: &str) -> Result<String, Fail> {
+    let mut text = String::new(alloc);
+    for line in history.lines() {
+        if !line.starts_with("session ") {
+            text.push_str(line)?;
+            text.push('\n')?;
+        }
+    }
+    Ok(text)
+}
+
+/// Is this history, spelled line by line, what a record of this version tells after these acts?
+fn answer(
+    alloc: Global,
+    version: u32,
+    head: &str,
+    acts: &str,
+    history: &str,
+) -> Result<bool, Fail> {
     let mut count = 0u64;
     for byte in history.bytes() {
         if byte == b'\n' {
             count = count.wrapping_add(1);
         }
     }
-    let text = format!(in alloc; "record 1\n{head}{acts}end\n{history}end {count}\n")?;
-    let Trace { scenario, lines } = parse(alloc, text.as_bytes())?;
-    Ok(is_lawful(alloc, scenario, lines.items())?)
+    let text = format!(in alloc; "record {version}\n{head}{acts}end\n{history}end {count}\n")?;
+    let Trace {
+        version,
+        scenario,
+        lines,
+    } = parse(alloc, text.as_bytes())?;
+    Ok(is_lawful(alloc, scenario, version, lines)?)
+}
+
+/// This history is what a record of version 2 tells after these acts, and without its marks of sessions what one of version 1 does;
+/// where it has marks, neither is what the other tells.
+fn stands_in_each_version(
+    rt: &impl Abort,
+    alloc: Global,
+    head: &str,
+    acts: &str,
+    whole: &str,
+) -> Result<(), Fail> {
+    assert!(rt; answer(alloc, 2, head, acts, whole)?);
+    let bare = without_marks(alloc, whole)?;
+    assert!(rt; answer(alloc, 1, head, acts, bare.as_str())?, "version 1");
+    if bare.as_str() != whole {
+        assert!(rt; !answer(alloc, 1, head, acts, whole)?, "marks in version 1");
+        assert!(rt;
+            !answer(alloc, 2, head, acts, bare.as_str())?,
+            "no marks in version 2"
+        );
+    }
+    Ok(())
 }
 
 /// A history that ends with this line is lawful after these acts: but not without that line, not with one more, and not with
@@ -104,15 +154,18 @@ fn stands_alone(
     changes: &[(&str, &str)],
 ) -> Result<(), Fail> {
     let whole = history(alloc, parts, "", "")?;
-    assert!(rt; answer(alloc, head, acts, whole.as_str())?);
+    stands_in_each_version(rt, alloc, head, acts, whole.as_str())?;
     let Some(less) = whole.as_str().strip_suffix(last) else {
         assert!(rt; false, "another last line");
         return Ok(());
     };
-    assert!(rt; !answer(alloc, head, acts, less)?, "without the last line");
+    assert!(rt;
+        !answer(alloc, 2, head, acts, less)?,
+        "without the last line"
+    );
     let more = format!(in alloc; "{whole}{last}")?;
     assert!(rt;
-        !answer(alloc, head, acts, more.as_str())?,
+        !answer(alloc, 2, head, acts, more.as_str())?,
         "with one line more"
     );
     for change in changes {
@@ -123,7 +176,7 @@ fn stands_alone(
             "nothing is spelled {from}"
         );
         assert!(rt;
-            !answer(alloc, head, acts, other.as_str())?,
+            !answer(alloc, 2, head, acts, other.as_str())?,
             "{to} in place of {from}"
         );
     }
@@ -143,6 +196,11 @@ fn shortest_handshake(rt: HostRuntime) -> Result<(), Fail> {
         ("r 1 0 1\n", "r 1 0 0\n"),
         ("s 0 2\n", "s 0 3\n"),
         ("saw 1 3\n", "saw 1 2\n"),
+        ("session 0 1 1\n", "session 0 1 0\n"),
+        ("session 0 1 1\n", "session 0 1 1\nsession 0 1 1\n"),
+        ("s 0 3\nsession 0 1 1\n", "session 0 1 1\ns 0 3\n"),
+        ("session 1 1 1\n", ""),
+        ("s 1 1\nover 1\n", "s 1 1\nsession 1 0 0\nover 1\n"),
     ];
     stands_alone(
         &rt,
@@ -627,6 +685,70 @@ fn storm(rt: HostRuntime) -> Result<(), Fail> {
         acts,
         &[Part::Lines(lines)],
         "d 1 0 3\n",
+        &changes,
+    )
+}
+
+/// The second session of both peers has the number 2 on both sides.
+#[test]
+fn two_sessions(rt: HostRuntime) -> Result<(), Fail> {
+    let alloc = rt.alloc();
+    let acts = format!(in alloc; "{BOTH_RUN}stop 0\nturn 0 1\ntick 1\nturn 1 2\n{BOTH_RUN}")?;
+    let parts = [
+        Part::Lines(FIRST),
+        Part::Clears(0, 1024),
+        Part::Lines(SECOND),
+        Part::Clears(1, 5120),
+        Part::Lines(THIRD),
+        Part::Lines(STOPPED),
+        Part::Lines(FIRST),
+        Part::Clears(0, 1024),
+        Part::Lines(SECOND),
+        Part::Clears(1, 5120),
+        Part::Lines(THIRD_AGAIN),
+    ];
+    let changes = [
+        ("session 0 2 2\n", "session 0 1 1\n"),
+        ("session 1 2 2\n", "session 1 2 1\n"),
+    ];
+    stands_alone(
+        &rt,
+        alloc,
+        HONEST,
+        acts.as_str(),
+        &parts,
+        "over 1\n",
+        &changes,
+    )
+}
+
+/// The interrupts of a write of State come before the mark.
+#[test]
+fn mark_after_interrupts(rt: HostRuntime) -> Result<(), Fail> {
+    let alloc = rt.alloc();
+    let acts = format!(in alloc;
+        "cfg 1 w 4 2 4\ncfg 1 w 98 2 32768\nmsix 1 w 12 0\nmmio 1 w 8 1\ntick 0\nturn 0 2\nset 1 2\ntick 0\nturn 0 4098\nlose 1\ntick 0\nturn 0 2\n"
+    )?;
+    let parts = [
+        Part::Lines(
+            "cw 1 4 2 4\ncw 1 98 2 32768\ntw 1 12 0\nmw 1 8 1\nr 0 1 0\nsaw 0 0\ns 0 1\ni 1 0\nover 0\ns 1 2\nr 0 1 2\nsaw 0 2\n",
+        ),
+        Part::Clears(0, 1024),
+        Part::Lines(
+            "s 0 2\ni 1 0\nover 0\nr 0 1 2\nsaw 0 2\ns 0 3\nlost 1 0\nsession 0 1 0\nover 0\n",
+        ),
+    ];
+    let changes = [
+        ("lost 1 0\nsession 0 1 0\n", "session 0 1 0\nlost 1 0\n"),
+        ("session 0 1 0\n", "session 0 1 1\n"),
+    ];
+    stands_alone(
+        &rt,
+        alloc,
+        HOSTILE,
+        acts.as_str(),
+        &parts,
+        "over 0\n",
         &changes,
     )
 }

@@ -22,26 +22,28 @@ use Rattle.record_text.specs.declared.faults.RecordCause.{RecordCause}
 use Rattle.record_text.specs.declared.forms.LineForm.{LineForm}
 use Rattle.record_text.specs.declared.forms.LineForm.TheVariants.{Count}
 use Rattle.lawful_history.specs.Frames.{has_frame, HaveFrames}
+use Rattle.record_text.specs.Versions.{first_line}
 use Rattle.record_text.specs.Table.{pieces_of, all_forms}
 use Rattle.record_text.specs.LineRows.{row_of_line, entry_of, is_frame}
-use Rattle.record_text.specs.Spelling.{Record, Fits, AllFit, IsRecord, first_line, history_rows, spelling, IsSpelling}
+use Rattle.record_text.specs.Spelling.{Record, Fits, AllFit, IsRecord, history_rows, spelling, IsSpelling}
 use Rattle.record_text.specs.Judge.{AtFirst, InScenario, InHistory, Whole, History, Longer, Counted, put, judge, history_step, step, machine, reading, faulted, answer_in, answer}
+use Rattle.record_text.proofs.VersionLaws.{IsOneOrTwo, One, Two, one_or_two}
 use Rattle.record_text.proofs.TableLaws.{is_table}
 use Rattle.record_text.proofs.EntryLaws.{entry_of-row, frame_is}
 
 -- ---- the scenario's lines
 
-pub goes_on : (d now : SoFar) (line : List ℕ) → scenario_judge.step d line ≡ Ok now → scenario_judge.has_ended now ≡ false → step (InScenario d) line ≡ Ok (InScenario now)
-goes_on d now line is on = rw (is, on) refl
+pub goes_on : (version : ℕ) (d now : SoFar) (line : List ℕ) → scenario_judge.step d line ≡ Ok now → scenario_judge.has_ended now ≡ false → step (InScenario version d) line ≡ Ok (InScenario version now)
+goes_on version d now line is on = rw (is, on) refl
 
-pub goes_over : (d now : SoFar) (line : List ℕ) → scenario_judge.step d line ≡ Ok now → scenario_judge.has_ended now ≡ true → step (InScenario d) line ≡ Ok (InHistory (world_so_far now) [])
-goes_over d now line is over = rw (is, over) refl
+pub goes_over : (version : ℕ) (d now : SoFar) (line : List ℕ) → scenario_judge.step d line ≡ Ok now → scenario_judge.has_ended now ≡ true → step (InScenario version d) line ≡ Ok (InHistory version (world_so_far now) [])
+goes_over version d now line is over = rw (is, over) refl
 
 -- the lines of a scenario are the lines of a record's scenario part
-pub scenario_goes : (d e : SoFar) (lines : List (List ℕ)) → Leads scenario_judge.machine d lines e → Goes machine (InScenario d) lines (InHistory (world_so_far e) [])
-scenario_goes d e [] leads = absurd leads
-scenario_goes d e (line ∷ []) leads = (InHistory (world_so_far e) [], leads.0, goes_over d e line leads.1 leads.2, refl, refl)
-scenario_goes d e (line ∷ next ∷ more) leads = (InScenario leads.0, leads.1, goes_on d leads.0 line leads.2 leads.3, refl, scenario_goes leads.0 e (next ∷ more) leads.4)
+pub scenario_goes : (version : ℕ) (d e : SoFar) (lines : List (List ℕ)) → Leads scenario_judge.machine d lines e → Goes machine (InScenario version d) lines (InHistory version (world_so_far e) [])
+scenario_goes version d e [] leads = absurd leads
+scenario_goes version d e (line ∷ []) leads = (InHistory version (world_so_far e) [], leads.0, goes_over version d e line leads.1 leads.2, refl, refl)
+scenario_goes version d e (line ∷ next ∷ more) leads = (InScenario version leads.0, leads.1, goes_on version d leads.0 line leads.2 leads.3, refl, scenario_goes version leads.0 e (next ∷ more) leads.4)
 
 -- ---- the history's lines
 
@@ -60,20 +62,20 @@ history-row lines r said is framed puts =
 row_fits : (line : Line) → Fits line → IsRow pieces_of (row_of_line line)
 row_fits line fits = record { values = fits.values; hex = fits.bytes }
 
-line_step : (w : World) (lines : List Line) (line : Line) → Fits line → has_frame line ≡ true → step (InHistory w lines) (bare pieces_of (row_of_line line)) ≡ Ok (InHistory w (lines ++ line ∷ []))
-line_step w lines line fits framed =
+line_step : (version : ℕ) (w : World) (lines : List Line) (line : Line) → Fits line → has_frame line ≡ true → step (InHistory version w lines) (bare pieces_of (row_of_line line)) ≡ Ok (InHistory version w (lines ++ line ∷ []))
+line_step version w lines line fits framed =
     let puts : put lines (row_of_line line).numbers (entry_of (row_of_line line).form (row_of_line line).numbers (row_of_line line).frame) ≡ Ok (Longer (lines ++ line ∷ [])) = rw (entry_of-row line) refl in
     rw (history-row lines (row_of_line line) (Ok (Longer (lines ++ line ∷ []))) (row_fits line fits) (frame_is line ∙ framed) puts) refl
 
-pub history_goes : (w : World) (front rest : List Line) → AllFit rest → HaveFrames rest → Goes machine (InHistory w front) (map (bare pieces_of) (map row_of_line rest)) (InHistory w (front ++ rest))
-history_goes w front [] fits frames = ap (λ (ls : List Line). InHistory w ls) (sym (append-nil front))
-history_goes w front (line ∷ rest) fits frames =
+pub history_goes : (version : ℕ) (w : World) (front rest : List Line) → AllFit rest → HaveFrames rest → Goes machine (InHistory version w front) (map (bare pieces_of) (map row_of_line rest)) (InHistory version w (front ++ rest))
+history_goes version w front [] fits frames = ap (λ (ls : List Line). InHistory version w ls) (sym (append-nil front))
+history_goes version w front (line ∷ rest) fits frames =
     let here : Fits line = fits 0 line (omega arith) in
     let later : AllFit rest = λ k d lt. fits (suc k) d (omega arith) in
     let framed = both_true (has_frame line) (list_all has_frame rest) frames in
-    let goes = subst (λ (ls : List Line). Goes machine (InHistory w (front ++ line ∷ [])) (map (bare pieces_of) (map row_of_line rest)) (InHistory w ls)) (append_assoc front (line ∷ []) rest)
-    (history_goes w (front ++ line ∷ []) rest later framed.1) in
-    (InHistory w (front ++ line ∷ []), row_plain pieces_of all_forms is_table (row_of_line line) (row_fits line here), line_step w front line here framed.0, refl, goes)
+    let goes = subst (λ (ls : List Line). Goes machine (InHistory version w (front ++ line ∷ [])) (map (bare pieces_of) (map row_of_line rest)) (InHistory version w ls)) (append_assoc front (line ∷ []) rest)
+    (history_goes version w (front ++ line ∷ []) rest later framed.1) in
+    (InHistory version w (front ++ line ∷ []), row_plain pieces_of all_forms is_table (row_of_line line) (row_fits line here), line_step version w front line here framed.0, refl, goes)
 
 -- ---- the whole text
 
@@ -88,33 +90,37 @@ count_line lines = bare pieces_of (row Count (length lines ∷ []) [])
 
 -- the lines before the count
 abbrev pub body : Record → List (List ℕ)
-body r = first_line ∷ (scenario_lines r.world ++ history_lines r.lines)
+body r = first_line r.version ∷ (scenario_lines r.world ++ history_lines r.lines)
 
 count_row : (lines : List Line) → length lines < 2 ^ 64 → IsRow pieces_of (row Count (length lines ∷ []) [])
 count_row lines few = record { values = (omega arith, omega arith, tt); hex = refl }
 
-count_step : (w : World) (lines : List Line) → length lines < 2 ^ 64 → step (InHistory w lines) (count_line lines) ≡ Ok (Whole w lines)
-count_step w lines few =
+count_step : (version : ℕ) (w : World) (lines : List Line) → length lines < 2 ^ 64 → step (InHistory version w lines) (count_line lines) ≡ Ok (Whole version w lines)
+count_step version w lines few =
     let same : eqb (length lines) (length lines) ≡ true = eq-eqb _ _ refl in
     let puts : put lines (length lines ∷ []) None ≡ Ok (Counted lines) = rw same refl in
     rw (history-row lines (row Count (length lines ∷ []) []) (Ok (Counted lines)) (count_row lines few) refl puts) refl
 
-first_plain : HasNoNewline first_line
-first_plain = free_of is_printable 10 (λ e. cc) first_line refl
+first_plain : (version : ℕ) → IsOneOrTwo version → HasNoNewline (first_line version)
+first_plain version (One is) = subst (λ (v : ℕ). HasNoNewline (first_line v)) (sym is) (free_of is_printable 10 (λ e. cc) (first_line 1) refl)
+first_plain version (Two is) = subst (λ (v : ℕ). HasNoNewline (first_line v)) (sym is) (free_of is_printable 10 (λ e. cc) (first_line 2) refl)
 
-first_step : step AtFirst first_line ≡ Ok (InScenario at_start)
-first_step = refl
+first_step : (version : ℕ) → IsOneOrTwo version → step AtFirst (first_line version) ≡ Ok (InScenario version at_start)
+first_step version (One is) = subst (λ (v : ℕ). step AtFirst (first_line v) ≡ Ok (InScenario v at_start)) (sym is) refl
+first_step version (Two is) = subst (λ (v : ℕ). step AtFirst (first_line v) ≡ Ok (InScenario v at_start)) (sym is) refl
 
 -- the lines of a record lead to its end
-pub spelled_leads : (r : Record) → IsRecord r → Leads machine AtFirst (body r ++ count_line r.lines ∷ []) (Whole r.world r.lines)
+pub spelled_leads : (r : Record) → IsRecord r → Leads machine AtFirst (body r ++ count_line r.lines ∷ []) (Whole r.version r.world r.lines)
 spelled_leads r is =
+    let v = r.version in
     let w = r.world in
-    let part = scenario_goes at_start (scenario_laws.at_end w) (scenario_lines w) (scenario_laws.spelled_leads w is.world) in
+    let one = one_or_two v is.version in
+    let part = scenario_goes v at_start (scenario_laws.at_end w) (scenario_lines w) (scenario_laws.spelled_leads w is.world) in
     let world : world_so_far (scenario_laws.at_end w) ≡ w = scenario_laws.world_is w w.acts is.world in
-    let part' = subst (λ (x : World). Goes machine (InScenario at_start) (scenario_lines w) (InHistory x [])) world part in
-    let all = goes-append machine (InScenario at_start) (scenario_lines w) (history_lines r.lines) (InHistory w []) (InHistory w r.lines) part' (history_goes w [] r.lines is.fits is.frames) in
-    let whole : Goes machine AtFirst (body r) (InHistory w r.lines) = (InScenario at_start, first_plain, first_step, refl, all) in
-    goes-leads machine AtFirst (body r) (InHistory w r.lines) (count_line r.lines) (Whole w r.lines) whole (row_plain pieces_of all_forms is_table (row Count (length r.lines ∷ []) []) (count_row r.lines is.count)) (count_step w r.lines is.count) refl
+    let part' = subst (λ (x : World). Goes machine (InScenario v at_start) (scenario_lines w) (InHistory v x [])) world part in
+    let all = goes-append machine (InScenario v at_start) (scenario_lines w) (history_lines r.lines) (InHistory v w []) (InHistory v w r.lines) part' (history_goes v w [] r.lines is.fits is.frames) in
+    let whole : Goes machine AtFirst (body r) (InHistory v w r.lines) = (InScenario v at_start, first_plain v one, first_step v one, refl, all) in
+    goes-leads machine AtFirst (body r) (InHistory v w r.lines) (count_line r.lines) (Whole v w r.lines) whole (row_plain pieces_of all_forms is_table (row Count (length r.lines ∷ []) []) (count_row r.lines is.count)) (count_step v w r.lines is.count) refl
 
 line-cons : (line : List ℕ) (lines : List (List ℕ)) → text_of_lines (line ∷ lines) ≡ line ++ 10 ∷ text_of_lines lines
 line-cons line lines = flat_map-cons (λ l. l ++ 10 ∷ []) line lines ∙ append_assoc line (10 ∷ []) (text_of_lines lines)
@@ -127,9 +133,10 @@ text_is r =
     let history : text_of pieces_of (history_rows r.lines) ≡ text_of_lines (history_lines r.lines ++ count_line r.lines ∷ []) = text_is_lines pieces_of (history_rows r.lines) ∙ ap text_of_lines (map-append (bare pieces_of) (map row_of_line r.lines) (row Count (length r.lines ∷ []) [] ∷ [])) in
     let parts : scenario.spelling r.world ++ text_of pieces_of (history_rows r.lines) ≡ text_of_lines (scenario_lines r.world ++ history_lines r.lines ++ count_line r.lines ∷ []) =
     rw (scenario_laws.text_is r.world, history) (sym (lines-append (scenario_lines r.world) (history_lines r.lines ++ count_line r.lines ∷ [])) ∙ ap text_of_lines (sym (append_assoc (scenario_lines r.world) (history_lines r.lines) (count_line r.lines ∷ [])))) in
-    append_assoc first_line (10 ∷ scenario.spelling r.world) (text_of pieces_of (history_rows r.lines)) ∙ ap (λ (t : List ℕ). first_line ++ 10 ∷ t) parts ∙ sym (line-cons first_line (scenario_lines r.world ++ history_lines r.lines ++ count_line r.lines ∷ []))
+    let first = first_line r.version in
+    append_assoc first (10 ∷ scenario.spelling r.world) (text_of pieces_of (history_rows r.lines)) ∙ ap (λ (t : List ℕ). first ++ 10 ∷ t) parts ∙ sym (line-cons first (scenario_lines r.world ++ history_lines r.lines ++ count_line r.lines ∷ []))
 
 pub is_answered : (r : Record) (bytes : List ℕ) → IsSpelling r bytes → answer bytes ≡ Ok r
 is_answered r bytes is =
-    let read : reading (text_of_lines (body r ++ count_line r.lines ∷ [])) ≡ Ok (Whole r.world r.lines) = reads machine AtFirst 0 (body r ++ count_line r.lines ∷ []) (Whole r.world r.lines) (spelled_leads r is.0) in
+    let read : reading (text_of_lines (body r ++ count_line r.lines ∷ [])) ≡ Ok (Whole r.version r.world r.lines) = reads machine AtFirst 0 (body r ++ count_line r.lines ∷ []) (Whole r.version r.world r.lines) (spelled_leads r is.0) in
     ap (λ (t : List ℕ). answer_in (faulted (reading t))) (is.1 ∙ text_is r) ∙ ap (λ x. answer_in (faulted x)) read

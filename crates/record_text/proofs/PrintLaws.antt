@@ -1,16 +1,14 @@
--- Writing a history line by line, and a record part by part.
+-- Writing a history line by line.
 use Rattle.std.proofs.Common.{◌≡◌, ℕ, ◌+◌, ◌<◌, List, [], ◌∷◌, ◌++◌, length, get_or, take, map, sym, ap, subst, ◌∙◌, append_assoc, arith}
 use Rattle.std.proofs.lemmas.List.{append-nil, take_more, map-append}
 use Rattle.std.proofs.lemmas.List.Concat.{flat_map-append, flat_map-cons}
 use Rattle.std.proofs.lemmas.List.Elements.{All-append}
-use Rattle.line_text.specs.Rows.{Row, row, line_of_row, text_of}
+use Rattle.line_text.specs.Rows.{Row, line_of_row, text_of}
 use Rattle.lawful_history.specs.declared.line.Line.{Line}
-use Rattle.scenario_text.specs.Spelling as scenario
 use Rattle.record_text.specs.declared.forms.LineForm.{LineForm}
-use Rattle.record_text.specs.declared.forms.LineForm.TheVariants.{Count}
 use Rattle.record_text.specs.Table.{pieces_of}
 use Rattle.record_text.specs.LineRows.{row_of_line}
-use Rattle.record_text.specs.Spelling.{Record, Fits, AllFit, first_line, history_rows, spelling}
+use Rattle.record_text.specs.Spelling.{Fits, AllFit}
 
 text-push : (front : List ℕ) (rs : List (Row LineForm)) (r : Row LineForm) → front ++ text_of pieces_of rs ++ line_of_row pieces_of r ≡ front ++ text_of pieces_of (rs ++ r ∷ [])
 text-push front rs r =
@@ -31,10 +29,3 @@ pub all-more : (lines : List Line) (i : ℕ) (line : Line) → i < length lines 
 all-more lines i line lt is all fits =
     let more : take (i + 1) lines ≡ take i lines ++ line ∷ [] = take_more lines i line lt ∙ ap (λ (l : Line). take i lines ++ l ∷ []) (sym is) in
     subst AllFit (sym more) (All-append Fits (take i lines) (line ∷ []) all (one line fits))
-
--- the parts of a record's text, one after the other
-pub parts : (front : List ℕ) (r : Record) → (((front ++ (first_line ++ 10 ∷ [])) ++ scenario.spelling r.world) ++ text_of pieces_of (map row_of_line r.lines)) ++ line_of_row pieces_of (row Count (length r.lines ∷ []) []) ≡ front ++ spelling r
-parts front r =
-    text-push ((front ++ (first_line ++ 10 ∷ [])) ++ scenario.spelling r.world) (map row_of_line r.lines) (row Count (length r.lines ∷ []) [])
-    ∙ ap (λ (t : List ℕ). t ++ text_of pieces_of (history_rows r.lines)) (append_assoc front (first_line ++ 10 ∷ []) (scenario.spelling r.world))
-    ∙ append_assoc front ((first_line ++ 10 ∷ []) ++ scenario.spelling r.world) (text_of pieces_of (history_rows r.lines))

@@ -2,14 +2,15 @@
 use Rattle.std.specs.Prelude.{◌≡◌, ◌==◌, ◌&&◌, not, Bool, true, false, ℕ, List, length}
 use Rattle.std.specs.List.{list_all}
 use Rattle.lawful_history.specs.declared.line.Line.{Line}
-use Rattle.lawful_history.specs.declared.line.Line.TheVariants.{Read, Write, State, Doorbell, Saw, Reclaim, Look, Full, Done, Over, Down, Accept, Deliver, Return, Refuse}
+use Rattle.lawful_history.specs.declared.line.Line.TheVariants.{Read, Write, State, Doorbell, Interrupt, Saw, Reclaim, Look, Full, Done, Over, Down, Accept, Deliver, Return, Refuse}
 
--- an access, a doorbell or a mark of P; its frame, if it has one, has at least one byte
+-- an access, a doorbell, an interrupt that P found or a mark of P; its frame, if it has one, has at least one byte
 abbrev pub is_own : ℕ → Line → Bool
 is_own p (Read q word value) = q == p
 is_own p (Write q word value) = q == p
 is_own p (State q value) = q == p
 is_own p (Doorbell q target vector) = q == p
+is_own p (Interrupt q vector) = q == p
 is_own p (Saw q value) = q == p
 is_own p (Reclaim q count) = q == p
 is_own p (Look q count) = q == p

@@ -1,10 +1,10 @@
-//! Records as values and as text: a scenario with a history of it, lawful or not. It stands on `scenario_text` for the
+//! Records as values and as text, in version 1 or 2: a scenario with a history of it, lawful or not. It stands on `scenario_text` for the
 //! scenario's text, on `lawful_history` for the lines of a history, and on `line_text` for lines and forms. Its contracts
 //! promise that a record has one spelling, that parsing answers exactly where the bytes are one, and that each fault
 //! is the first in the order of the format (docs/FORMATS.md).
 #![tactic(auto)]
 
-mod failures;
+mod drafts;
 mod faults;
 mod forms;
 mod laws;
@@ -19,6 +19,7 @@ mod taking;
 #[cfg(test)]
 mod tests;
 mod trace;
+mod versions;
 
 pub use faults::{RecordCause, RecordFault};
 pub use laws::{bytes_after_end_are_bad_line, cut_is_no_end, fault_is_first};

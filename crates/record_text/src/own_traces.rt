@@ -40,10 +40,8 @@ impl OwnTraces {
         ensures ok { OnOk result (self.new ≡ self.old ++ part_of item ∷ []) }
         ensures err { OnErr result (self.new ≡ self.old) }
     {
-        match self.items.push(item) {
-            Ok(()) => Ok(()),
-            Err(_) => Err(NoMemory),
-        }
+        self.items.push(item)?;
+        Ok(())
     }
 
     /// The whole list.

@@ -8,6 +8,7 @@ ghost use Rattle.record_text.specs.Judge.{answer};
 
 use crate::forms::LineForm;
 use crate::trace::Trace;
+use crate::versions::first_line;
 use ivs_base::{Frame, NoMemory};
 use lawful_history::Line;
 use line_text::put_line;
@@ -223,6 +224,16 @@ pub fn put_history_line(out: &mut Vec<u8>, line: &Line) -> Result<(), AllocError
             &[u64::from(*peer), value_of(refused)],
             &[],
         ),
+        Line::Session {
+            peer,
+            opened,
+            other,
+        } => put(
+            out,
+            LineForm::Session,
+            &[u64::from(*peer), u64::from(*opened), u64::from(*other)],
+            &[],
+        ),
     }
 }
 
@@ -243,7 +254,8 @@ fn put_record(out: &mut Vec<u8>, trace: &Trace) -> Result<(), AllocError>
     ensures count { OnOk result (length trace.now.lines < 2 ^ 64) }
 {
     let lines = trace.lines.items();
-    out.extend_from_slice(b"record 1\n")?;
+    out.extend_from_slice(first_line(trace.version))?;
+    out.push(b'\n')?;
     put_scenario(out, &trace.scenario)?;
     put_history(out, lines)?;
     put(out, LineForm::Count, &[lines.len() as u64], &[])?;
@@ -257,8 +269,6 @@ pub fn print(alloc: Global, trace: &Trace) -> Result<Vec<u8>, NoMemory>
     ensures again { IfOk result (λ text. answer text.items ≡ Ok (record_of trace.now)) }
 {
     let mut out = Vec::new(alloc);
-    match put_record(&mut out, trace) {
-        Ok(()) => Ok(out),
-        Err(_) => Err(NoMemory),
-    }
+    put_record(&mut out, trace)?;
+    Ok(out)
 }

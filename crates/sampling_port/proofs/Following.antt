@@ -4,14 +4,13 @@ use Rattle.std.specs.Prelude.{◌==◌, nat_lt, if◌then◌else◌, Option, Som
 use Rattle.call_grammar.specs.Words.{words_for, word_bytes}
 use Rattle.split_ring.specs.declared.steps.Access.{Access}
 use Rattle.sampling_port.specs.declared.notes.PortField.TheVariants as field
-use Rattle.sampling_port.specs.declared.notes.PortNote.{PortNote}
 use Rattle.sampling_port.specs.declared.notes.PortNote.TheVariants as note
 use Rattle.sampling_port.specs.declared.place.Place.{Place}
 use Rattle.sampling_port.specs.declared.place.Place.TheVariants.{Closed, WritingLength, WritingWord, WritingSequence, AtSequence, AtLength, AtWord, AtSecond}
-use Rattle.sampling_port.specs.Marks.{PortMark, Publish, Got, Nothing, Again, Refuse, marked}
+use Rattle.sampling_port.specs.Marks.{PortMark, Got, Nothing, Again, Refuse, marked}
 use Rattle.sampling_port.specs.Trees.{PortTree, Ended, PortStep, port_step, Goes}
-use Rattle.sampling_port.specs.Calls.{write_words, read_words, read_length, is_length, sequence_mark, length_mark, second_mark}
-use Rattle.sampling_port.specs.Views.{PortView, is_open, is_busy, from_at, own, theirs, writing_place, reading_place, access_at, note_at, port_after, closed, got, left_at, left}
+use Rattle.sampling_port.specs.Calls.{write_words, read_words, read_length, is_length}
+use Rattle.sampling_port.specs.Views.{PortView, is_open, from_at, own, theirs, writing_place, reading_place, access_at, note_at, port_after, closed, got, left_at, left}
 use Rattle.sampling_port.specs.Laws.{PortsFollowCalls}
 
 -- What is left at the places to which a step leads

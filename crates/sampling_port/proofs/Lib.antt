@@ -3,3 +3,14 @@ pub mod Following
 pub mod Reaching
 pub mod Once
 pub mod Listing
+pub mod Telling
+pub mod Stepping
+pub mod Runs
+pub mod Unique
+pub mod Exists
+pub mod Falling
+pub mod Bytes
+pub mod Buffers
+pub mod Looks
+pub mod Turning
+pub mod Publishing

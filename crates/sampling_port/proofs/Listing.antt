@@ -2,16 +2,15 @@
 use Rattle.std.proofs.Common.{◌≡◌, ◌≢◌, ℕ, zero, suc, ◌+◌, ◌<◌, ◌≤◌, Bool, true, false, inl, inr, List, [], ◌∷◌, ◌++◌, length, take, refl, sym, ap, ◌∙◌, subst, append_assoc, arith}
 use Rattle.std.proofs.lemmas.Bool.Decides.{nat_tests}
 use Rattle.std.proofs.lemmas.List.{take_all, append-nil, length-take}
-use Rattle.std.proofs.lemmas.List.{take-append-le, take-take}
 use Rattle.std.specs.List.{flat_map}
-use Rattle.std.specs.Prelude.{◌==◌, nat_lt, nat_le, ◌&&◌, if◌then◌else◌, Option, Some, None, min}
+use Rattle.std.specs.Prelude.{◌==◌, nat_lt, if◌then◌else◌, Some, None}
 use Rattle.call_grammar.specs.Words.{words_for, word_bytes, frame_in}
 use Rattle.sampling_port.specs.declared.notes.PortField.TheVariants.{Sequence, Length}
-use Rattle.sampling_port.specs.Layout.{length_place, data_place}
-use Rattle.sampling_port.specs.Marks.{PortMark, Publish, Nothing, Refuse}
-use Rattle.sampling_port.specs.Trees.{PortTree, Ended, PortStep, port_step, Makes}
-use Rattle.sampling_port.specs.Calls.{publish, write_words, sample, read_length, read_words, look_again, second_mark, is_length, length_mark, sequence_mark}
-use Rattle.sampling_port.specs.Lists.{write_step, read_step, write_steps, publish_steps, IsLength, word_steps, RefusesSequence, FindsNothing, RefusesLength, ReadsMessage, IsSample, CallsAreLists}
+use Rattle.sampling_port.specs.Layout.{length_place}
+use Rattle.sampling_port.specs.Marks.{Publish, Nothing, Refuse}
+use Rattle.sampling_port.specs.Trees.{Ended, PortStep, Makes}
+use Rattle.sampling_port.specs.Calls.{publish, write_words, sample, read_length, read_words, second_mark, is_length}
+use Rattle.sampling_port.specs.Lists.{write_step, read_step, write_steps, publish_steps, IsLength, word_steps, IsSample, CallsAreLists}
 
 -- A publish
 

@@ -1,13 +1,13 @@
 -- A sample reads each field once.
-use Rattle.std.proofs.Common.{◌≡◌, ◌≢◌, ℕ, zero, suc, ◌+◌, ◌<◌, ◌≤◌, Bool, true, false, inl, inr, List, [], ◌∷◌, ◌++◌, length, take, map, refl, sym, ap, ◌∙◌, subst, arith}
+use Rattle.std.proofs.Common.{◌≡◌, ℕ, zero, suc, ◌+◌, ◌<◌, Bool, true, false, inl, inr, List, [], ◌∷◌, ◌++◌, take, map, sym, ap, ◌∙◌, subst, arith}
 use Rattle.std.specs.Prelude.{◌==◌, nat_lt, if◌then◌else◌, Option}
 use Rattle.split_ring.specs.declared.steps.Access.TheVariants.{Read}
 use Rattle.call_grammar.specs.ReadsOnce.{read_by, reads_of, IsNone, AreDistinct}
 use Rattle.call_grammar.specs.Words.{words_for, word_bytes}
 use Rattle.sampling_port.specs.Layout.{length_place, data_place}
 use Rattle.sampling_port.specs.Marks.{PortMark}
-use Rattle.sampling_port.specs.Trees.{PortTree, Ended, PortStep, port_step, Makes, unmarked_step}
-use Rattle.sampling_port.specs.Calls.{sample, read_length, read_words, look_again, is_length}
+use Rattle.sampling_port.specs.Trees.{Ended, PortStep, port_step, Makes, unmarked_step}
+use Rattle.sampling_port.specs.Calls.{read_length, read_words, look_again, is_length}
 use Rattle.sampling_port.specs.Laws.{IsReadOnce, FieldsAreReadOnce}
 use Rattle.sampling_port.proofs.Reaching.{length_place_least}
 

@@ -1,5 +1,5 @@
 -- The two calls of a port (profile): a publish writes a message and then its number; a sample reads a number, its message, and the number again.
-use Rattle.std.specs.Prelude.{ℕ, zero, suc, ◌+◌, ◌==◌, nat_lt, nat_le, ◌&&◌, if◌then◌else◌, Bool, Option, Some, None, List, [], ◌∷◌, ◌++◌, length, take}
+use Rattle.std.specs.Prelude.{ℕ, zero, suc, ◌+◌, ◌==◌, nat_lt, nat_le, ◌&&◌, if◌then◌else◌, Bool, Option, Some, None, List, [], ◌++◌, length, take}
 use Rattle.split_ring.specs.declared.steps.Access.TheVariants.{Write}
 use Rattle.call_grammar.specs.Words.{words_for, frame_word, word_bytes}
 use Rattle.sampling_port.specs.declared.notes.PortField.TheVariants.{Sequence, Length}
@@ -39,7 +39,8 @@ look_again from theirs number message = Reads theirs (second_mark from number me
 abbrev pub read_words : (from theirs most number bytes : ℕ) → List ℕ → (at count : ℕ) → PortTree
 read_words from theirs most number bytes read at zero = look_again from theirs number read
 read_words from theirs most number bytes read at (suc more) =
-    Reads (theirs + data_place most number + at) (λ value. None) (λ value. read_words from theirs most number bytes (take bytes (read ++ word_bytes value)) (at + 1) more)
+    Reads (theirs + data_place most number + at) (λ value. None)
+    (λ value. read_words from theirs most number bytes (take bytes (read ++ word_bytes value)) (at + 1) more)
 
 -- the length is in range where it is that of a message: 1 to the most bytes
 abbrev pub is_length : ℕ → ℕ → Bool
@@ -50,7 +51,8 @@ length_mark from most value = if is_length most value then None else Some (Refus
 
 abbrev pub read_length : (from theirs most number : ℕ) → PortTree
 read_length from theirs most number =
-    Reads (theirs + length_place most number) (length_mark from most) (λ value. if is_length most value then read_words from theirs most number value [] 0 (words_for value) else Ended)
+    Reads (theirs + length_place most number) (length_mark from most)
+    (λ value. if is_length most value then read_words from theirs most number value [] 0 (words_for value) else Ended)
 
 -- the sequence is in range where it isn't below the number got last; 0 says that nothing was published
 abbrev pub sequence_mark : (from last : ℕ) → ℕ → Option PortMark
@@ -58,4 +60,6 @@ sequence_mark from last value = if nat_lt value last then Some (Refuse from Sequ
 
 -- the sample of a peer of whom the message with this number was got last, or none where it is 0
 abbrev pub sample : (from theirs most last : ℕ) → PortTree
-sample from theirs most last = Reads theirs (sequence_mark from last) (λ value. if nat_lt value last then Ended else if value == 0 then Ended else read_length from theirs most value)
+sample from theirs most last =
+    Reads theirs (sequence_mark from last)
+    (λ value. if nat_lt value last then Ended else if value == 0 then Ended else read_length from theirs most value)

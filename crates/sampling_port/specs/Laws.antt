@@ -1,5 +1,5 @@
 -- What holds of every port, and why there is none.
-use Rattle.std.specs.Prelude.{ℕ, ◌≡◌, ◌+◌, ◌*◌, ◌/◌, ◌<◌, ◌≤◌, ◌⊎◌, true, Some, None, List, [], ◌∷◌, ◌++◌, length, map, false, slice_index}
+use Rattle.std.specs.Prelude.{ℕ, ◌≡◌, ◌+◌, ◌*◌, ◌<◌, ◌≤◌, ◌⊎◌, true, List, [], ◌∷◌, ◌++◌, length, map, false, slice_index}
 use Rattle.section_map.specs.Geometry.{Shape, section_start}
 use Rattle.section_map.specs.MayWrite.{InSection}
 use Rattle.split_ring.specs.declared.steps.Access.{Access}
@@ -9,12 +9,11 @@ use Rattle.call_grammar.specs.Reach.{StaysInReach}
 use Rattle.call_grammar.specs.ReadsOnce.{reads_of, AreDistinct}
 use Rattle.sampling_port.specs.declared.notes.PortFault.{PortFault}
 use Rattle.sampling_port.specs.declared.notes.PortFault.TheVariants.{BadMessage, TooSmall, NoMemory}
-use Rattle.sampling_port.specs.declared.place.Place.TheVariants.{Closed}
 use Rattle.sampling_port.specs.Layout.{IsMessageSize, port_words}
 use Rattle.sampling_port.specs.Marks.{marked}
 use Rattle.sampling_port.specs.Trees.{PortTree, Ended, PortStep, port_step, Goes, Makes, unmarked, unmarked_step}
 use Rattle.sampling_port.specs.Calls.{publish, sample}
-use Rattle.sampling_port.specs.Views.{PortView, IsPort, is_busy, from_at, own, theirs, access_at, note_at, port_after, left, left_at, publishing, sampling}
+use Rattle.sampling_port.specs.Views.{PortView, is_busy, from_at, own, theirs, access_at, note_at, port_after, left, publishing, sampling}
 
 -- why a geometry has no port for messages of so many bytes; sizes are in bytes
 abbrev pub IsPortFault : Shape → ℕ → PortFault → Type 0
@@ -54,7 +53,8 @@ abbrev pub IsReadOnce : ℕ → List ℕ → Type 0
 IsReadOnce sequence reads = AreDistinct reads ⊎ ((front : List ℕ) × (reads ≡ sequence ∷ (front ++ sequence ∷ [])) × AreDistinct (sequence ∷ front))
 
 abbrev pub FieldsAreReadOnce : Type 0
-FieldsAreReadOnce = (from theirs most last : ℕ) (steps : List PortStep) → Makes (sample from theirs most last) steps → IsReadOnce theirs (reads_of (map unmarked_step steps))
+FieldsAreReadOnce = (from theirs most last : ℕ) (steps : List PortStep) → Makes (sample from theirs most last) steps
+    → IsReadOnce theirs (reads_of (map unmarked_step steps))
 
 -- the step of a port that met this value: a message got is the one in hand
 abbrev pub step_of_port : PortView → ℕ → PortStep

@@ -1,13 +1,7 @@
 -- Where a port's words stand in its section (profile). Places are in words from the section's start.
-use Rattle.std.specs.Prelude.{ℕ, ◌≡◌, ◌+◌, ◌/◌, ◌%◌, ◌≤◌, ◌==◌, if◌then◌else◌}
-
--- a message has at most so many bytes: a multiple of 4 from 4 to 65,536
-abbrev pub IsMessageSize : ℕ → Type 0
-IsMessageSize most = (most % 4 ≡ 0) × (4 ≤ most) × (most ≤ 65536)
-
--- the words of a port: the sequence, and two buffers of a length and the data
-abbrev pub port_words : ℕ → ℕ
-port_words most = 3 + most / 2
+use Rattle.std.specs.Prelude.{ℕ, ◌+◌, ◌/◌, ◌%◌, ◌==◌, if◌then◌else◌}
+-- how large a message may be, and how many words a port has
+pub use Rattle.port_text.specs.Sizes.{IsMessageSize, port_words}
 
 -- word 0 is the sequence, the number of the last message. Message `number` stands in buffer `number mod 2`, and buffer b begins, with its
 -- length, at word `1 + b * (1 + most / 4)`

@@ -6,3 +6,13 @@ pub mod Views
 pub mod Kept
 pub mod Lists
 pub mod Laws
+pub mod Schedule
+pub mod Told
+pub mod Memory
+pub mod Order
+pub mod Lawful
+pub mod History
+pub mod LineRows
+pub mod Record
+pub mod HistoryLaws
+pub mod Stage

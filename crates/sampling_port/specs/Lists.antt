@@ -55,7 +55,8 @@ pub record RefusesLength (from theirs most last : ℕ) (steps : List PortStep) :
   pub beyond : ¬ IsLength most bytes
   pub steps_are : steps ≡ read_step theirs number None ∷ read_step (theirs + length_place most number) bytes (Some (Refuse from Length bytes)) ∷ []
 
--- a message is read whole: its bytes are the first of those that its words gave, as many as the length; it is got where the number is the same at the second look
+-- a message is read whole: its bytes are the first of those that its words gave, as many as the length; it is got where the number is the same at
+-- the second look
 pub record ReadsMessage (from theirs most last : ℕ) (steps : List PortStep) : Type 0 where
   pub number : ℕ
   pub not_below : last ≤ number
@@ -71,11 +72,13 @@ pub record ReadsMessage (from theirs most last : ℕ) (steps : List PortStep) : 
 -- a finished sample is one of these four lists
 abbrev pub IsSample : (from theirs most last : ℕ) → List PortStep → Type 0
 IsSample from theirs most last steps =
-    RefusesSequence from theirs last steps ⊎ (FindsNothing from theirs last steps ⊎ (RefusesLength from theirs most last steps ⊎ ReadsMessage from theirs most last steps))
+    RefusesSequence from theirs last steps ⊎ (FindsNothing from theirs last steps
+    ⊎ (RefusesLength from theirs most last steps ⊎ ReadsMessage from theirs most last steps))
 
 -- a list of steps is a whole call exactly where it is one of these
 pub record CallsAreLists : Type 0 where
-  pub published : (own most number : ℕ) (message : List ℕ) (steps : List PortStep) → Makes (publish own most number message) steps → steps ≡ publish_steps own most number message
+  pub published : (own most number : ℕ) (message : List ℕ) (steps : List PortStep) → Makes (publish own most number message) steps
+      → steps ≡ publish_steps own most number message
   pub publishes : (own most number : ℕ) (message : List ℕ) → Makes (publish own most number message) (publish_steps own most number message)
   pub sampled : (from theirs most last : ℕ) (steps : List PortStep) → Makes (sample from theirs most last) steps → IsSample from theirs most last steps
   pub samples : (from theirs most last : ℕ) (steps : List PortStep) → IsSample from theirs most last steps → Makes (sample from theirs most last) steps

@@ -2,7 +2,7 @@
 use Rattle.std.specs.Prelude.{ℕ, ◌≡◌, Option, List, [], ◌∷◌}
 use Rattle.split_ring.specs.declared.steps.Access.{Access}
 use Rattle.split_ring.specs.declared.steps.Access.TheVariants.{Read}
-use Rattle.call_grammar.specs.Steps.{Step, step_of, value_given}
+use Rattle.call_grammar.specs.Steps.{Step, value_given}
 use Rattle.call_grammar.specs.Trees as call
 use Rattle.sampling_port.specs.Marks.{PortMark}
 

@@ -1,5 +1,5 @@
 -- A port, as contracts see it, and what a step does to it.
-use Rattle.std.specs.Prelude.{ℕ, zero, suc, ◌≡◌, ◌+◌, ◌-◌, ◌*◌, ◌^◌, ◌<◌, ◌≤◌, ◌==◌, nat_lt, if◌then◌else◌, Bool, true, false, Option, Some, None, List, [], ◌∷◌, ◌++◌, length, take, replicate, slice_index, slice_set}
+use Rattle.std.specs.Prelude.{ℕ, zero, suc, ◌≡◌, ◌+◌, ◌*◌, ◌^◌, ◌<◌, ◌≤◌, ◌==◌, nat_lt, if◌then◌else◌, Bool, true, false, Option, Some, None, List, [], ◌++◌, length, take, replicate, slice_index, slice_set}
 use Rattle.section_map.specs.Geometry.{Shape, IsShape, section_start}
 use Rattle.split_ring.specs.declared.steps.Access.{Access}
 use Rattle.split_ring.specs.declared.steps.Access.TheVariants as access
@@ -103,9 +103,17 @@ port_after port Closed value = port
 port_after port WritingLength value = record port { place = writing_place 0 (words_for (length port.hand)) }
 port_after port (WritingWord at more) value = record port { place = writing_place (at + 1) more }
 port_after port WritingSequence value = record port { published = port.published + 1; place = Closed; hand = [] }
-port_after port (AtSequence from) value = if nat_lt value (slice_index port.lasts from) then closed port else if value == 0 then closed port else record port { place = AtLength from value }
-port_after port (AtLength from sequence) value = if is_length port.most value then record port { place = reading_place from sequence value 0 (words_for value); hand = [] } else closed port
-port_after port (AtWord from sequence bytes at more) value = record port { place = reading_place from sequence bytes (at + 1) more; hand = take bytes (port.hand ++ word_bytes value) }
+port_after port (AtSequence from) value =
+    if nat_lt value (slice_index port.lasts from) then closed port
+    else if value == 0 then closed port
+    else record port { place = AtLength from value }
+port_after port (AtLength from sequence) value =
+    if is_length port.most value then record port { place = reading_place from sequence value 0 (words_for value); hand = [] }
+    else closed port
+port_after port (AtWord from sequence bytes at more) value = record port {
+  place = reading_place from sequence bytes (at + 1) more;
+  hand = take bytes (port.hand ++ word_bytes value);
+}
 port_after port (AtSecond from sequence) value = if value == sequence then got port from sequence else closed port
 
 -- the numbers that were handed in stay
@@ -139,7 +147,8 @@ IsPlace port (WritingWord at more) = (at + more + 1 ≡ words_for (length port.h
 IsPlace port WritingSequence = port.published + 1 < 2 ^ 32
 IsPlace port (AtSequence from) = from < port.shape.peers
 IsPlace port (AtLength from sequence) = from < port.shape.peers
-IsPlace port (AtWord from sequence bytes at more) = (from < port.shape.peers) × (bytes ≤ port.most) × (length port.hand ≡ 4 * at) × (at + more + 1 ≡ words_for bytes)
+IsPlace port (AtWord from sequence bytes at more) = (from < port.shape.peers) × (bytes ≤ port.most) × (length port.hand ≡ 4 * at)
+    × (at + more + 1 ≡ words_for bytes)
 IsPlace port (AtSecond from sequence) = from < port.shape.peers
 
 pub record IsPort (port : PortView) : Type 0 where

@@ -1,16 +1,29 @@
 //! Sampling ports (profile): each peer publishes its latest message in its own output section, and every peer may sample it; nobody
-//! waits. It stands on `section_map` for the sections, and on `split_ring` and `call_grammar` for accesses and steps. It makes no
-//! access itself: `next` tells the access and `took` takes what it gave. Its contracts promise that each publish and each sample is a
-//! call of `specs/Calls`, over any values handed to `took`.
+//! waits. It stands on `section_map` for the sections, on `split_ring` and `call_grammar` for accesses and steps, and on `port_text` for
+//! schedules. A port makes no access itself: `next` tells the access and `took` takes what it gave. The contracts promise that each
+//! publish and each sample of a port is a call of `specs/Calls`, over any values handed to `took`, and that `ports` gives the one lawful
+//! history of a schedule.
 #![tactic(auto)]
 
 mod laws;
+mod lines;
 mod notes;
 mod place;
 mod port;
 #[cfg(test)]
+mod record_tests;
+mod run;
+mod scene;
+mod seat;
+mod stage;
+#[cfg(test)]
 mod tests;
 
-pub use laws::{calls_are_lists, calls_stay_in_reach, fields_are_read_once, ports_follow_calls};
+pub use laws::{
+    calls_are_lists, calls_stay_in_reach, fields_are_read_once, history_is_lawful,
+    numbers_never_fall, one_history, ports_follow_calls, samples_are_published,
+};
 pub use notes::{PortFault, PortField, PortNote};
 pub use port::Port;
+pub use port_text::PortsFault;
+pub use run::ports;

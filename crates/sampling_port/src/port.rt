@@ -3,7 +3,7 @@ ghost use Rattle.std.specs.Prelude.{ℕ, ◌≡◌, ◌+◌, ◌-◌, ◌*◌, �
 ghost use Rattle.call_grammar.specs.Words.{words_for, frame_word, word_bytes};
 ghost use Rattle.section_map.specs.Geometry.{section_start};
 ghost use Rattle.sampling_port.specs.Layout.{IsMessageSize, length_place, data_place};
-ghost use Rattle.sampling_port.specs.Views.{PortView, IsPort, fresh_port, is_busy, publishing, sampling, access_at, note_at, port_after, closed, got, KeepsNumbers};
+ghost use Rattle.sampling_port.specs.Views.{PortView, IsPort, fresh_port, is_busy, publishing, sampling, access_at, from_at, note_at, port_after, closed, got, KeepsNumbers};
 ghost use Rattle.sampling_port.specs.Laws.{IsPortFault, IsInReach};
 
 use crate::notes::{PortFault, PortField, PortNote};
@@ -127,6 +127,19 @@ impl Port {
         ensures { result.now ≡ self.now.message }
     {
         &self.message[..self.received as usize]
+    }
+
+    /// The peer that the open call samples; a publish samples nobody.
+    pub(crate) fn sampled(&self) -> u32
+        ensures { result ≡ from_at self.now.place }
+    {
+        match self.place {
+            Place::AtSequence { from }
+            | Place::AtLength { from, .. }
+            | Place::AtWord { from, .. }
+            | Place::AtSecond { from, .. } => from,
+            _ => 0,
+        }
     }
 
     /// Opens the publish of a message, which is copied.

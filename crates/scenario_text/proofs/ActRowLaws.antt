@@ -11,7 +11,7 @@ use Rattle.scenario_text.specs.declared.acts.Act.{Act}
 use Rattle.scenario_text.specs.declared.acts.Act.TheVariants as acts
 use Rattle.scenario_text.specs.declared.forms.Form.{Form}
 use Rattle.scenario_text.specs.declared.forms.Form.TheVariants.{Tick, Offer, Poll, Stop, Auto, Storm, Turn, Reset, Poke, Peek, Set, Ring, CfgRead, CfgWrite, MmioRead, MmioWrite, MsixRead, MsixWrite, Lose, Again}
-use Rattle.scenario_text.specs.declared.stages.Stage.TheVariants.{AtActs}
+use Rattle.scenario_text.specs.declared.positions.Position.TheVariants.{AtActs}
 use Rattle.scenario_text.specs.Acts.{cost, turns_of, peer_of}
 use Rattle.scenario_text.specs.Table.{pieces_of}
 use Rattle.scenario_text.specs.ActRows.{row_of_act}
@@ -124,7 +124,7 @@ turn_is d (acts.MsixWrite p offset value) fit = late (is_out_of_turn d MsixWrite
 turn_is d (acts.Lose p) fit = late (is_out_of_turn d Lose) p fit.1
 turn_is d (acts.Again p vector) fit = late (is_out_of_turn d Again) p fit.1
 
-is_at : (d : SoFar) (a : Act) → d.stage ≡ AtActs → (b c : Bool) → b ≡ c
+is_at : (d : SoFar) (a : Act) → d.position ≡ AtActs → (b c : Bool) → b ≡ c
     → option_map_or (is_out_of_turn d (row_of_act a).form) (option_and_then number_of (slice_get (fields_of_row pieces_of (row_of_act a)) 1)) false ≡ b
     → is_out_of_order d (row_of_act a).form (fields_of_row pieces_of (row_of_act a)) ≡ c
 is_at d (acts.Tick p) at b c same is = rw at (is ∙ same)
@@ -149,14 +149,14 @@ is_at d (acts.Lose p) at b c same is = rw at (is ∙ same)
 is_at d (acts.Again p vector) at b c same is = rw at (is ∙ same)
 
 -- at the acts the order is that of the acts before
-pub order_is : (d : SoFar) (a : Act) → d.stage ≡ AtActs → Fit (pieces_of (row_of_act a).form) (row_of_act a).numbers
+pub order_is : (d : SoFar) (a : Act) → d.position ≡ AtActs → Fit (pieces_of (row_of_act a).form) (row_of_act a).numbers
     → is_out_of_order d (row_of_act a).form (fields_of_row pieces_of (row_of_act a)) ≡ is_too_late d.acts (row_of_act a).form (peer_of a)
 order_is d a at fit = is_at d a at _ _ refl (turn_is d a fit)
 
-pub allowed_act : (d : SoFar) (a : Act) → d.stage ≡ AtActs → CanFollow d (row_of_act a) → IsAllowed (world_so_far d) d.acts a
+pub allowed_act : (d : SoFar) (a : Act) → d.position ≡ AtActs → CanFollow d (row_of_act a) → IsAllowed (world_so_far d) d.acts a
 allowed_act d a at can = record { values = can.values; bytes = can.bytes; order = sym (order_is d a at can.values) ∙ can.order; range = can.range; peer = can.peer; frame = can.frame }
 
-pub follows_act : (d : SoFar) (a : Act) → d.stage ≡ AtActs → IsAllowed (world_so_far d) d.acts a → turns_of d.acts + cost a ≤ 4000000 → CanFollow d (row_of_act a)
+pub follows_act : (d : SoFar) (a : Act) → d.position ≡ AtActs → IsAllowed (world_so_far d) d.acts a → turns_of d.acts + cost a ≤ 4000000 → CanFollow d (row_of_act a)
 follows_act d a at is few = record {
   values = is.values;
   bytes = is.bytes;

@@ -10,8 +10,8 @@ use Rattle.section_map.specs.Geometry.{IsShape}
 use Rattle.section_map.specs.Faults.{shape_of}
 use Rattle.scenario_text.specs.declared.forms.Form.{Form}
 use Rattle.scenario_text.specs.declared.forms.Form.TheVariants.{Version, Peers, Table, Common, Out, Mtu, Begin, End}
-use Rattle.scenario_text.specs.declared.stages.Stage.{Stage}
-use Rattle.scenario_text.specs.declared.stages.Stage.TheVariants.{Ended}
+use Rattle.scenario_text.specs.declared.positions.Position.{Position}
+use Rattle.scenario_text.specs.declared.positions.Position.TheVariants.{Ended}
 use Rattle.scenario_text.specs.Table.{pieces_of}
 use Rattle.scenario_text.specs.ActRows.{row_of_act}
 use Rattle.scenario_text.specs.Scenario.{IsWorld}
@@ -19,7 +19,7 @@ use Rattle.scenario_text.specs.Spelling.{row_of_wiring, rows_of_peers, rows_of, 
 use Rattle.scenario_text.specs.Judge.{SoFar, world_so_far, at_start, has_ended, machine, step, reading}
 use Rattle.scenario_text.proofs.SizeLaws.{HasRegion}
 use Rattle.scenario_text.proofs.Follows.{step-ok}
-use Rattle.scenario_text.proofs.StageLaws.{Good, before, row_adds, same_place}
+use Rattle.scenario_text.proofs.PositionLaws.{Good, before, row_adds, same_position}
 
 text-append : (rs : List (Row Form)) (r : Row Form) (rest : List ℕ) → text_of pieces_of (rs ++ r ∷ []) ++ rest ≡ text_of pieces_of rs ++ (bare pieces_of r ++ 10 ∷ rest)
 text-append rs r rest =
@@ -32,39 +32,39 @@ line-cons line lines = flat_map-cons (λ l. l ++ 10 ∷ []) line lines ∙ appen
 
 -- what holds after a line that is taken
 pub record After (d : SoFar) (line : List ℕ) (e : SoFar) : Type 0 where
-  pub good : Good e.stage e
-  pub text : (rest : List ℕ) → text_of pieces_of (before d.stage d) ++ (line ++ 10 ∷ rest) ≡ text_of pieces_of (before e.stage e) ++ rest
+  pub good : Good e.position e
+  pub text : (rest : List ℕ) → text_of pieces_of (before d.position d) ++ (line ++ 10 ∷ rest) ≡ text_of pieces_of (before e.position e) ++ rest
 
-pub after : (d : SoFar) (line : List ℕ) (e : SoFar) → Good d.stage d → step d line ≡ Ok e → After d line e
+pub after : (d : SoFar) (line : List ℕ) (e : SoFar) → Good d.position d → step d line ≡ Ok e → After d line e
 after d line e good is =
     let t = step-ok d line e is in
     let a = row_adds d t.taken t.can good in
-    let P : SoFar → Type 0 = λ x. Good x.stage x in
-    let Q : SoFar → Type 0 = λ x. before x.stage x ≡ before d.stage d ++ t.taken ∷ [] in
-    let rows : before e.stage e ≡ before d.stage d ++ t.taken ∷ [] = subst Q t.gives a.rows in
+    let P : SoFar → Type 0 = λ x. Good x.position x in
+    let Q : SoFar → Type 0 = λ x. before x.position x ≡ before d.position d ++ t.taken ∷ [] in
+    let rows : before e.position e ≡ before d.position d ++ t.taken ∷ [] = subst Q t.gives a.rows in
     record {
       good = subst P t.gives a.good;
       text = λ rest.
-          ap (λ (l : List ℕ). text_of pieces_of (before d.stage d) ++ (l ++ 10 ∷ rest)) t.line_is_row
-          ∙ sym (text-append (before d.stage d) t.taken rest)
+          ap (λ (l : List ℕ). text_of pieces_of (before d.position d) ++ (l ++ 10 ∷ rest)) t.line_is_row
+          ∙ sym (text-append (before d.position d) t.taken rest)
           ∙ ap (λ (rs : List (Row Form)). text_of pieces_of rs ++ rest) (sym rows);
     }
 
 -- what holds at the end
 record Whole (d : SoFar) (lines : List (List ℕ)) (e : SoFar) : Type 0 where
-  good : Good e.stage e
+  good : Good e.position e
   ended : has_ended e ≡ true
-  text : text_of pieces_of (before d.stage d) ++ text_of_lines lines ≡ text_of pieces_of (before e.stage e)
+  text : text_of pieces_of (before d.position d) ++ text_of_lines lines ≡ text_of pieces_of (before e.position e)
 
-whole : (d : SoFar) (lines : List (List ℕ)) (e : SoFar) → Good d.stage d → Leads machine d lines e → Whole d lines e
+whole : (d : SoFar) (lines : List (List ℕ)) (e : SoFar) → Good d.position d → Leads machine d lines e → Whole d lines e
 whole d [] e good leads = absurd leads
 whole d (line ∷ []) e good leads =
     let b = after d line e good leads.1 in
-    record { good = b.good; ended = leads.2; text = ap (λ (t : List ℕ). text_of pieces_of (before d.stage d) ++ t) (line-cons line []) ∙ b.text [] ∙ append-nil _ }
+    record { good = b.good; ended = leads.2; text = ap (λ (t : List ℕ). text_of pieces_of (before d.position d) ++ t) (line-cons line []) ∙ b.text [] ∙ append-nil _ }
 whole d (line ∷ next ∷ more) e good leads =
     let b = after d line leads.0 good leads.2 in
     let w = whole leads.0 (next ∷ more) e b.good leads.4 in
-    record { good = w.good; ended = w.ended; text = ap (λ (t : List ℕ). text_of pieces_of (before d.stage d) ++ t) (line-cons line (next ∷ more)) ∙ b.text (text_of_lines (next ∷ more)) ∙ w.text }
+    record { good = w.good; ended = w.ended; text = ap (λ (t : List ℕ). text_of pieces_of (before d.position d) ++ t) (line-cons line (next ∷ more)) ∙ b.text (text_of_lines (next ∷ more)) ∙ w.text }
 
 -- ---- a scenario
 
@@ -121,12 +121,12 @@ rows_are e good =
     ≡ (row Version (1 ∷ []) [] ∷ row Peers (e.peers ∷ []) [] ∷ row Table (4 * (e.table / 4) ∷ []) [] ∷ row Common (4 * (e.common / 4) ∷ []) [] ∷ row Out (4 * (e.out / 4) ∷ []) [] ∷ row Mtu (e.mtu ∷ []) [] ∷ after_head) = rw (t, c, o) refl in
     ap (λ (rs : List (Row Form)). rs ++ row Begin [] [] ∷ [] ++ map row_of_act e.acts ++ row End [] [] ∷ []) head
 
-pub ended_is : (e : SoFar) → has_ended e ≡ true → e.stage ≡ Ended
-ended_is e is = sym (same_place e.stage Ended is)
+pub ended_is : (e : SoFar) → has_ended e ≡ true → e.position ≡ Ended
+ended_is e is = sym (same_position e.position Ended is)
 
 -- what is read: the lines up to the end say a scenario, and the text is its spelling
 pub record IsRead (bytes : List ℕ) (e : SoFar) : Type 0 where
-  pub ended : e.stage ≡ Ended
+  pub ended : e.position ≡ Ended
   pub good : Good Ended e
   pub text : bytes ≡ spelling (world_so_far e)
 
@@ -135,9 +135,9 @@ is_read bytes e is =
     let l = read_is_lines machine at_start e bytes is in
     let w = whole at_start l.0 e (record { honest_none = refl; acts_none = refl }) l.2 in
     let at = ended_is e w.ended in
-    let good : Good Ended e = subst (λ (s : Stage). Good s e) at w.good in
+    let good : Good Ended e = subst (λ (s : Position). Good s e) at w.good in
     record {
       ended = at;
       good = good;
-      text = l.1 ∙ w.text ∙ ap (λ (s : Stage). text_of pieces_of (before s e)) at ∙ ap (text_of pieces_of) (rows_are e good);
+      text = l.1 ∙ w.text ∙ ap (λ (s : Position). text_of pieces_of (before s e)) at ∙ ap (text_of pieces_of) (rows_are e good);
     }

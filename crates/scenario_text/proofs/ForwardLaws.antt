@@ -18,14 +18,14 @@ use Rattle.pci_space.specs.Wiring.{IsWiring}
 use Rattle.scenario_text.specs.declared.acts.Act.{Act}
 use Rattle.scenario_text.specs.declared.forms.Form.{Form}
 use Rattle.scenario_text.specs.declared.forms.Form.TheVariants.{Version, Peers, Table, Common, Out, Mtu, Begin, End}
-use Rattle.scenario_text.specs.declared.stages.Stage.TheVariants.{AtWiring, AtPeer, AtBegin, AtActs, Ended}
+use Rattle.scenario_text.specs.declared.positions.Position.TheVariants.{AtWiring, AtPeer, AtBegin, AtActs, Ended}
 use Rattle.scenario_text.specs.Acts.{cost, turns_of}
 use Rattle.scenario_text.specs.Table.{pieces_of, all_forms}
 use Rattle.scenario_text.specs.ActRows.{row_of_act}
 use Rattle.scenario_text.specs.Sizes.{is_geometry, is_queue}
 use Rattle.scenario_text.specs.Scenario.{World, IsWorld, IsAllowed}
 use Rattle.scenario_text.specs.Spelling.{row_of_wiring, row_of_peer, rows_of_peers, rows_of, spelling, IsSpelling}
-use Rattle.scenario_text.specs.Judge.{SoFar, world_so_far, place_of, at_start, has_ended, machine, reading, faulted, world_in, answer}
+use Rattle.scenario_text.specs.Judge.{SoFar, world_so_far, ordinal_of, at_start, has_ended, machine, reading, faulted, world_in, answer}
 use Rattle.scenario_text.proofs.TableLaws.{is_table}
 use Rattle.scenario_text.proofs.SizeLaws.{HasRegion, is_geometry-true, is_queue-true}
 use Rattle.scenario_text.proofs.Follows.{CanFollow, with_row, step-row, row_of_follows}
@@ -63,7 +63,7 @@ quiet None = refl
 
 -- a head of these sizes, up to the wiring
 abbrev at_wiring : (peers table common out mtu : ℕ) → SoFar
-at_wiring peers table common out mtu = record { stage = AtWiring; peers = peers; table = table; common = common; out = out; mtu = mtu; wiring = wirings.Intx; honest = []; acts = [] }
+at_wiring peers table common out mtu = record { position = AtWiring; peers = peers; table = table; common = common; out = out; mtu = mtu; wiring = wirings.Intx; honest = []; acts = [] }
 
 abbrev sizes_rows : (peers table common out mtu : ℕ) → List (Row Form)
 sizes_rows peers table common out mtu = row Version (1 ∷ []) [] ∷ row Peers (peers ∷ []) [] ∷ row Table (table ∷ []) [] ∷ row Common (common ∷ []) [] ∷ row Out (out ∷ []) [] ∷ row Mtu (mtu ∷ []) [] ∷ []
@@ -99,7 +99,7 @@ sizes_along peers table common out mtu few t c o m geometry queue = (
 
 -- with these first flags; where there is one for each peer, `begin` comes next
 abbrev at_peers : (peers table common out mtu : ℕ) → Wiring → List Bool → SoFar
-at_peers peers table common out mtu wiring front = record { stage = cond (eqb (length front) peers) AtBegin AtPeer; peers = peers; table = table; common = common; out = out; mtu = mtu; wiring = wiring; honest = front; acts = [] }
+at_peers peers table common out mtu wiring front = record { position = cond (eqb (length front) peers) AtBegin AtPeer; peers = peers; table = table; common = common; out = out; mtu = mtu; wiring = wiring; honest = front; acts = [] }
 
 wiring_along : (peers table common out mtu : ℕ) (wiring : Wiring) → 2 ≤ peers → IsWiring wiring → Along (at_wiring peers table common out mtu) (row_of_wiring wiring ∷ []) (at_peers peers table common out mtu wiring [])
 wiring_along peers table common out mtu (wirings.Msix vectors) some is =
@@ -109,7 +109,7 @@ wiring_along peers table common out mtu wirings.Intx some is =
     let open_ : eqb 0 peers ≡ false = ne_eqb 0 peers (λ none. omega arith) in
     (record { values = tt; bytes = refl; order = quiet _; range = refl; peer = refl; frame = refl; sizes = refl; turns = omega arith }, refl, rw open_ refl)
 
-not_ended : (full : Bool) → eqb (place_of (cond full AtBegin AtPeer)) 10 ≡ false
+not_ended : (full : Bool) → eqb (ordinal_of (cond full AtBegin AtPeer)) 10 ≡ false
 not_ended true = refl
 not_ended false = refl
 
@@ -144,7 +144,7 @@ peers_along peers table common out mtu wiring front (b ∷ rest) p same all few 
 
 -- at the acts of this world, after these
 abbrev pub at_acts : World → List Act → SoFar
-at_acts w front = record { stage = AtActs; peers = w.geometry.peers; table = 4 * w.geometry.table; common = 4 * w.geometry.common; out = 4 * w.geometry.out; mtu = w.queue.mtu; wiring = w.wiring; honest = w.honest; acts = front }
+at_acts w front = record { position = AtActs; peers = w.geometry.peers; table = 4 * w.geometry.table; common = 4 * w.geometry.common; out = 4 * w.geometry.out; mtu = w.queue.mtu; wiring = w.wiring; honest = w.honest; acts = front }
 
 quarter : (n : ℕ) → 4 * n / 4 ≡ n
 quarter n = omega arith
@@ -211,7 +211,7 @@ region_of g is =
     swap p n = omega arith
 
 abbrev pub at_end : World → SoFar
-at_end w = record { stage = Ended; peers = w.geometry.peers; table = 4 * w.geometry.table; common = 4 * w.geometry.common; out = 4 * w.geometry.out; mtu = w.queue.mtu; wiring = w.wiring; honest = w.honest; acts = w.acts }
+at_end w = record { position = Ended; peers = w.geometry.peers; table = 4 * w.geometry.table; common = 4 * w.geometry.common; out = 4 * w.geometry.out; mtu = w.queue.mtu; wiring = w.wiring; honest = w.honest; acts = w.acts }
 
 abbrev measured : World → List (Row Form)
 measured w = sizes_rows w.geometry.peers (4 * w.geometry.table) (4 * w.geometry.common) (4 * w.geometry.out) w.queue.mtu

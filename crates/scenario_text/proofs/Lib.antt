@@ -1,10 +1,11 @@
 pub mod ActLaws
 pub mod SizeLaws
+pub mod HeadLaws
 pub mod TableLaws
 pub mod FrameLaws
 pub mod Follows
 pub mod ActRowLaws
-pub mod StageLaws
+pub mod PositionLaws
 pub mod BackLaws
 pub mod ReadLaws
 pub mod WholeLaws

@@ -9,7 +9,7 @@ use Rattle.scenario_text.specs.declared.forms.Form.TheVariants.{Begin, End}
 use Rattle.scenario_text.specs.ActRows.{row_of_act}
 use Rattle.scenario_text.specs.Scenario.{World}
 use Rattle.scenario_text.specs.Spelling.{row_of_peer, row_of_wiring, rows_of_peers, sizes_rows, spelling}
-use Rattle.scenario_text.proofs.StageLaws.{peers-push}
+use Rattle.scenario_text.proofs.PositionLaws.{peers-push}
 
 text-push : (front : List ℕ) (rs : List (Row Form)) (r : Row Form) → front ++ text_of pieces_of rs ++ line_of_row pieces_of r ≡ front ++ text_of pieces_of (rs ++ r ∷ [])
 text-push front rs r =

@@ -1,24 +1,26 @@
--- What a loop over the lines answers.
-use Rattle.std.proofs.Common.{◌≡◌, ℕ, ◌+◌, List, ◌∷◌, Result, Err, ap}
-use Rattle.line_text.specs.Forms.{cuts}
-use Rattle.line_text.specs.Machine.{Wrong, read_pieces}
-use Rattle.line_text.proofs.ReadingLaws.{wrong_line}
-use Rattle.scenario_text.specs.declared.failures.Failure.{Failure}
-use Rattle.scenario_text.specs.declared.failures.Failure.TheVariants as failures
+-- What is answered of a text that is wrong.
+use Rattle.std.proofs.Common.{◌≡◌, ℕ, Result, Err, ap}
+use Rattle.line_text.specs.declared.reading.TextFault.{TextFault}
+use Rattle.line_text.specs.declared.reading.TextFault.TheVariants as texts
+use Rattle.line_text.specs.Machine.{Wrong}
+use Rattle.line_text.specs.Reading.{Reads}
 use Rattle.scenario_text.specs.declared.faults.Cause.{Cause}
 use Rattle.scenario_text.specs.declared.faults.Cause.TheVariants.{BadLine}
 use Rattle.scenario_text.specs.declared.faults.ScenarioFault.{ScenarioFault}
 use Rattle.scenario_text.specs.declared.faults.ScenarioFault.TheVariants as faults
-use Rattle.scenario_text.specs.Judge.{SoFar, fault_at, faulted, world_in, machine, step}
-use Rattle.scenario_text.specs.Answers.{Fails, Refuses, fault_of_failure}
+use Rattle.scenario_text.specs.Judge.{SoFar, fault_at, faulted, world_in}
+use Rattle.scenario_text.specs.Answers.{Refuses, fault_of_text}
 
 refuses_at : {Y : Type 0} (cause : Cause) (n : ℕ) (said : Result Y ScenarioFault) → said ≡ Err (fault_at cause n) → Refuses (fault_at cause n) said
 refuses_at BadLine n said is = is
 refuses_at _ n said is = is
 
-pub line_fails : (d : SoFar) (n : ℕ) (rest line more : List ℕ) (failure : Failure) (total : Result SoFar (Wrong Cause)) → cuts 10 rest ≡ line ∷ cuts 10 more → Fails failure (step d line) → read_pieces machine d n (cuts 10 rest) ≡ total → Refuses (fault_of_failure failure (n + 1)) (faulted total)
-line_fails d n rest line more failures.NoMemory total cut is so_far = tt
-line_fails d n rest line more (failures.Wrong cause) total cut is so_far = refuses_at cause (n + 1) (faulted total) (ap faulted (wrong_line machine d n rest line more cause total cut is so_far))
+-- what is wrong with the lines is the fault that is answered
+pub text_fails : (d : SoFar) (fault : TextFault Cause) (said : Result SoFar (Wrong Cause)) → Reads {U = Unit {0}} d (Err fault) said → Refuses (fault_of_text fault) (faulted said)
+text_fails d texts.NoMemory said is = tt
+text_fails d (texts.At cause n) said is = refuses_at cause n (faulted said) (ap faulted is)
+text_fails d (texts.After n) said is = ap faulted is
+text_fails d texts.NoEnd said is = ap faulted is
 
 -- a fault of the lines is a fault of the text
 pub same_fault : (fault : ScenarioFault) (said : Result SoFar ScenarioFault) → Refuses fault said → Refuses fault (world_in said)

@@ -8,10 +8,10 @@ use Rattle.std.proofs.lemmas.Bool.Decides.{nat_tests}
 use Rattle.std.proofs.lemmas.List.{take_more, at_drop_more, at_drop_all, drop-append-le}
 use Rattle.std.proofs.lemmas.Option.{slice_get_read}
 use Rattle.scenario_text.specs.declared.acts.Act.{Act}
-use Rattle.scenario_text.specs.declared.acts.Act.TheVariants.{Offer, Auto, Storm, Turn}
+use Rattle.scenario_text.specs.declared.acts.Act.TheVariants.{Offer, Auto, Storm, Turn, CfgWrite, MmioWrite, MsixWrite}
 use Rattle.scenario_text.specs.Acts.{peer_of}
 use Rattle.scenario_text.specs.ActRows.{row_of_act}
-use Rattle.scenario_text.specs.Scenario.{World, IsWorld, is_its_peer}
+use Rattle.scenario_text.specs.Scenario.{World, IsWorld, is_peer, is_hostile, is_its_peer}
 use Rattle.scenario_text.specs.Running.{is_turn, is_turn_of, has_turn, breaks, first_break}
 use Rattle.scenario_text.proofs.ActLaws.{any_added, eqb_refl}
 
@@ -75,6 +75,13 @@ peer_in w before later (Offer p frame) few goes is = link_below p _ is
 peer_in w before later (Auto p expect) few goes is = link_below p _ is
 peer_in w before later (Storm p seed) few goes is = hostile_below p _ _ few is
 peer_in w before later (Turn p steps) few goes is = peer_below p _ few is
+peer_in w before later (CfgWrite p offset width value) few goes is = peer_below p _ few is
+peer_in w before later (MsixWrite p offset value) few goes is = peer_below p _ few is
+peer_in w before later (MmioWrite p offset value) few goes is = either (eqb offset 16) is
+  where
+    either : (b : Bool) → (if b then is_hostile w p else is_peer w p) ≡ true → p < 8
+    either true of = hostile_below p _ _ few of
+    either false of = peer_below p _ few of
 peer_in w before later _ few goes is = absurd cc
 
 -- the peer of an act that doesn't break the form

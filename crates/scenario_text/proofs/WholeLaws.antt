@@ -1,54 +1,36 @@
 -- A text is read exactly where it is the spelling of what is read.
-use Rattle.std.proofs.Common.{◌≡◌, ℕ, true, List, Result, Ok, Err, refl, sym, ap, subst, ◌∙◌}
-use Rattle.line_text.specs.Machine.{Wrong}
+use Rattle.std.proofs.Common.{◌≡◌, ◌==◌, ℕ, true, List, Result, Ok, Err, sym, ap, subst, ◌∙◌}
+use Rattle.std.specs.Result.{IsErrAnd}
+use Rattle.line_text.specs.declared.reading.TextFault.{TextFault}
+use Rattle.line_text.specs.Reading.{Reads}
 use Rattle.scenario_text.specs.declared.faults.Cause.{Cause}
 use Rattle.scenario_text.specs.declared.faults.ScenarioFault.{ScenarioFault}
-use Rattle.scenario_text.specs.declared.stages.Stage.{Stage}
-use Rattle.scenario_text.specs.declared.stages.Stage.TheVariants.{Ended}
-use Rattle.scenario_text.specs.Scenario.{World}
+use Rattle.scenario_text.specs.declared.positions.Position.{Position}
+use Rattle.scenario_text.specs.declared.scenarios.Scenario.{Scenario}
+use Rattle.scenario_text.specs.Scenario.{World, IsWorld}
 use Rattle.scenario_text.specs.Spelling.{IsSpelling}
-use Rattle.scenario_text.specs.Judge.{SoFar, at_start, has_ended, step, world_so_far, reading, faulted, world_in}
-use Rattle.scenario_text.specs.Answers.{Refuses}
-use Rattle.scenario_text.specs.Drafts.{IsWhole}
-use Rattle.scenario_text.proofs.SizeLaws.{is_geometry-true, is_queue-true}
-use Rattle.scenario_text.proofs.ReadLaws.{same_fault}
+use Rattle.scenario_text.specs.Judge.{SoFar, ordinal_of, has_ended, world_so_far, reading, faulted, world_in, answer}
+use Rattle.scenario_text.specs.Answers.{Refuses, Answers, fault_of_text}
+use Rattle.scenario_text.proofs.ReadLaws.{text_fails, same_fault}
 use Rattle.scenario_text.proofs.ForwardLaws.{is_answered}
-use Rattle.scenario_text.proofs.StageLaws.{Good}
-use Rattle.scenario_text.proofs.BackLaws.{after, ended_is, is_read, is_world}
-
-read_of : (said : Result SoFar (Wrong Cause)) (d : SoFar) → faulted said ≡ Ok d → said ≡ Ok d
-read_of (Ok e) d is = ap (λ (x : SoFar). Ok x) (same e d is)
-  where
-    same : (e d : SoFar) → ◌≡◌ {A = Result SoFar ScenarioFault} (Ok e) (Ok d) → e ≡ d
-    same e d is = cc
-read_of (Err wrong) d is = absurd cc
+use Rattle.scenario_text.proofs.BackLaws.{is_read, is_world}
 
 -- at the end the lines say a scenario
-pub whole_at_end : (e : SoFar) → Good e.stage e → has_ended e ≡ true → IsWhole e
-whole_at_end e good is =
-    let good' : Good Ended e = subst (λ (s : Stage). Good s e) (ended_is e is) good in
-    record { geometry = is_geometry-true _ _ _ _ good'.0.region; queue = is_queue-true _ good'.0.queue; world = is_world e good' }
-
--- a good line keeps what holds
-pub line_keeps : (d : SoFar) (line : List ℕ) (e : SoFar) → Good d.stage d → step d line ≡ Ok e → Good e.stage e
-line_keeps d line e good is = (after d line e good is).good
-
--- it holds before the first line
-pub good_at_start : Good at_start.stage at_start
-good_at_start = record { honest_none = refl; acts_none = refl }
-
-pub is_whole : (bytes : List ℕ) (d : SoFar) → faulted (reading bytes) ≡ Ok d → IsWhole d
+pub is_whole : (bytes : List ℕ) (d : SoFar) → reading bytes ≡ Ok d → (has_ended d ≡ true) × IsWorld (world_so_far d)
 is_whole bytes d is =
-    let r = is_read bytes d (read_of (reading bytes) d is) in
-    record { geometry = is_geometry-true _ _ _ _ r.good.0.region; queue = is_queue-true _ r.good.0.queue; world = is_world d r.good }
+    let r = is_read bytes d is in
+    (ap (λ (p : Position). ordinal_of p == 10) r.ended, is_world d r.good)
 
-pub is_spelled : (bytes : List ℕ) (d : SoFar) (w : World) → faulted (reading bytes) ≡ Ok d → w ≡ world_so_far d → IsSpelling w bytes
+pub is_spelled : (bytes : List ℕ) (d : SoFar) (w : World) → reading bytes ≡ Ok d → w ≡ world_so_far d → IsSpelling w bytes
 is_spelled bytes d w is same =
-    let r = is_read bytes d (read_of (reading bytes) d is) in
+    let r = is_read bytes d is in
     subst (λ (x : World). IsSpelling x bytes) (sym same) (is_world d r.good, r.text)
 
-pub only_ok : (bytes : List ℕ) (d : SoFar) (read w : World) → faulted (reading bytes) ≡ Ok d → read ≡ world_so_far d → IsSpelling w bytes → ◌≡◌ {A = Result World ScenarioFault} (Ok w) (Ok read)
-only_ok bytes d read w is same spelled = sym (is_answered w bytes spelled) ∙ ap world_in is ∙ ap (λ (x : World). Ok x) (sym same)
+pub only_ok : (bytes : List ℕ) (d : SoFar) (read w : World) → reading bytes ≡ Ok d → read ≡ world_so_far d → IsSpelling w bytes → ◌≡◌ {A = Result World ScenarioFault} (Ok w) (Ok read)
+only_ok bytes d read w is same spelled = sym (is_answered w bytes spelled) ∙ ap (λ x. world_in (faulted x)) is ∙ ap (λ (x : World). Ok x) (sym same)
 
-pub only_err : (bytes : List ℕ) (fault : ScenarioFault) (w : World) → Refuses fault (faulted (reading bytes)) → IsSpelling w bytes → Refuses {Y = World} fault (Ok w)
-only_err bytes fault w is spelled = subst (λ (said : Result World ScenarioFault). Refuses fault said) (is_answered w bytes spelled) (same_fault fault (faulted (reading bytes)) is)
+pub only_err : (bytes : List ℕ) (d : SoFar) (fault : TextFault Cause) (r : Result Scenario ScenarioFault) → IsErrAnd r (λ e. e ≡ fault_of_text fault) → Reads {U = Unit {0}} d (Err fault) (reading bytes) → (w : World) → IsSpelling w bytes → Answers r (Ok w)
+only_err bytes d fault (Ok scenario) gives is w spelled = absurd gives
+only_err bytes d fault (Err e) gives is w spelled =
+    let exact : Refuses (fault_of_text fault) (answer bytes) = same_fault (fault_of_text fault) (faulted (reading bytes)) (text_fails d fault (reading bytes) is) in
+    rw gives (subst (λ (said : Result World ScenarioFault). Refuses (fault_of_text fault) said) (is_answered w bytes spelled) exact)

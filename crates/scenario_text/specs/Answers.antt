@@ -1,24 +1,14 @@
 -- What a call answers, against what the definitions say. Want of memory is the one free answer.
-use Rattle.std.specs.Prelude.{◌≡◌, ℕ, Result, Ok, Err}
+use Rattle.std.specs.Prelude.{◌≡◌, Result, Ok, Err}
+use Rattle.line_text.specs.declared.reading.TextFault.{TextFault}
+use Rattle.line_text.specs.declared.reading.TextFault.TheVariants as texts
 use Rattle.scenario_text.specs.declared.faults.Cause.{Cause}
 use Rattle.scenario_text.specs.declared.faults.ScenarioFault.{ScenarioFault}
 use Rattle.scenario_text.specs.declared.faults.ScenarioFault.TheVariants as faults
-use Rattle.scenario_text.specs.declared.failures.Failure.{Failure}
-use Rattle.scenario_text.specs.declared.failures.Failure.TheVariants.{NoMemory, Wrong}
 use Rattle.scenario_text.specs.declared.scenarios.Scenario.{Scenario}
 use Rattle.scenario_text.specs.Scenario.{World}
 use Rattle.scenario_text.specs.Spelling.{world_of}
 use Rattle.scenario_text.specs.Judge.{fault_at}
-
--- the line is wrong for this cause, unless memory ran out
-abbrev pub Fails : {Y : Type 0} → Failure → Result Y Cause → Type 0
-Fails NoMemory said = Unit {0}
-Fails (Wrong cause) said = said ≡ Err cause
-
--- what a line gives, seen by view, is what the definition says, unless memory ran out
-abbrev pub Gives : {X Y : Type 0} → (X → Y) → Result X Failure → Result Y Cause → Type 0
-Gives view (Ok x) said = said ≡ Ok (view x)
-Gives view (Err e) said = Fails e said
 
 abbrev pub Refuses : {Y : Type 0} → ScenarioFault → Result Y ScenarioFault → Type 0
 Refuses faults.NoMemory said = Unit {0}
@@ -33,6 +23,9 @@ Reads view (Err e) said = Refuses e said
 abbrev pub Answers : Result Scenario ScenarioFault → Result World ScenarioFault → Type 0
 Answers result said = Reads world_of result said
 
-abbrev pub fault_of_failure : Failure → ℕ → ScenarioFault
-fault_of_failure NoMemory n = faults.NoMemory
-fault_of_failure (Wrong cause) n = fault_at cause n
+-- bytes after the end are a line that is bad
+abbrev pub fault_of_text : TextFault Cause → ScenarioFault
+fault_of_text texts.NoMemory = faults.NoMemory
+fault_of_text (texts.At cause n) = fault_at cause n
+fault_of_text (texts.After n) = faults.BadLine n
+fault_of_text texts.NoEnd = faults.NoEnd

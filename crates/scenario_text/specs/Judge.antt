@@ -14,8 +14,8 @@ use Rattle.scenario_text.specs.declared.acts.Act.{Act}
 use Rattle.scenario_text.specs.declared.acts.Act.TheVariants as acts
 use Rattle.scenario_text.specs.declared.forms.Form.{Form}
 use Rattle.scenario_text.specs.declared.forms.Form.TheVariants.{Version, Peers, Table, Common, Out, Mtu, Msix, Intx, Honest, Hostile, Begin, Tick, Offer, Poll, Stop, Auto, Storm, Turn, Reset, Poke, Peek, Set, Ring, CfgRead, CfgWrite, MmioRead, MmioWrite, MsixRead, MsixWrite, Lose, Again, End}
-use Rattle.scenario_text.specs.declared.stages.Stage.{Stage}
-use Rattle.scenario_text.specs.declared.stages.Stage.TheVariants.{AtVersion, AtPeers, AtTable, AtCommon, AtOut, AtMtu, AtWiring, AtPeer, AtBegin, AtActs, Ended}
+use Rattle.scenario_text.specs.declared.positions.Position.{Position}
+use Rattle.scenario_text.specs.declared.positions.Position.TheVariants.{AtVersion, AtPeers, AtTable, AtCommon, AtOut, AtMtu, AtWiring, AtPeer, AtBegin, AtActs, Ended}
 use Rattle.scenario_text.specs.declared.faults.Cause.{Cause}
 use Rattle.scenario_text.specs.declared.faults.Cause.TheVariants.{BadLine, BadOrder, BadNumber, BadPeer, BadFrame, BadGeometry, TooManyTurns}
 use Rattle.scenario_text.specs.declared.faults.ScenarioFault.{ScenarioFault}
@@ -27,7 +27,7 @@ use Rattle.scenario_text.specs.Scenario.{World, is_too_late, is_in_range, is_its
 
 -- what the lines so far say, with sizes in bytes; what no line has said yet is 0, INTx or empty
 pub record SoFar : Type 0 where
-  pub stage : Stage
+  pub position : Position
   pub peers : ℕ
   pub table : ℕ
   pub common : ℕ
@@ -50,33 +50,33 @@ world_so_far d = record {
 
 -- ---- BadOrder
 
-abbrev pub place_of : Stage → ℕ
-place_of AtVersion = 0
-place_of AtPeers = 1
-place_of AtTable = 2
-place_of AtCommon = 3
-place_of AtOut = 4
-place_of AtMtu = 5
-place_of AtWiring = 6
-place_of AtPeer = 7
-place_of AtBegin = 8
-place_of AtActs = 9
-place_of Ended = 10
+abbrev pub ordinal_of : Position → ℕ
+ordinal_of AtVersion = 0
+ordinal_of AtPeers = 1
+ordinal_of AtTable = 2
+ordinal_of AtCommon = 3
+ordinal_of AtOut = 4
+ordinal_of AtMtu = 5
+ordinal_of AtWiring = 6
+ordinal_of AtPeer = 7
+ordinal_of AtBegin = 8
+ordinal_of AtActs = 9
+ordinal_of Ended = 10
 
 -- where a form can stand
-abbrev pub stage_of : Form → Stage
-stage_of Version = AtVersion
-stage_of Peers = AtPeers
-stage_of Table = AtTable
-stage_of Common = AtCommon
-stage_of Out = AtOut
-stage_of Mtu = AtMtu
-stage_of Msix = AtWiring
-stage_of Intx = AtWiring
-stage_of Honest = AtPeer
-stage_of Hostile = AtPeer
-stage_of Begin = AtBegin
-stage_of _ = AtActs
+abbrev pub position_of : Form → Position
+position_of Version = AtVersion
+position_of Peers = AtPeers
+position_of Table = AtTable
+position_of Common = AtCommon
+position_of Out = AtOut
+position_of Mtu = AtMtu
+position_of Msix = AtWiring
+position_of Intx = AtWiring
+position_of Honest = AtPeer
+position_of Hostile = AtPeer
+position_of Begin = AtBegin
+position_of _ = AtActs
 
 -- the rules of order that speak of P: the head's peers come in order, and acts as they are allowed
 abbrev pub is_out_of_turn : SoFar → Form → ℕ → Bool
@@ -87,18 +87,20 @@ is_out_of_turn d form p = is_too_late d.acts form p
 -- they are tested here only where P's field is a number
 abbrev pub is_out_of_order : SoFar → Form → List (List ℕ) → Bool
 is_out_of_order d form fields =
-    not (place_of (stage_of form) == place_of d.stage)
+    not (ordinal_of (position_of form) == ordinal_of d.position)
     || option_map_or (is_out_of_turn d form) (option_and_then number_of (slice_get fields 1)) false
 
 -- ---- BadNumber
 
 abbrev pub numbers_in : SoFar → Form → List (List ℕ) → Option (List ℕ)
-numbers_in d form fields = option_and_then (λ ns. if is_in_range (world_so_far d) form ns then Some ns else None) (numbers_of (pieces_of form) fields)
+numbers_in d form fields =
+    option_and_then (λ ns. if is_in_range (world_so_far d) form ns then Some ns else None) (numbers_of (pieces_of form) fields)
 
 -- ---- BadFrame
 
 abbrev pub frame_in : SoFar → Form → List (List ℕ) → Option (List ℕ)
-frame_in d form fields = option_and_then (λ bytes. if is_frame_size (world_so_far d) form (length bytes) then Some bytes else None) (hex_bytes (hex_of (pieces_of form) fields))
+frame_in d form fields =
+    option_and_then (λ bytes. if is_frame_size (world_so_far d) form (length bytes) then Some bytes else None) (hex_bytes (hex_of (pieces_of form) fields))
 
 -- ---- BadGeometry
 
@@ -116,12 +118,12 @@ is_end _ = false
 
 -- the form is that of an act
 abbrev pub is_act : Form → Bool
-is_act form = place_of (stage_of form) == 9 && not (is_end form)
+is_act form = ordinal_of (position_of form) == 9 && not (is_end form)
 
 abbrev pub with_peer : Bool → SoFar → SoFar
 with_peer b d =
     let honest = d.honest ++ b ∷ [] in
-    record d { stage = if length honest == d.peers then AtBegin else AtPeer; honest = honest }
+    record d { position = if length honest == d.peers then AtBegin else AtPeer; honest = honest }
 
 abbrev pub with_act : Act → SoFar → SoFar
 with_act act d = record d { acts = d.acts ++ act ∷ [] }
@@ -151,19 +153,23 @@ act_of Again ns frame = Some (acts.Again (slice_index ns 0) (slice_index ns 1))
 act_of _ ns frame = None
 
 abbrev pub add_head : Form → List ℕ → SoFar → SoFar
-add_head Version ns d = record d { stage = AtPeers }
-add_head Peers ns d = record d { stage = AtTable; peers = slice_index ns 0 }
-add_head Table ns d = record d { stage = AtCommon; table = slice_index ns 0 }
-add_head Common ns d = record d { stage = AtOut; common = slice_index ns 0 }
-add_head Out ns d = record d { stage = AtMtu; out = slice_index ns 0 }
-add_head Mtu ns d = record d { stage = AtWiring; mtu = slice_index ns 0 }
-add_head Msix ns d = record d { stage = AtPeer; wiring = wirings.Msix (slice_index ns 0) }
-add_head Intx ns d = record d { stage = AtPeer; wiring = wirings.Intx }
+add_head Version ns d = record d { position = AtPeers }
+add_head Peers ns d = record d { position = AtTable; peers = slice_index ns 0 }
+add_head Table ns d = record d { position = AtCommon; table = slice_index ns 0 }
+add_head Common ns d = record d { position = AtOut; common = slice_index ns 0 }
+add_head Out ns d = record d { position = AtMtu; out = slice_index ns 0 }
+add_head Mtu ns d = record d { position = AtWiring; mtu = slice_index ns 0 }
+add_head Msix ns d = record d { position = AtPeer; wiring = wirings.Msix (slice_index ns 0) }
+add_head Intx ns d = record d { position = AtPeer; wiring = wirings.Intx }
 add_head Honest ns d = with_peer true d
 add_head Hostile ns d = with_peer false d
-add_head Begin ns d = record d { stage = AtActs }
-add_head End ns d = record d { stage = Ended }
+add_head Begin ns d = record d { position = AtActs }
+add_head End ns d = record d { position = Ended }
 add_head _ ns d = d
+
+-- a line of the head, where its sizes fit
+abbrev pub head_with : Form → List ℕ → SoFar → Result SoFar Cause
+head_with form ns d = if fits_sizes d form ns then Ok (add_head form ns d) else Err BadGeometry
 
 abbrev pub turns_with : SoFar → Option Act → ℕ
 turns_with d (Some act) = turns_of d.acts + cost act
@@ -193,10 +199,10 @@ step d line =
 -- ---- the text
 
 abbrev pub at_start : SoFar
-at_start = record { stage = AtVersion; peers = 0; table = 0; common = 0; out = 0; mtu = 0; wiring = wirings.Intx; honest = []; acts = [] }
+at_start = record { position = AtVersion; peers = 0; table = 0; common = 0; out = 0; mtu = 0; wiring = wirings.Intx; honest = []; acts = [] }
 
 abbrev pub has_ended : SoFar → Bool
-has_ended d = place_of d.stage == 10
+has_ended d = ordinal_of d.position == 10
 
 abbrev pub machine : Machine SoFar Cause
 machine = record { step = step; ended = has_ended }

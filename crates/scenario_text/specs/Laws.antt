@@ -19,7 +19,8 @@ CutIsNoEnd = (w : World) (bytes : List ℕ) (j : ℕ) → IsSpelling w bytes →
 
 -- bytes after a text of L lines are the line L + 1, which is bad
 abbrev pub BytesAfterEndAreBadLine : Type 0
-BytesAfterEndAreBadLine = (w : World) (bytes more : List ℕ) → IsSpelling w bytes → 0 < length more → answer (bytes ++ more) ≡ Err (BadLine (length (rows_of w) + 1))
+BytesAfterEndAreBadLine = (w : World) (bytes more : List ℕ) → IsSpelling w bytes → 0 < length more
+    → answer (bytes ++ more) ≡ Err (BadLine (length (rows_of w) + 1))
 
 -- the line that a fault names is the first bad one: the lines before it are good
 abbrev pub FaultIsFirst : Type 0

@@ -1,9 +1,9 @@
--- The running form: scenarios whose peers can each be driven by a thread of its own. Automatic peers with their offers, and storms, are
--- named first; then come the turns, at most one line for each peer.
+-- The running form: scenarios whose peers can each be driven by a thread of its own. Automatic peers with their offers, storms, and what
+-- sets the peers' devices come first; then come the turns, at most one line for each peer.
 use Rattle.std.specs.Prelude.{◌≡◌, ℕ, ◌+◌, ◌==◌, ◌||◌, not, if◌then◌else◌, Bool, true, false, List, [], ◌∷◌, ◌++◌, Option, Some, None, slice_index_or}
 use Rattle.std.specs.List.{list_any, list_all}
 use Rattle.scenario_text.specs.declared.acts.Act.{Act}
-use Rattle.scenario_text.specs.declared.acts.Act.TheVariants.{Offer, Auto, Storm, Turn}
+use Rattle.scenario_text.specs.declared.acts.Act.TheVariants.{Offer, Auto, Storm, Turn, CfgWrite, MmioWrite, MsixWrite}
 use Rattle.scenario_text.specs.declared.running.Before.{Before}
 use Rattle.scenario_text.specs.Acts.{has_auto, has_storm}
 use Rattle.scenario_text.specs.Scenario.{World}
@@ -20,14 +20,22 @@ is_turn_of p _ = false
 unfoldable pub has_turn : List Act → ℕ → Bool
 has_turn acts p = list_any (is_turn_of p) acts
 
--- Between these acts, the act breaks the form: it is no `auto`, `storm`, `offer` or `turn`; or an offer of a peer that isn't automatic
--- yet; or a turn before an act that is none, or the second turn of its peer, or one of a peer that is neither automatic nor a storm.
+-- the act writes what says how interrupts reach a peer: its configuration space, its MSI-X region, or Interrupt Control, at offset 8
+abbrev pub sets_device : Act → Bool
+sets_device (CfgWrite p offset width value) = true
+sets_device (MsixWrite p offset value) = true
+sets_device (MmioWrite p offset value) = offset == 8
+sets_device _ = false
+
+-- Between these acts, the act breaks the form: it is no `auto`, `storm`, `offer` or `turn`, and sets no device; or an offer of a peer that
+-- isn't automatic yet; or a turn before an act that is none, or the second turn of its peer, or one of a peer that is neither automatic nor
+-- a storm.
 abbrev pub breaks : List Act → Act → List Act → Bool
 breaks before (Auto p expect) later = false
 breaks before (Storm p seed) later = false
 breaks before (Offer p frame) later = not (has_auto before p)
 breaks before (Turn p steps) later = not (list_all is_turn later) || has_turn before p || not (has_auto before p || has_storm before p)
-breaks before _ later = true
+breaks before act later = not (sets_device act)
 
 -- the line of the first act that breaks the form, where these acts stand before the first, whose line is this
 abbrev pub first_break : List Act → List Act → ℕ → Option ℕ

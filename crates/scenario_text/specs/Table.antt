@@ -57,4 +57,5 @@ pieces_of Again = Word (codes "again") ∷ any_number ∷ Number 0 63 ∷ []
 pieces_of End = Word (codes "end") ∷ []
 
 abbrev pub all_forms : List Form
-all_forms = Version ∷ Peers ∷ Table ∷ Common ∷ Out ∷ Mtu ∷ Msix ∷ Intx ∷ Honest ∷ Hostile ∷ Begin ∷ Tick ∷ Offer ∷ Poll ∷ Stop ∷ Auto ∷ Storm ∷ Turn ∷ Reset ∷ Poke ∷ Peek ∷ Set ∷ Ring ∷ CfgRead ∷ CfgWrite ∷ MmioRead ∷ MmioWrite ∷ MsixRead ∷ MsixWrite ∷ Lose ∷ Again ∷ End ∷ []
+all_forms = Version ∷ Peers ∷ Table ∷ Common ∷ Out ∷ Mtu ∷ Msix ∷ Intx ∷ Honest ∷ Hostile ∷ Begin ∷ Tick ∷ Offer ∷ Poll ∷ Stop ∷ Auto ∷ Storm ∷ Turn
+    ∷ Reset ∷ Poke ∷ Peek ∷ Set ∷ Ring ∷ CfgRead ∷ CfgWrite ∷ MmioRead ∷ MmioWrite ∷ MsixRead ∷ MsixWrite ∷ Lose ∷ Again ∷ End ∷ []

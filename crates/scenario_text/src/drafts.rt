@@ -1,20 +1,28 @@
 //! What the lines so far say.
-ghost use Rattle.std.specs.Prelude.{◌≡◌, ◌≤◌, ◌<◌, ◌^◌, ℕ, slice_index_or, false};
+ghost use Rattle.std.specs.Prelude.{◌≡◌, ◌≤◌, ◌<◌, ◌^◌, ℕ, Some, slice_index_or, false};
+ghost use Rattle.section_map.specs.Faults.{shape_of};
 ghost use Rattle.scenario_text.specs.Acts.{turns_of, has_auto, has_storm, has_call};
+ghost use Rattle.scenario_text.specs.Judge.{ordinal_of};
 
 use crate::acts::{Acts, Flags};
-use crate::stages::Stage;
+use crate::positions::Position;
 use pci_space::Wiring;
+use section_map::Geometry;
+use split_ring::Queue;
 
-/// A scenario of which some lines are read. What no line has said yet is 0, INTx or empty; sizes are in bytes.
+/// A scenario of which some lines are read. What no line has said yet is 0, none, INTx or empty; sizes are in bytes.
 #[derive(Drop)]
 pub struct Draft {
-    pub(crate) stage: Stage,
+    pub(crate) position: Position,
     pub(crate) peers: u32,
     pub(crate) table: u32,
     pub(crate) common: u64,
     pub(crate) out: u64,
     pub(crate) mtu: u32,
+    /// What the sizes up to the `out` line make.
+    pub(crate) geometry: Option<Geometry>,
+    /// What the sizes up to the `mtu` line make.
+    pub(crate) queue: Option<Queue>,
     pub(crate) wiring: Wiring,
     pub(crate) honest: Flags,
     pub(crate) acts: Acts,
@@ -28,6 +36,8 @@ pub struct Draft {
     pub(crate) called: [bool; 8],
     ghost few: { peers ≤ 8 },
     ghost section: { out ≤ 2 ^ 24 },
+    ghost region: { 4 < ordinal_of position → geometry ≡ Some (shape_of peers table common out) },
+    ghost ring: { 5 < ordinal_of position → queue ≡ Some (record { out = out; mtu = mtu }) },
     ghost counted: { turns ≡ turns_of acts },
     ghost most: { turns ≤ 4000000 },
     ghost autos_of: { (p : ℕ) → slice_index_or autos p false ≡ has_auto acts p },

@@ -1,7 +1,9 @@
 //! What is wrong with a scenario's text.
 ghost use Rattle.std.specs.Prelude.{◌≡◌};
 ghost use Rattle.scenario_text.specs.Judge.{fault_at};
+ghost use Rattle.scenario_text.specs.Answers.{fault_of_text};
 
+use line_text::TextFault;
 use thiserror::Error;
 
 /// What is wrong with a line: the first of these that fits, in this order.
@@ -53,7 +55,7 @@ pub enum ScenarioFault {
     /// The `out` line with which the geometry is refused, or the `mtu` line with which the queue is.
     #[error("line {0} gives sizes that do not fit")]
     BadGeometry(u64),
-    /// The form isn't allowed at this place.
+    /// The form isn't allowed at this position.
     #[error("line {0} is out of order")]
     BadOrder(u64),
     /// With this line the acts are more than 4,000,000.
@@ -65,4 +67,18 @@ pub enum ScenarioFault {
     /// There was no memory left.
     #[error("out of memory")]
     NoMemory,
+}
+
+impl From<TextFault<Cause>> for ScenarioFault {
+    ghost from_gives = { λ fault result. result ≡ fault_of_text fault };
+
+    /// Bytes after the end are a line that has no form.
+    fn from(fault: TextFault<Cause>) -> ScenarioFault {
+        match fault {
+            TextFault::NoMemory => ScenarioFault::NoMemory,
+            TextFault::At(cause, line) => cause.at(line),
+            TextFault::After(line) => ScenarioFault::BadLine(line),
+            TextFault::NoEnd => ScenarioFault::NoEnd,
+        }
+    }
 }

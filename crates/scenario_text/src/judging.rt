@@ -5,26 +5,16 @@ ghost use Rattle.section_map.specs.Faults.{shape_of};
 ghost use Rattle.section_map.specs.Geometry.{word_count};
 ghost use Rattle.scenario_text.specs.Acts.{peer_of};
 ghost use Rattle.scenario_text.specs.Table.{pieces_of};
-ghost use Rattle.scenario_text.specs.Sizes.{is_geometry, is_queue};
 ghost use Rattle.scenario_text.specs.Scenario.{is_aligned, is_in_range, is_its_peer, is_frame_size, is_link, is_peer, is_hostile};
-ghost use Rattle.scenario_text.specs.Judge.{world_so_far, is_out_of_turn, is_out_of_order, fits_sizes, act_of, is_act};
+ghost use Rattle.scenario_text.specs.Judge.{world_so_far, is_out_of_turn, is_out_of_order, act_of, is_act};
 ghost use Rattle.scenario_text.specs.Drafts.{so_far};
 
 use crate::acts::Act;
 use crate::drafts::Draft;
 use crate::forms::Form;
-use crate::stages::Stage;
+use crate::positions::Position;
 use ivs_base::Frame;
-use line_text::number;
-use section_map::Geometry;
-use split_ring::Queue;
-
-/// The number at this place, from 0.
-pub fn nth(numbers: &[u64], i: usize) -> u64
-    ensures { result ≡ slice_index numbers.now i }
-{
-    numbers.get(i).copied().unwrap_or(0)
-}
+use line_text::{number, number_at};
 
 /// The flag of this peer, where it has one.
 fn flag(flags: &[bool], p: u64) -> bool
@@ -46,11 +36,11 @@ fn is_out_of_turn(draft: &Draft, form: Form, p: u64) -> bool
     }
 }
 
-/// Isn't the line allowed at this place?
+/// Isn't the line allowed at this position?
 pub fn is_out_of_order(draft: &Draft, form: Form, fields: &[&[u8]]) -> bool
     ensures { result ≡ is_out_of_order (so_far draft.now) form (texts fields.now) }
 {
-    if Stage::of(form).place() != draft.stage.place() {
+    if Position::of(form).ordinal() != draft.position.ordinal() {
         return true;
     }
     match fields.get(1) {
@@ -81,10 +71,10 @@ pub fn is_in_range(draft: &Draft, form: Form, numbers: &[u64]) -> bool
     ensures { result ≡ is_in_range (world_so_far (so_far draft.now)) form numbers.now }
 {
     match form {
-        Form::Poke | Form::Peek => nth(numbers, 1) < words(draft),
-        Form::CfgRead | Form::CfgWrite => is_aligned(nth(numbers, 1), nth(numbers, 2)),
+        Form::Poke | Form::Peek => number_at(numbers, 1) < words(draft),
+        Form::CfgRead | Form::CfgWrite => is_aligned(number_at(numbers, 1), number_at(numbers, 2)),
         Form::MmioRead | Form::MmioWrite | Form::MsixRead | Form::MsixWrite => {
-            nth(numbers, 1) % 4 == 0
+            number_at(numbers, 1) % 4 == 0
         }
         _ => true,
     }
@@ -113,12 +103,12 @@ pub fn is_its_peer(draft: &Draft, form: Form, numbers: &[u64]) -> bool
     ensures small { IsTrue result → IsTrue (is_act form) → slice_index numbers.now 0 < 8 }
     ensures value { result ≡ is_its_peer (world_so_far (so_far draft.now)) form numbers.now }
 {
-    let p = nth(numbers, 0);
+    let p = number_at(numbers, 0);
     match form {
         Form::Tick | Form::Offer | Form::Poll | Form::Stop | Form::Auto => is_link(draft, p),
         Form::Storm | Form::Poke | Form::Peek | Form::Set => is_hostile(draft, p),
         Form::MmioWrite => {
-            if nth(numbers, 1) == 16 {
+            if number_at(numbers, 1) == 16 {
                 is_hostile(draft, p)
             } else {
                 is_peer(draft, p)
@@ -148,33 +138,6 @@ pub fn is_frame_size(draft: &Draft, form: Form, size: u64) -> bool
     }
 }
 
-/// Do these sizes have a region?
-fn is_geometry(peers: u32, table: u32, common: u64, out: u64) -> bool
-    ensures { result ≡ is_geometry peers table common out }
-{
-    Geometry::new(peers, table, common, out).is_ok()
-}
-
-/// Has a section of so many bytes a queue for this MTU?
-fn is_queue(out: u64, mtu: u32) -> bool
-    requires { out ≤ 2 ^ 24 }
-    ensures { result ≡ is_queue (record { out = out; mtu = mtu }) }
-{
-    Queue::of(out, mtu).is_ok()
-}
-
-/// On the lines `out` and `mtu`: do the sizes fit?
-pub fn fits_sizes(draft: &Draft, form: Form, numbers: &[u64]) -> bool
-    requires { AreInRange (pieces_of form) numbers.now }
-    ensures { result ≡ fits_sizes (so_far draft.now) form numbers.now }
-{
-    match form {
-        Form::Out => is_geometry(draft.peers, draft.table, draft.common, nth(numbers, 0)),
-        Form::Mtu => is_queue(draft.out, nth(numbers, 0) as u32),
-        _ => true,
-    }
-}
-
 /// The act of a line, where its form is that of an act.
 pub fn act_of(form: Form, numbers: &[u64], frame: Frame) -> Option<Act>
     requires limits { AreInRange (pieces_of form) numbers.now }
@@ -184,86 +147,86 @@ pub fn act_of(form: Form, numbers: &[u64], frame: Frame) -> Option<Act>
 {
     match form {
         Form::Tick => Some(Act::Tick {
-            peer: nth(numbers, 0) as u32,
+            peer: number_at(numbers, 0) as u32,
         }),
         Form::Offer => Some(Act::Offer {
-            peer: nth(numbers, 0) as u32,
+            peer: number_at(numbers, 0) as u32,
             frame,
         }),
         Form::Poll => Some(Act::Poll {
-            peer: nth(numbers, 0) as u32,
+            peer: number_at(numbers, 0) as u32,
         }),
         Form::Stop => Some(Act::Stop {
-            peer: nth(numbers, 0) as u32,
+            peer: number_at(numbers, 0) as u32,
         }),
         Form::Auto => Some(Act::Auto {
-            peer: nth(numbers, 0) as u32,
-            expect: nth(numbers, 1),
+            peer: number_at(numbers, 0) as u32,
+            expect: number_at(numbers, 1),
         }),
         Form::Storm => Some(Act::Storm {
-            peer: nth(numbers, 0) as u32,
-            seed: nth(numbers, 1),
+            peer: number_at(numbers, 0) as u32,
+            seed: number_at(numbers, 1),
         }),
         Form::Turn => Some(Act::Turn {
-            peer: nth(numbers, 0) as u32,
-            steps: nth(numbers, 1) as u32,
+            peer: number_at(numbers, 0) as u32,
+            steps: number_at(numbers, 1) as u32,
         }),
         Form::Reset => Some(Act::Reset {
-            peer: nth(numbers, 0) as u32,
+            peer: number_at(numbers, 0) as u32,
         }),
         Form::Poke => Some(Act::Poke {
-            peer: nth(numbers, 0) as u32,
-            word: nth(numbers, 1) as u32,
-            value: nth(numbers, 2) as u32,
+            peer: number_at(numbers, 0) as u32,
+            word: number_at(numbers, 1) as u32,
+            value: number_at(numbers, 2) as u32,
         }),
         Form::Peek => Some(Act::Peek {
-            peer: nth(numbers, 0) as u32,
-            word: nth(numbers, 1) as u32,
+            peer: number_at(numbers, 0) as u32,
+            word: number_at(numbers, 1) as u32,
         }),
         Form::Set => Some(Act::Set {
-            peer: nth(numbers, 0) as u32,
-            value: nth(numbers, 1) as u32,
+            peer: number_at(numbers, 0) as u32,
+            value: number_at(numbers, 1) as u32,
         }),
         Form::Ring => Some(Act::Ring {
-            peer: nth(numbers, 0) as u32,
-            target: nth(numbers, 1) as u32,
-            vector: nth(numbers, 2) as u32,
+            peer: number_at(numbers, 0) as u32,
+            target: number_at(numbers, 1) as u32,
+            vector: number_at(numbers, 2) as u32,
         }),
         Form::CfgRead => Some(Act::CfgRead {
-            peer: nth(numbers, 0) as u32,
-            offset: nth(numbers, 1) as u16,
-            width: nth(numbers, 2) as u16,
+            peer: number_at(numbers, 0) as u32,
+            offset: number_at(numbers, 1) as u16,
+            width: number_at(numbers, 2) as u16,
         }),
         Form::CfgWrite => Some(Act::CfgWrite {
-            peer: nth(numbers, 0) as u32,
-            offset: nth(numbers, 1) as u16,
-            width: nth(numbers, 2) as u16,
-            value: nth(numbers, 3) as u32,
+            peer: number_at(numbers, 0) as u32,
+            offset: number_at(numbers, 1) as u16,
+            width: number_at(numbers, 2) as u16,
+            value: number_at(numbers, 3) as u32,
         }),
         Form::MmioRead => Some(Act::MmioRead {
-            peer: nth(numbers, 0) as u32,
-            offset: nth(numbers, 1) as u32,
+            peer: number_at(numbers, 0) as u32,
+            offset: number_at(numbers, 1) as u32,
         }),
         Form::MmioWrite => Some(Act::MmioWrite {
-            peer: nth(numbers, 0) as u32,
-            offset: nth(numbers, 1) as u32,
-            value: nth(numbers, 2) as u32,
+            peer: number_at(numbers, 0) as u32,
+            offset: number_at(numbers, 1) as u32,
+            value: number_at(numbers, 2) as u32,
         }),
         Form::MsixRead => Some(Act::MsixRead {
-            peer: nth(numbers, 0) as u32,
-            offset: nth(numbers, 1) as u32,
+            peer: number_at(numbers, 0) as u32,
+            offset: number_at(numbers, 1) as u32,
         }),
         Form::MsixWrite => Some(Act::MsixWrite {
-            peer: nth(numbers, 0) as u32,
-            offset: nth(numbers, 1) as u32,
-            value: nth(numbers, 2) as u32,
+            peer: number_at(numbers, 0) as u32,
+            offset: number_at(numbers, 1) as u32,
+            value: number_at(numbers, 2) as u32,
         }),
         Form::Lose => Some(Act::Lose {
-            peer: nth(numbers, 0) as u32,
+            peer: number_at(numbers, 0) as u32,
         }),
         Form::Again => Some(Act::Again {
-            peer: nth(numbers, 0) as u32,
-            vector: nth(numbers, 1) as u32,
+            peer: number_at(numbers, 0) as u32,
+            vector: number_at(numbers, 1) as u32,
         }),
         _ => None,
     }

@@ -6,24 +6,22 @@
 
 mod acts;
 mod drafts;
-mod failures;
 mod faults;
 mod forms;
 mod judging;
 mod laws;
 mod loads;
+mod positions;
 mod printing;
 mod reading;
 mod running;
 mod scenarios;
-mod stages;
 mod taking;
 #[cfg(test)]
 mod tests;
 
 pub use acts::{Act, Acts, Flags};
 pub use drafts::Draft;
-pub use failures::Failure;
 pub use faults::{Cause, ScenarioFault};
 pub use laws::{
     bytes_after_end_are_bad_line, cut_is_no_end, fault_is_first, printed_is_read_again,

@@ -30,10 +30,8 @@ fn frame_bytes(alloc: Global, number: u32) -> Result<Vec<u8>, AllocError>
 fn frame(alloc: Global, number: u32) -> Result<Frame, NoMemory>
     ensures { IfOk result (λ frame. frame ≡ load_frame number) }
 {
-    match frame_bytes(alloc, number) {
-        Ok(bytes) => Frame::of(alloc, &bytes),
-        Err(_) => Err(NoMemory),
-    }
+    let bytes = frame_bytes(alloc, number)?;
+    Frame::of(alloc, &bytes)
 }
 
 /// Puts the offers of so many frames last.

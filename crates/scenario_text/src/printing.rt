@@ -212,8 +212,6 @@ pub fn print(alloc: Global, scenario: &Scenario) -> Result<Vec<u8>, NoMemory>
     ensures { IfOk result (λ text. text.items ≡ spelling (world_of scenario.now)) }
 {
     let mut out = Vec::new(alloc);
-    match put_scenario(&mut out, scenario) {
-        Ok(()) => Ok(out),
-        Err(_) => Err(NoMemory),
-    }
+    put_scenario(&mut out, scenario)?;
+    Ok(out)
 }

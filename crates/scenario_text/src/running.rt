@@ -3,7 +3,7 @@ ghost use Rattle.std.specs.Prelude.{◌≡◌, ◌<◌, ◌++◌, [], ◌∷◌,
 ghost use Rattle.std.specs.List.{list_all};
 ghost use Rattle.scenario_text.specs.declared.acts.Act as acts;
 ghost use Rattle.scenario_text.specs.Acts.{peer_of};
-ghost use Rattle.scenario_text.specs.Running.{is_turn, is_turn_of, breaks, not_running, Tells};
+ghost use Rattle.scenario_text.specs.Running.{is_turn, is_turn_of, sets_device, breaks, not_running, Tells};
 ghost use Rattle.scenario_text.specs.Spelling.{world_of};
 
 use crate::acts::Act;
@@ -12,6 +12,9 @@ use crate::taking::mark;
 
 /// The number of the first act's line in a scenario without peers; each peer has a line before it.
 const FIRST_LINE: u64 = 9;
+
+/// Offset of Interrupt Control in the register page.
+const INTERRUPT_CONTROL: u32 = 0x08;
 
 /// What the acts before an act say of each peer.
 #[derive(Drop)]
@@ -39,6 +42,17 @@ impl Act {
     {
         matches!(self, Act::Turn { .. })
     }
+
+    /// Does it write what says how interrupts reach a peer: its configuration space, its MSI-X region, or Interrupt Control?
+    pub fn sets_device(&self) -> bool
+        ensures { result ≡ sets_device self.now }
+    {
+        match self {
+            Act::CfgWrite { .. } | Act::MsixWrite { .. } => true,
+            Act::MmioWrite { offset, .. } => *offset == INTERRUPT_CONTROL,
+            _ => false,
+        }
+    }
 }
 
 impl Before {
@@ -65,7 +79,7 @@ impl Before {
                     || flag(&self.turned, *peer)
                     || !(flag(&self.autos, *peer) || flag(&self.storms, *peer))
             }
-            _ => true,
+            _ => !act.sets_device(),
         }
     }
 

@@ -1,26 +1,25 @@
 //! Taking a line into a draft.
-ghost use Rattle.std.specs.Prelude.{ℕ, ◌==◌, ◌||◌, ◌&&◌, slice_index_or, false, ◌≡◌, ◌<◌, ◌≤◌, ◌+◌, ◌^◌, IsTrue, slice_index, OnOk, IfOk, IfSome, option_map, true};
-ghost use Rattle.std.specs.List.{list_all};
-ghost use Rattle.line_text.specs.Forms.{texts, AreInRange, is_printable};
+ghost use Rattle.std.specs.Prelude.{ℕ, ◌==◌, ◌||◌, ◌&&◌, slice_index_or, false, ◌≡◌, ◌<◌, ◌≤◌, ◌+◌, ◌^◌, ◌∷◌, [], IsTrue, slice_index, OnOk, IfOk, IfSome, option_map, true};
+ghost use Rattle.line_text.specs.Forms.{texts, AreInRange};
+ghost use Rattle.scenario_text.specs.declared.forms.Form.TheVariants.{Out, Mtu};
 ghost use Rattle.scenario_text.specs.Table.{pieces_of};
 ghost use Rattle.scenario_text.specs.Acts.{cost, peer_of, is_auto, is_storm, is_call};
-ghost use Rattle.scenario_text.specs.Judge.{numbers_in, frame_in, add_head, with_act, with_peer, judge, step, fits_sizes, has_ended};
-ghost use Rattle.scenario_text.specs.Answers.{Gives};
+ghost use Rattle.scenario_text.specs.Judge.{SoFar, ordinal_of, position_of, numbers_in, frame_in, head_with, with_act, with_peer, judge, step, machine};
+ghost use Rattle.line_text.specs.Reading.{Gives};
 ghost use Rattle.scenario_text.specs.Drafts.{so_far};
 
 use crate::acts::Act;
 use crate::drafts::Draft;
-use crate::failures::Failure;
 use crate::faults::Cause;
 use crate::forms::{Form, form_of};
-use crate::judging::{
-    act_of, fits_sizes, is_frame_size, is_in_range, is_its_peer, is_out_of_order, nth,
-};
-use crate::stages::Stage;
+use crate::judging::{act_of, is_frame_size, is_in_range, is_its_peer, is_out_of_order};
+use crate::positions::Position;
 use arrayvec::ArrayVec;
 use ivs_base::{Frame, NoMemory};
-use line_text::{hex_field, numbers_in, read_hex};
+use line_text::{LineFault, TakeLines, hex_field, is_printable, number_at, numbers_in, read_hex};
 use pci_space::Wiring;
+use section_map::Geometry;
+use split_ring::Queue;
 use std::alloc::Global;
 
 /// The most acts of a scenario.
@@ -78,11 +77,10 @@ fn frame(
     if !is_frame_size(draft, form, digits.len() as u64 / 2) {
         return Ok(None);
     }
-    match read_hex(alloc, digits) {
-        Err(_) => Err(NoMemory),
-        Ok(None) => Ok(None),
-        Ok(Some(bytes)) => Ok(Some(Frame::of(alloc, &bytes)?)),
-    }
+    let Some(bytes) = read_hex(alloc, digits)? else {
+        return Ok(None);
+    };
+    Ok(Some(Frame::of(alloc, &bytes)?))
 }
 
 /// Sets the flag of the peer where it is on.
@@ -96,21 +94,15 @@ pub fn mark(flags: &mut [bool; 8], peer: usize, on: bool)
 }
 
 impl Draft {
-    /// Has the text come to its end?
-    pub fn has_ended(&self) -> bool
-        ensures { result ≡ has_ended (so_far self.now) }
-    {
-        self.stage.place() == 10
-    }
-
     fn push_peer(&mut self, is_honest: bool) -> Result<(), NoMemory>
+        requires order { 5 < ordinal_of self.old.position }
         ensures { OnOk result (so_far self.new ≡ with_peer is_honest (so_far self.old)) }
     {
         self.honest.push(is_honest)?;
-        self.stage = if self.honest.items().len() as u64 == u64::from(self.peers) {
-            Stage::AtBegin
+        self.position = if self.honest.items().len() as u64 == u64::from(self.peers) {
+            Position::AtBegin
         } else {
-            Stage::AtPeer
+            Position::AtPeer
         };
         Ok(())
     }
@@ -133,106 +125,125 @@ impl Draft {
         Ok(())
     }
 
-    fn add_head(&mut self, form: Form, numbers: &[u64]) -> Result<(), NoMemory>
-        requires limits { AreInRange (pieces_of form) numbers.now }
-        requires sizes { fits_sizes (so_far self.old) form numbers.now ≡ true }
-        ensures { OnOk result (so_far self.new ≡ add_head form numbers.now (so_far self.old)) }
+    /// Takes the size of a section, where there is a region of the sizes so far.
+    fn add_out(&mut self, out: u64) -> Result<(), LineFault<Cause>>
+        ensures { Gives (so_far self.new) result (head_with Out (out ∷ []) (so_far self.old)) }
     {
-        let number = nth(numbers, 0);
+        let Ok(geometry) = Geometry::new(self.peers, self.table, self.common, out) else {
+            return Err(LineFault::Wrong(Cause::BadGeometry));
+        };
+        self.position = Position::AtMtu;
+        self.out = out;
+        self.geometry = Some(geometry);
+        Ok(())
+    }
+
+    /// Takes the MTU, where a section has a queue for it.
+    fn add_mtu(&mut self, mtu: u32) -> Result<(), LineFault<Cause>>
+        requires order { 4 < ordinal_of self.old.position }
+        ensures { Gives (so_far self.new) result (head_with Mtu (mtu ∷ []) (so_far self.old)) }
+    {
+        let Ok(queue) = Queue::of(self.out, mtu) else {
+            return Err(LineFault::Wrong(Cause::BadGeometry));
+        };
+        self.position = Position::AtWiring;
+        self.mtu = mtu;
+        self.queue = Some(queue);
+        Ok(())
+    }
+
+    fn add_head(&mut self, form: Form, numbers: &[u64]) -> Result<(), LineFault<Cause>>
+        requires limits { AreInRange (pieces_of form) numbers.now }
+        requires order { ordinal_of (position_of form) ≡ ordinal_of self.old.position }
+        ensures { Gives (so_far self.new) result (head_with form numbers.now (so_far self.old)) }
+    {
+        let number = number_at(numbers, 0);
         match form {
-            Form::Version => self.stage = Stage::AtPeers,
+            Form::Version => self.position = Position::AtPeers,
             Form::Peers => {
-                self.stage = Stage::AtTable;
+                self.position = Position::AtTable;
                 self.peers = number as u32;
             }
             Form::Table => {
-                self.stage = Stage::AtCommon;
+                self.position = Position::AtCommon;
                 self.table = number as u32;
             }
             Form::Common => {
-                self.stage = Stage::AtOut;
+                self.position = Position::AtOut;
                 self.common = number;
             }
-            Form::Out => {
-                self.stage = Stage::AtMtu;
-                self.out = number;
-            }
-            Form::Mtu => {
-                self.stage = Stage::AtWiring;
-                self.mtu = number as u32;
-            }
+            Form::Out => self.add_out(number)?,
+            Form::Mtu => self.add_mtu(number as u32)?,
             Form::Msix => {
-                self.stage = Stage::AtPeer;
+                self.position = Position::AtPeer;
                 self.wiring = Wiring::Msix(number as u32);
             }
             Form::Intx => {
-                self.stage = Stage::AtPeer;
+                self.position = Position::AtPeer;
                 self.wiring = Wiring::Intx;
             }
             Form::Honest => self.push_peer(true)?,
             Form::Hostile => self.push_peer(false)?,
-            Form::Begin => self.stage = Stage::AtActs,
-            Form::End => self.stage = Stage::Ended,
+            Form::Begin => self.position = Position::AtActs,
+            Form::End => self.position = Position::Ended,
             _ => {}
         }
         Ok(())
     }
 
     #[tactic(auto, unfolding(crate::specs::Judge::judge))]
-    fn judge(&mut self, alloc: Global, form: Form, fields: &[&[u8]]) -> Result<(), Failure>
-        ensures { Gives (λ _. so_far self.new) result (judge (so_far self.old) form (texts fields.now)) }
+    fn judge(&mut self, alloc: Global, form: Form, fields: &[&[u8]]) -> Result<(), LineFault<Cause>>
+        ensures { Gives (so_far self.new) result (judge (so_far self.old) form (texts fields.now)) }
     {
         if is_out_of_order(self, form, fields) {
-            return Err(Failure::Wrong(Cause::BadOrder));
+            return Err(LineFault::Wrong(Cause::BadOrder));
         }
         let Some(numbers) = numbers(self, form, fields) else {
-            return Err(Failure::Wrong(Cause::BadNumber));
+            return Err(LineFault::Wrong(Cause::BadNumber));
         };
         if !is_its_peer(self, form, &numbers) {
-            return Err(Failure::Wrong(Cause::BadPeer));
+            return Err(LineFault::Wrong(Cause::BadPeer));
         }
         let Some(frame) = frame(alloc, self, form, fields)? else {
-            return Err(Failure::Wrong(Cause::BadFrame));
+            return Err(LineFault::Wrong(Cause::BadFrame));
         };
-        if !fits_sizes(self, form, &numbers) {
-            return Err(Failure::Wrong(Cause::BadGeometry));
-        }
         match act_of(form, &numbers, frame) {
-            None => {
-                self.add_head(form, &numbers)?;
-                Ok(())
-            }
+            None => self.add_head(form, &numbers),
             Some(act) => {
                 if MOST_TURNS < self.turns + act.cost() {
-                    return Err(Failure::Wrong(Cause::TooManyTurns));
+                    return Err(LineFault::Wrong(Cause::TooManyTurns));
                 }
                 self.push_act(act)?;
                 Ok(())
             }
         }
     }
+}
 
-    /// Takes the next line, without its newline. After an error the draft is of no more use.
+impl TakeLines for Draft {
+    type Cause = Cause;
+
+    ghost SoFar = { SoFar };
+
+    ghost so_far = { so_far };
+
+    ghost machine = { machine };
+
     #[tactic(auto, unfolding(crate::specs::Judge::step))]
-    pub fn take(&mut self, alloc: Global, line: &[u8]) -> Result<(), Failure>
-        ensures { Gives (λ _. so_far self.new) result (step (so_far self.old) line.now) }
-    {
+    fn take(&mut self, alloc: Global, line: &[u8]) -> Result<(), LineFault<Cause>> {
         if !is_printable(line) {
-            return Err(Failure::Wrong(Cause::BadLine));
+            return Err(LineFault::Wrong(Cause::BadLine));
         }
         let Some(fields) = line_text::fields(line) else {
-            return Err(Failure::Wrong(Cause::BadLine));
+            return Err(LineFault::Wrong(Cause::BadLine));
         };
         let Some(form) = form_of(&fields) else {
-            return Err(Failure::Wrong(Cause::BadLine));
+            return Err(LineFault::Wrong(Cause::BadLine));
         };
         self.judge(alloc, form, &fields)
     }
-}
 
-/// Is each byte one from the space to `~`?
-fn is_printable(line: &[u8]) -> bool
-    ensures { result ≡ list_all is_printable line.now }
-{
-    line.iter().all(|b| 32 <= *b && *b <= 126)
+    fn has_ended(&self) -> bool {
+        self.position.ordinal() == 10
+    }
 }

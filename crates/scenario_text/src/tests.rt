@@ -1,3 +1,4 @@
+//! Texts of scenarios: which is read, and the first fault of each that is not; loads, and which scenario may run.
 use crate::{Act, ScenarioFault, load, not_running, parse, print};
 use std::alloc::Global;
 use std::test::Fail;
@@ -9,6 +10,10 @@ const HEAD: &[u8] =
 /// The same with a hostile peer 1.
 const WITH_HOSTILE: &[u8] =
     b"ivshm 1\npeers 2\ntable 4096\ncommon 0\nout 16384\nmtu 256\nirq msix 2\npeer 0 honest\npeer 1 hostile\nbegin\n";
+
+/// A head of eight peers by the one line, the last six of them hostile: sixteen lines.
+const EIGHT: &[u8] =
+    b"ivshm 1\npeers 8\ntable 4096\ncommon 0\nout 16384\nmtu 256\nirq intx\npeer 0 honest\npeer 1 honest\npeer 2 hostile\npeer 3 hostile\npeer 4 hostile\npeer 5 hostile\npeer 6 hostile\npeer 7 hostile\nbegin\n";
 
 /// The fault of a text of these two parts.
 fn fault_of(alloc: Global, head: &[u8], rest: &[u8]) -> Result<Option<ScenarioFault>, Fail> {
@@ -143,22 +148,39 @@ fn load_of_one_frame(rt: HostRuntime) -> Result<(), Fail> {
     Ok(())
 }
 
+/// The first line that the running form doesn't allow in a text of these two parts.
+fn first_break(alloc: Global, head: &[u8], acts: &[u8]) -> Result<Option<u64>, Fail> {
+    let mut text = head.to_vec(alloc)?;
+    text.extend_from_slice(acts)?;
+    let scenario = parse(alloc, &text)?;
+    Ok(not_running(&scenario))
+}
+
 #[test]
 fn running_form(rt: HostRuntime) -> Result<(), Fail> {
-    let cases: [(&[u8], Option<u64>); 15] = [
+    let cases: [(&[u8], Option<u64>); 21] = [
         (b"end\n", None),
         (
             b"auto 0 0\noffer 0 ffffffffffff0200000000010800\nstorm 1 7\nturn 0 20000\nturn 1 20000\nend\n",
             None,
         ),
         (b"storm 1 7\nauto 0 1\nturn 1 0\nend\n", None),
+        (
+            b"cfg 1 w 4 2 4\nauto 0 0\nmsix 1 w 28 0\nmmio 1 w 8 1\nmmio 0 w 8 3\nturn 0 5\nend\n",
+            None,
+        ),
         (b"tick 0\ntick 0\nend\n", Some(11)),
         (b"offer 0 ffffffffffff0200000000010800\nend\n", Some(11)),
         (b"auto 0 0\npeek 1 0\nturn 0 5\nend\n", Some(12)),
-        (b"auto 0 0\nmmio 1 w 8 1\nturn 0 5\nend\n", Some(12)),
         (b"auto 0 0\nlose 0\nturn 0 5\nend\n", Some(12)),
+        (b"auto 0 0\ncfg 1 r 4 2\nturn 0 5\nend\n", Some(12)),
+        (b"auto 0 0\nmsix 1 r 28\nturn 0 5\nend\n", Some(12)),
+        (b"auto 0 0\nmmio 1 r 8\nturn 0 5\nend\n", Some(12)),
+        (b"auto 0 0\nmmio 1 w 12 65536\nturn 0 5\nend\n", Some(12)),
+        (b"auto 0 0\nmmio 1 w 16 3\nturn 0 5\nend\n", Some(12)),
         (b"turn 0 5\nauto 0 0\nend\n", Some(11)),
         (b"auto 0 0\nturn 0 5\nstorm 1 7\nturn 1 5\nend\n", Some(12)),
+        (b"auto 0 0\nturn 0 5\nmmio 1 w 8 1\nend\n", Some(12)),
         (
             b"auto 0 0\nstorm 1 7\nturn 0 5\nturn 1 5\noffer 0 ffffffffffff0200000000010800\nend\n",
             Some(13),
@@ -169,10 +191,31 @@ fn running_form(rt: HostRuntime) -> Result<(), Fail> {
         (b"auto 0 0\nturn 0 5\nturn 1 5\nend\n", Some(13)),
     ];
     for (acts, line) in cases {
-        let mut text = WITH_HOSTILE.to_vec(rt.alloc())?;
-        text.extend_from_slice(acts)?;
-        let scenario = parse(rt.alloc(), &text)?;
-        assert!(rt; not_running(&scenario) == line, "{line:?}");
+        let breaks = first_break(rt.alloc(), WITH_HOSTILE, acts)?;
+        assert!(rt; breaks == line, "{line:?}");
+    }
+    Ok(())
+}
+
+#[test]
+fn running_form_of_eight_peers(rt: HostRuntime) -> Result<(), Fail> {
+    let cases: [(&[u8], Option<u64>); 3] = [
+        (
+            b"auto 0 5\nauto 1 5\ncfg 1 w 67 1 1\nmmio 1 w 8 1\nstorm 2 9\nstorm 7 9\nturn 0 900\nturn 1 900\nturn 7 10\nturn 2 10\nend\n",
+            None,
+        ),
+        (
+            b"auto 0 5\nmmio 1 r 8\nstorm 7 9\nturn 0 900\nturn 7 10\nend\n",
+            Some(18),
+        ),
+        (
+            b"auto 0 5\nstorm 7 9\nturn 0 900\nturn 6 10\nend\n",
+            Some(20),
+        ),
+    ];
+    for (acts, line) in cases {
+        let breaks = first_break(rt.alloc(), EIGHT, acts)?;
+        assert!(rt; breaks == line, "{line:?}");
     }
     Ok(())
 }

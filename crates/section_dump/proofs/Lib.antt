@@ -1,5 +1,6 @@
 pub mod Bodies
 pub mod Bytes
+pub mod CutImages
 pub mod ExactFaults
 pub mod Items
 pub mod OneListing

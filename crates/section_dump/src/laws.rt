@@ -1,5 +1,5 @@
 //! What holds of every image.
-ghost use Rattle.section_dump.specs.Laws.{FaultsAreOfNoImage, FaultsAreOne, ListingsAreOne};
+ghost use Rattle.section_dump.specs.Laws.{CutHeadersAreBad, CutImagesAreShort, FaultsAreOfNoImage, FaultsAreOne, ListingsAreOne};
 
 /// Law: bytes with a fault are no image, and have no other fault.
 pub fn faults_are_exact()
@@ -10,4 +10,10 @@ pub fn faults_are_exact()
 /// Law: an image has one listing.
 pub fn listings_are_one()
     ensures { ListingsAreOne }
+{}
+
+/// Law: an image that is cut anywhere is refused by its header, or as too short with both lengths.
+pub fn cut_images_are_short()
+    ensures header { CutHeadersAreBad }
+    ensures short { CutImagesAreShort }
 {}

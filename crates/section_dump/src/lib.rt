@@ -16,7 +16,7 @@ ghost use Rattle.section_dump.specs.Listing.{IsListing};
 ghost use Rattle.section_dump.specs.Faults.{IsDumpFault};
 
 use images::Header;
-pub use laws::{faults_are_exact, listings_are_one};
+pub use laws::{cut_images_are_short, faults_are_exact, listings_are_one};
 use section_map::{Geometry, GeometryFault};
 use std::alloc::Global;
 use thiserror::Error;

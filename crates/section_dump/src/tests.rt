@@ -1,4 +1,5 @@
-use crate::{DumpFault, dump, faults_are_exact, listings_are_one};
+//! Listings of whole images, and the fault of each that has none.
+use crate::{DumpFault, cut_images_are_short, dump, faults_are_exact, listings_are_one};
 use byteorder::{ByteOrder, LittleEndian};
 use section_map::{GeometryFault, Part};
 use std::alloc::{AllocError, Global};
@@ -166,6 +167,7 @@ fn bad_items(rt: HostRuntime) -> Result<(), Fail> {
 
 #[test]
 fn laws() {
+    cut_images_are_short();
     faults_are_exact();
     listings_are_one();
 }

@@ -1,11 +1,12 @@
 //! The simulation: the lawful history of a scenario, made act by act on a stage. It stands on `stage` for the stage, and on
-//! `record_text` for the trace that it makes. The contract of `simulate` promises the one lawful history of its scenario, whatever
-//! its acts are.
+//! `record_text` for the trace that it makes. The contract of `simulate` promises what a record of version 2 tells of the
+//! one lawful history of its scenario, whatever its acts are.
 #![tactic(auto)]
 
 ghost use Rattle.std.specs.Prelude.{◌≡◌, IfOk};
 ghost use Rattle.lawful_history.specs.Sides.{world_of};
-ghost use Rattle.lawful_history.specs.Lawful.{IsLawful};
+ghost use Rattle.lawful_history.specs.Sessions.{told_in};
+ghost use Rattle.lawful_history.specs.Lawful.{IsLawfulIn};
 ghost use Rattle.lawful_history.specs.History.{history};
 
 #[cfg(test)]
@@ -18,6 +19,9 @@ use scenario_text::{Act, Scenario};
 use stage::Stage;
 use std::alloc::Global;
 
+/// The version of the records that are made.
+const VERSION: u32 = 2;
+
 /// How many turns the acts ask for. Each has a line at least, and most have just one.
 fn turn_count(acts: &[Act]) -> usize {
     let mut turns: usize = 0;
@@ -29,19 +33,21 @@ fn turn_count(acts: &[Act]) -> usize {
     turns
 }
 
-/// The scenario with its one lawful history. NoMemory comes only where memory ran out.
+/// The scenario with its one lawful history, as a record of version 2 tells it. NoMemory comes only where memory ran out.
 pub fn simulate(alloc: Global, scenario: Scenario) -> Result<Trace, NoMemory>
     ensures scenario { IfOk result (λ trace. trace.scenario ≡ scenario) }
-    ensures history { IfOk result (λ trace. trace.lines ≡ history (world_of scenario)) }
-    ensures lawful { IfOk result (λ trace. IsLawful (world_of scenario) trace.lines) }
+    ensures version { IfOk result (λ trace. trace.version ≡ 2) }
+    ensures history { IfOk result (λ trace. trace.lines ≡ told_in (world_of scenario) 2 (history (world_of scenario))) }
+    ensures lawful { IfOk result (λ trace. IsLawfulIn (world_of scenario) 2 trace.lines) }
 {
     history_is_lawful();
-    let mut stage = Stage::new(alloc, &scenario)?;
+    let mut stage = Stage::new(alloc, &scenario, VERSION)?;
     stage.reserve(turn_count(scenario.acts.items()))?;
     for act in scenario.acts.items() {
         stage.act(act)?;
     }
     Ok(Trace {
+        version: VERSION,
         lines: stage.into_lines(),
         scenario,
     })

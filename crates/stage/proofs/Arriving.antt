@@ -1,6 +1,6 @@
 -- Interrupts that come in their order, and what a read gave.
-use Rattle.std.proofs.Common.{◌≡◌, ℕ, ◌+◌, ◌<◌, List, [], ◌∷◌, ◌++◌, length, take, get_or, arith, refl, sym, ◌∙◌, ap, subst, append_assoc}
-use Rattle.std.specs.Prelude.{◌==◌, if◌then◌else◌, Option, Some, None, true, reverse, slice_get, slice_index, slice_set}
+use Rattle.std.proofs.Common.{◌≡◌, ℕ, ◌+◌, ◌-◌, ◌<◌, length-set, Bool, false, List, [], ◌∷◌, ◌++◌, length, take, get_or, arith, refl, sym, ◌∙◌, ap, subst, append_assoc}
+use Rattle.std.specs.Prelude.{◌==◌, if◌then◌else◌, Option, Some, None, true, nat_lt, reverse, slice_index_or, slice_get, slice_index, slice_set}
 use Rattle.std.proofs.lemmas.Bool.Decides.{nat_tests}
 use Rattle.std.proofs.lemmas.Grind.{common_steps}
 use Rattle.std.proofs.lemmas.Option.{gets}
@@ -13,22 +13,11 @@ use Rattle.lawful_history.specs.Memory.{value_after, last_write}
 use Rattle.doorbell_irq.specs.Events as device
 use Rattle.doorbell_irq.specs.DeviceRules.{effect_of}
 use Rattle.doorbell_irq.specs.Stands.{Stands}
-use Rattle.lawful_history.specs.Device.{devices_of, told_by, device_events, lost_by, arrival, arrived, arrivals_by}
-use Rattle.std.proofs.lemmas.List.Folds.{list_all-append}
-use Rattle.lawful_history.specs.Frames.{has_frame, HaveFrames}
+use Rattle.lawful_history.specs.Device.{devices_of, told_by, device_events, lost_by, lost_count, arrival, arrived, arrivals_by}
+use Rattle.lawful_history.specs.Frames.{has_frame}
+use Rattle.stage.specs.Log.{Output, Tells}
 use Rattle.stage.specs.Scene.{Holds, SceneAfter, IsRemark, BringsBy}
 use Rattle.stage.specs.declared.scene.Scene.{Scene}
-
-frames-append : (xs ys : List Line) → HaveFrames xs → HaveFrames ys → HaveFrames (xs ++ ys)
-frames-append xs ys have more = list_all-append has_frame xs ys ∙ rw (have, more) refl
-
-one_frame : (line : Line) → has_frame line ≡ true → HaveFrames (line ∷ [])
-one_frame line frame = rw frame refl
-
--- one line more, told after those that are kept
-told_lines : (drained lines lines' past : List Line) (line : Line) → drained ++ lines ≡ reverse past → lines' ≡ lines ++ line ∷ [] → drained ++ lines' ≡ reverse (line ∷ past)
-told_lines drained lines lines' past line after put =
-    ap (λ ls. drained ++ ls) put ∙ sym (append_assoc drained lines (line ∷ [])) ∙ ap (λ ls. ls ++ line ∷ []) after ∙ sym (reverse-append (line ∷ []) past)
 
 -- one line more, told after some new lines
 pub after_more : (new : List Line) (line : Line) (past : List Line) → reverse (line ∷ new) ++ past ≡ reverse new ++ (line ∷ past)
@@ -53,16 +42,15 @@ one_arrived past losses ds i d inside is =
 pub known_at : (words : List ℕ) (value : ℕ) (past : List Line) (word : ℕ) → Holds words past → slice_get words word ≡ Some value → value ≡ last_write past word
 known_at words value past word holds at = grind (arith, common_steps, gets, holds word)
 
-pub read_after : (world : World) (drained past : List Line) (losses : ℕ → ℕ) (s s' : Scene) (me word value : ℕ) → SceneAfter world drained past losses s → slice_get s.region.words word ≡ Some value →
-    s'.region ≡ s.region → s'.device ≡ s.device → s'.unspent ≡ s.unspent → s'.lines ≡ s.lines ++ line.Read me word value ∷ [] →
-    (value ≡ last_write past word) × SceneAfter world drained (line.Read me word value ∷ past) losses s'
-read_after world drained past losses s s' me word value after at region device unspent lines = (
+pub read_after : (world : World) (output : Output) (past : List Line) (losses : ℕ → ℕ) (s s' : Scene) (me word value : ℕ) → SceneAfter world output past losses s → slice_get s.region.words word ≡ Some value →
+    s'.region ≡ s.region → s'.device ≡ s.device → s'.unspent ≡ s.unspent → Tells (line.Read me word value) s.log s'.log →
+    (value ≡ last_write past word) × SceneAfter world output (line.Read me word value ∷ past) losses s'
+read_after world output past losses s s' me word value after at region device unspent tells = (
   known_at s.region.words value past word after.words at,
   record {
     is_world = after.is_world;
     shape = ap (λ r. r.shape) region ∙ after.shape;
-    lines = told_lines drained s.lines s'.lines past (line.Read me word value) after.lines lines;
-    frames = rw lines (frames-append s.lines (line.Read me word value ∷ []) after.frames refl);
+    log = tells world output past refl after.log;
     words = rw region after.words;
     devices = rw device after.devices;
     unspent = λ p. let u = after.unspent p in rw unspent (omega arith);
@@ -70,15 +58,63 @@ read_after world drained past losses s s' me word value after at region device u
   },
 )
 
+-- an interrupt that comes, or is lost on its way
+came : (b : Bool) (q vector : ℕ) → b ≡ false → (if b then line.Lost q vector else line.Interrupt q vector) ≡ line.Interrupt q vector
+came true q vector is = absurd (cc)
+came false q vector is = refl
+
+went_lost : (b : Bool) (q vector : ℕ) → b ≡ true → (if b then line.Lost q vector else line.Interrupt q vector) ≡ line.Lost q vector
+went_lost true q vector is = refl
+went_lost false q vector is = absurd (cc)
+
+loses_less : (lost all left : ℕ) → left + lost ≡ all → 0 < left → nat_lt lost all ≡ true
+loses_less lost all left sum some = grind (arith, nat_tests)
+
+loses_no_more : (lost all left : ℕ) → left + lost ≡ all → left ≡ 0 → nat_lt lost all ≡ false
+loses_no_more lost all left sum none = grind (arith, nat_tests)
+
+left_less : (unspent : List ℕ) (q p lost : ℕ) → q < length unspent → 0 < slice_index_or unspent q 0 →
+    slice_index_or (slice_set unspent q (slice_index_or unspent q 0 - 1)) p 0 + ((if q == p then 1 else 0) + lost) ≡ slice_index_or unspent p 0 + lost
+left_less unspent q p lost inside some = grind (arith, common_steps, nat_tests)
+
+pub comes : (world : World) (output : Output) (past : List Line) (losses : ℕ → ℕ) (s s' : Scene) (d : Delivery) → SceneAfter world output past losses s → slice_index_or s.unspent d.peer 0 ≡ 0 → s'.region ≡ s.region → s'.device ≡ s.device →
+    s'.unspent ≡ s.unspent → Tells (line.Interrupt d.peer d.vector) s.log s'.log → SceneAfter world output (arrival past losses d ∷ past) losses s'
+comes world output past losses s s' d after none region device unspent tells =
+    let is : arrival past losses d ≡ line.Interrupt d.peer d.vector = came _ d.peer d.vector (loses_no_more (lost_count past d.peer) (losses d.peer) (slice_index_or s.unspent d.peer 0) (after.unspent d.peer) none) in
+    rw is (record {
+      is_world = after.is_world;
+      shape = ap (λ r. r.shape) region ∙ after.shape;
+      log = tells world output past refl after.log;
+      words = rw region after.words;
+      devices = rw device after.devices;
+      unspent = λ p. let u = after.unspent p in rw unspent (omega arith);
+      seats = rw unspent after.seats;
+    })
+
+pub is_lost : (world : World) (output : Output) (past : List Line) (losses : ℕ → ℕ) (s s' : Scene) (d : Delivery) → SceneAfter world output past losses s → d.peer < 8 → 0 < slice_index_or s.unspent d.peer 0 → s'.region ≡ s.region →
+    s'.device ≡ s.device → s'.unspent ≡ slice_set s.unspent d.peer (slice_index_or s.unspent d.peer 0 - 1) → Tells (line.Lost d.peer d.vector) s.log s'.log →
+    SceneAfter world output (arrival past losses d ∷ past) losses s'
+is_lost world output past losses s s' d after few some region device unspent tells =
+    let is : arrival past losses d ≡ line.Lost d.peer d.vector = went_lost _ d.peer d.vector (loses_less (lost_count past d.peer) (losses d.peer) (slice_index_or s.unspent d.peer 0) (after.unspent d.peer) some) in
+    let seats = after.seats in
+    rw is (record {
+      is_world = after.is_world;
+      shape = ap (λ r. r.shape) region ∙ after.shape;
+      log = tells world output past refl after.log;
+      words = rw region after.words;
+      devices = rw device after.devices;
+      unspent = λ p. rw unspent (left_less s.unspent d.peer p (lost_count past p) (omega arith) some ∙ after.unspent p);
+      seats = ap length unspent ∙ length-set s.unspent d.peer (slice_index_or s.unspent d.peer 0 - 1) ∙ after.seats;
+    })
+
 -- a line that tells the devices something, after which the words and the devices stand
-pub told_after : (world : World) (drained past : List Line) (losses : ℕ → ℕ) (s s' : Scene) (line : Line) (event : device.Event) → SceneAfter world drained past losses s → told_by line ≡ Some event → ((p : ℕ) → lost_by line p ≡ 0) →
+pub told_after : (world : World) (output : Output) (past : List Line) (losses : ℕ → ℕ) (s s' : Scene) (line : Line) (event : device.Event) → SceneAfter world output past losses s → told_by line ≡ Some event → ((p : ℕ) → lost_by line p ≡ 0) →
     has_frame line ≡ true → Holds s'.region.words (line ∷ past) → s'.region.shape ≡ s.region.shape → Stands (devices_of world) (event ∷ device_events past) s'.device → s'.unspent ≡ s.unspent →
-    s'.lines ≡ s.lines ++ line ∷ [] → SceneAfter world drained (line ∷ past) losses s'
-told_after world drained past losses s s' line event after told lost frame words shape devices unspent lines = record {
+    Tells line s.log s'.log → SceneAfter world output (line ∷ past) losses s'
+told_after world output past losses s s' line event after told lost frame words shape devices unspent tells = record {
   is_world = after.is_world;
   shape = shape ∙ after.shape;
-  lines = told_lines drained s.lines s'.lines past line after.lines lines;
-  frames = rw lines (frames-append s.lines (line ∷ []) after.frames (one_frame line frame));
+  log = tells world output past frame after.log;
   words = words;
   devices = rw told devices;
   unspent = λ p. let u = after.unspent p in let none = lost p in rw unspent (omega arith);
@@ -86,7 +122,7 @@ told_after world drained past losses s s' line event after told lost frame words
 }
 
 -- a word after a write to a word
-written : (words : List ℕ) (past : List Line) (at value word : ℕ) → word < length (slice_set words at value) → Holds words past →
+pub written : (words : List ℕ) (past : List Line) (at value word : ℕ) → word < length (slice_set words at value) → Holds words past →
     slice_index (slice_set words at value) word ≡ (if at == word then value else last_write past word)
 written words past at value word inside holds = grind (arith, common_steps, nat_tests, holds word)
 
@@ -105,13 +141,12 @@ come_after P world past losses line (Some event) deliveries brings holds =
     subst P (ap (λ ds. reverse (arrived (line ∷ past) losses ds) ++ (line ∷ past)) brings ∙ sym (after_more (arrived (line ∷ past) losses (effect_of (devices_of world) (device_events past) event).deliveries.items) line past)) holds
 
 -- a line that changes nothing, told after the others
-pub remarked : (world : World) (drained past : List Line) (losses : ℕ → ℕ) (s s' : Scene) (line : Line) → SceneAfter world drained past losses s → IsRemark line →
-    s'.region ≡ s.region → s'.device ≡ s.device → s'.unspent ≡ s.unspent → s'.lines ≡ s.lines ++ line ∷ [] → SceneAfter world drained (line ∷ past) losses s'
-remarked world drained past losses s s' line after remark region device unspent lines = record {
+pub remarked : (world : World) (output : Output) (past : List Line) (losses : ℕ → ℕ) (s s' : Scene) (line : Line) → SceneAfter world output past losses s → IsRemark line →
+    s'.region ≡ s.region → s'.device ≡ s.device → s'.unspent ≡ s.unspent → Tells line s.log s'.log → SceneAfter world output (line ∷ past) losses s'
+remarked world output past losses s s' line after remark region device unspent tells = record {
   is_world = after.is_world;
   shape = ap (λ r. r.shape) region ∙ after.shape;
-  lines = told_lines drained s.lines s'.lines past line after.lines lines;
-  frames = rw lines (frames-append s.lines (line ∷ []) after.frames (one_frame line remark.frame));
+  log = tells world output past remark.frame after.log;
   words = rw region (λ word inside. after.words word inside ∙ ap (λ t. value_after t word (last_write past word)) (sym remark.touch));
   devices = rw (device, remark.told) after.devices;
   unspent = λ p. let u = after.unspent p in let none = remark.lost p in rw unspent (omega arith);

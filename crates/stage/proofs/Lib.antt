@@ -1,4 +1,6 @@
+pub mod Logging
 pub mod Arriving
+pub mod Poking
 pub mod AtPlaces
 pub mod Steps
 pub mod Openings

@@ -3,8 +3,8 @@ use Rattle.std.proofs.Common.{◌≡◌, ◌≢◌, ℕ, zero, suc, ◌<◌, ◌
 use Rattle.std.specs.Prelude.{◌==◌, ◌&&◌, Result, Ok, Err, OnOk, not, nat_lt, slice_index_or, if◌then◌else◌, Option, Some, None, reverse, slice_get, slice_set}
 use Rattle.std.specs.List.{AllByRecursion}
 use Rattle.std.proofs.lemmas.Bool.Decides.{nat_tests}
-use Rattle.std.proofs.lemmas.Option.{slice_get-get_or, slice_get_within, same_Some}
-use Rattle.std.proofs.lemmas.List.{reverse-reverse, append-nil, take_more, take_all, get_or-set_same, get_or-set_other, get_or-replicate, length-append, length-replicate, length-take}
+use Rattle.std.proofs.lemmas.Option.{slice_get-get_or, same_Some}
+use Rattle.std.proofs.lemmas.List.{append-nil, take_more, take_all, get_or-set_same, get_or-set_other, length-append, length-replicate, length-take}
 use Rattle.std.proofs.lemmas.List.Concat.{flat_map-append}
 use Rattle.doorbell_irq.specs.Events as device
 use Rattle.scenario_text.specs.declared.acts.Act.{Act}
@@ -24,11 +24,14 @@ use Rattle.lawful_history.specs.Device.{arrivals, step_interrupts, device_lines,
 use Rattle.lawful_history.specs.Peers.{Peer, at_start}
 use Rattle.lawful_history.specs.History.{Moment, may_write, acted_step, peer_at, peer_after, happens, run, beginning, history}
 use Rattle.lawful_history.proofs.Owners.{is_same, is_other}
+use Rattle.lawful_history.proofs.Few.{sessions_few}
+use Rattle.lawful_history.specs.Sessions.{told_in}
 use Rattle.lawful_history.proofs.There.{there_below, act_there}
 use Rattle.lawful_history.proofs.Exists.{IsFit, Good, good_on, good_at_first}
+use Rattle.stage.specs.Log.{Output, no_output, given, IsLogOf}
 use Rattle.stage.specs.Scene.{SceneAfter, IsSeated, told}
 use Rattle.stage.specs.Seats.{SeatStands, SeatFits, is_honest}
-use Rattle.stage.specs.Stage.{AreAtStart, IsLinked, moment_of, RunsTo, IsAct, Happens, Plays}
+use Rattle.stage.specs.Stage.{AreAtStart, IsLinked, moment_of, kept, RunsTo, IsAct, Happens, Plays}
 use Rattle.stage.proofs.Openings.{link_fits}
 use Rattle.stage.specs.declared.seat.Seat.{Seat}
 use Rattle.stage.specs.declared.seat.Seat.TheVariants.{Honest, Storm, Idle}
@@ -92,21 +95,6 @@ one_seat world count seats seat start stands linked =
       linked = λ p found at. (last_or seats seat p found at (λ q s. is_honest s ≡ is_link world q) start.linked (rw length_is linked));
     }
 
--- a stage at the start
-pub begun : (world : World) (s : Stage) → AreAtStart world world.geometry.peers s.seats.items → s.sizes.geometry ≡ world.geometry → s.sizes.queue ≡ world.queue → SceneAfter world [] [] (λ p. 0) s.scene →
-    ((p : ℕ) → p < world.geometry.peers → IsSeated s.scene p) → RunsTo world [] [] s
-begun world s start geometry queue after seated = record {
-  there = tt;
-  geometry = geometry;
-  queue = queue;
-  after = after;
-  count = start.length_is;
-  seated = seated;
-  stands = λ p seat at. let within = slice_get_within s.seats.items p seat at in let count = start.length_is in
-      subst (λ (x : Peer). SeatStands (who_of world p) x seat) (sym (get_or-replicate world.geometry.peers p at_start at_start (omega arith))) (start.stands p seat at);
-  linked = start.linked;
-}
-
 -- the lines after an event in which this step was made
 abbrev pub past_of : World → List Line → (ℕ → ℕ) → Event → Option Step → List Line
 past_of world past losses event went = reverse (lines_by event went (device_lines world past losses event went)) ++ past
@@ -116,18 +104,18 @@ abbrev pub past_after : World → Moment → Event → List Line
 past_after world moment event = (happens world moment event).past
 
 -- one event of a peer, after which its seat and the scene stand
-pub record OneMore (world : World) (drained : List Line) (moment : Moment) (event : Event) (s s' : Stage) (seat : Seat) : Type 0 where
+pub record OneMore (world : World) (output : Output) (moment : Moment) (event : Event) (s s' : Stage) (seat : Seat) : Type 0 where
   pub items : s'.seats.items ≡ slice_set s.seats.items (event_peer event) seat
   pub sizes : s'.sizes ≡ s.sizes
-  pub after : SceneAfter world drained (past_after world moment event) (losses_with event moment.losses) s'.scene
+  pub after : SceneAfter world output (past_after world moment event) (losses_with event moment.losses) s'.scene
   pub seated : (p : ℕ) → IsSeated s.scene p → IsSeated s'.scene p
   pub stands : SeatStands (who_of world (event_peer event)) (peer_after world moment event) seat
   pub linked : is_honest seat ≡ is_link world (event_peer event)
 
-stands_on : (world : World) (drained : List Line) (events : List Event) (event : Event) (s s' : Stage) (seat : Seat) → OneMore world drained (moment_of world events) event s s' seat → event_peer event < world.geometry.peers → RunsTo world drained events s →
+stands_on : (world : World) (output : Output) (events : List Event) (event : Event) (s s' : Stage) (seat : Seat) → OneMore world output (moment_of world events) event s s' seat → event_peer event < world.geometry.peers → RunsTo world output events s →
     (k : ℕ) (found : Seat) (b : Bool) → (event_peer event == k) ≡ b → slice_get (slice_set s.seats.items (event_peer event) seat) k ≡ Some found →
     SeatStands (who_of world k) (peer_at (happens world (moment_of world events) event) k) found × (is_honest found ≡ is_link world k)
-stands_on world drained events event s s' seat more inside runs k found true is at =
+stands_on world output events event s s' seat more inside runs k found true is at =
     let moment = moment_of world events in
     let p = event_peer event in
     let same : p ≡ k = is_same p k is in
@@ -136,7 +124,7 @@ stands_on world drained events event s s' seat more inside runs k found true is 
     let P : ℕ → Seat → Type 0 = λ q x. SeatStands (who_of world q) (peer_at (happens world moment event) q) x × (is_honest x ≡ is_link world q) in
     let now : P p seat = (subst (λ (x : Peer). SeatStands (who_of world p) x seat) (sym here) more.stands, more.linked) in
     subst (λ (q : ℕ). P q found) same (subst (λ (x : Seat). P p x) seat_is now)
-stands_on world drained events event s s' seat more inside runs k found false is at =
+stands_on world output events event s s' seat more inside runs k found false is at =
     let moment = moment_of world events in
     let p = event_peer event in
     let other : k ≢ p = is_other p k is in
@@ -144,19 +132,19 @@ stands_on world drained events event s s' seat more inside runs k found false is
     let old : slice_get s.seats.items k ≡ Some found = sym (set_beside s.seats.items p k seat other) ∙ at in
     (subst (λ (x : Peer). SeatStands (who_of world k) x found) (sym here) (runs.stands k found old), runs.linked k found old)
 
-pub goes_on : (world : World) (drained : List Line) (events : List Event) (event : Event) (s s' : Stage) (seat : Seat) → IsThere world event → OneMore world drained (moment_of world events) event s s' seat →
-    RunsTo world drained events s → RunsTo world drained (events ++ event ∷ []) s'
-goes_on world drained events event s s' seat there more runs =
+pub goes_on : (world : World) (output : Output) (events : List Event) (event : Event) (s s' : Stage) (seat : Seat) → IsThere world event → OneMore world output (moment_of world events) event s s' seat →
+    RunsTo world output events s → RunsTo world output (events ++ event ∷ []) s'
+goes_on world output events event s s' seat there more runs =
     let moment = moment_of world events in
     let inside = there_below world event there in
     let next : moment_of world (events ++ event ∷ []) ≡ happens world moment event = run-snoc world events event (beginning world) in
     let at = λ (k : ℕ) (found : Seat) (is : slice_get s'.seats.items k ≡ Some found).
-    stands_on world drained events event s s' seat more inside runs k found (event_peer event == k) refl (subst (λ (xs : List Seat). slice_get xs k ≡ Some found) more.items is) in
+    stands_on world output events event s s' seat more inside runs k found (event_peer event == k) refl (subst (λ (xs : List Seat). slice_get xs k ≡ Some found) more.items is) in
     record {
       there = there-snoc (IsThere world) events event runs.there there;
       geometry = ap (λ g. g.geometry) more.sizes ∙ runs.geometry;
       queue = ap (λ g. g.queue) more.sizes ∙ runs.queue;
-      after = subst (λ (m : Moment). SceneAfter world drained m.past m.losses s'.scene) (sym next) more.after;
+      after = subst (λ (m : Moment). SceneAfter world output m.past m.losses s'.scene) (sym next) more.after;
       count = ap length more.items ∙ length-set s.seats.items (event_peer event) seat ∙ runs.count;
       seated = λ p below. more.seated p (runs.seated p below);
       stands = λ k found is. subst (λ (m : Moment). SeatStands (who_of world k) (peer_at m k) found) (sym next) (at k found is).0;
@@ -169,17 +157,17 @@ get_set [] p x is = absurd (cc)
 get_set (y ∷ xs) zero x is = ap (λ (z : Seat). z ∷ xs) (sym (same_Some y x is))
 get_set (y ∷ xs) (suc p) x is = ap (λ zs. y ∷ zs) (get_set xs p x is)
 
-pub scene_goes_on : (world : World) (drained : List Line) (events : List Event) (event : Event) (s s' : Stage) → IsThere world event → s'.seats ≡ s.seats → s'.sizes ≡ s.sizes →
+pub scene_goes_on : (world : World) (output : Output) (events : List Event) (event : Event) (s s' : Stage) → IsThere world event → s'.seats ≡ s.seats → s'.sizes ≡ s.sizes →
     peer_after world (moment_of world events) event ≡ peer_at (moment_of world events) (event_peer event) →
-    SceneAfter world drained (past_after world (moment_of world events) event) (losses_with event (moment_of world events).losses) s'.scene →
-    ((p : ℕ) → IsSeated s.scene p → IsSeated s'.scene p) → RunsTo world drained events s → RunsTo world drained (events ++ event ∷ []) s'
-scene_goes_on world drained events event s s' there seats sizes same after seated runs =
+    SceneAfter world output (past_after world (moment_of world events) event) (losses_with event (moment_of world events).losses) s'.scene →
+    ((p : ℕ) → IsSeated s.scene p → IsSeated s'.scene p) → RunsTo world output events s → RunsTo world output (events ++ event ∷ []) s'
+scene_goes_on world output events event s s' there seats sizes same after seated runs =
     let p = event_peer event in
     let below = there_below world event there in
     let count = runs.count in
     let seat = get_or s.seats.items p Idle in
     let here : slice_get s.seats.items p ≡ Some seat = slice_get-get_or s.seats.items p Idle (omega arith) in
-    goes_on world drained events event s s' seat there (record {
+    goes_on world output events event s s' seat there (record {
       items = ap (λ v. v.items) seats ∙ sym (get_set s.seats.items p seat here);
       sizes = sizes;
       after = after;
@@ -191,27 +179,27 @@ scene_goes_on world drained events event s s' there seats sizes same after seate
 -- an event that changes the scene alone happens, where its call succeeds
 pub scene_happens : {T E : Type 0} (r : Result T E) (event : Event) (s s' : Stage) → s'.seats ≡ s.seats → s'.sizes ≡ s.sizes →
     ((world : World) (moment : Moment) → peer_after world moment event ≡ peer_at moment (event_peer event)) →
-    ((world : World) (drained : List Line) (moment : Moment) → SceneAfter world drained moment.past moment.losses s.scene →
-    OnOk r (SceneAfter world drained (past_after world moment event) (losses_with event moment.losses) s'.scene)) →
+    ((world : World) (output : Output) (moment : Moment) → SceneAfter world output moment.past moment.losses s.scene →
+    OnOk r (SceneAfter world output (past_after world moment event) (losses_with event moment.losses) s'.scene)) →
     ((p : ℕ) → IsSeated s.scene p → IsSeated s'.scene p) → OnOk r (Happens event s s')
-scene_happens (Ok v) event s s' seats sizes same on seated = λ world drained events there runs.
-    scene_goes_on world drained events event s s' there seats sizes (same world (moment_of world events)) (on world drained (moment_of world events) runs.after) seated runs
+scene_happens (Ok v) event s s' seats sizes same on seated = λ world output events there runs.
+    scene_goes_on world output events event s s' there seats sizes (same world (moment_of world events)) (on world output (moment_of world events) runs.after) seated runs
 scene_happens (Err e) event s s' seats sizes same on seated = tt
 
 -- an event of a seat alone, or of a seat and the scene
-pub seat_goes_on : (world : World) (drained : List Line) (events : List Event) (event : Event) (s s' : Stage) (old seat : Seat) → IsThere world event → old ≡ get_or s.seats.items (event_peer event) old →
+pub seat_goes_on : (world : World) (output : Output) (events : List Event) (event : Event) (s s' : Stage) (old seat : Seat) → IsThere world event → old ≡ get_or s.seats.items (event_peer event) old →
     s'.seats.items ≡ slice_set s.seats.items (event_peer event) seat → s'.sizes ≡ s.sizes →
     (SeatStands (who_of world (event_peer event)) (peer_at (moment_of world events) (event_peer event)) old →
     SeatStands (who_of world (event_peer event)) (peer_after world (moment_of world events) event) seat) →
     (is_honest old ≡ is_link world (event_peer event) → is_honest seat ≡ is_link world (event_peer event)) →
-    SceneAfter world drained (past_after world (moment_of world events) event) (losses_with event (moment_of world events).losses) s'.scene →
-    ((p : ℕ) → IsSeated s.scene p → IsSeated s'.scene p) → RunsTo world drained events s → RunsTo world drained (events ++ event ∷ []) s'
-seat_goes_on world drained events event s s' old seat there is items sizes stands kind after seated runs =
+    SceneAfter world output (past_after world (moment_of world events) event) (losses_with event (moment_of world events).losses) s'.scene →
+    ((p : ℕ) → IsSeated s.scene p → IsSeated s'.scene p) → RunsTo world output events s → RunsTo world output (events ++ event ∷ []) s'
+seat_goes_on world output events event s s' old seat there is items sizes stands kind after seated runs =
     let p = event_peer event in
     let below = there_below world event there in
     let count = runs.count in
     let here : slice_get s.seats.items p ≡ Some old = slice_get-get_or s.seats.items p old (omega arith) ∙ ap Some (sym is) in
-    goes_on world drained events event s s' seat there (record {
+    goes_on world output events event s s' seat there (record {
       items = items;
       sizes = sizes;
       after = after;
@@ -247,8 +235,8 @@ honest_link (Honest link) is = (link, refl)
 honest_link (Storm x) is = absurd (cc)
 honest_link Idle is = absurd (cc)
 
-pub linked_there : (world : World) (drained : List Line) (events : List Event) (s : Stage) (p : ℕ) → RunsTo world drained events s → p < world.geometry.peers → is_link world p ≡ true → IsLinked s.seats.items p
-linked_there world drained events s p runs below is =
+pub linked_there : (world : World) (output : Output) (events : List Event) (s : Stage) (p : ℕ) → RunsTo world output events s → p < world.geometry.peers → is_link world p ≡ true → IsLinked s.seats.items p
+linked_there world output events s p runs below is =
     let seat = get_or s.seats.items p Idle in
     let count = runs.count in
     let here : slice_get s.seats.items p ≡ Some seat = slice_get-get_or s.seats.items p Idle (omega arith) in
@@ -260,26 +248,32 @@ pub schedule_more : (acts : List Act) (i : ℕ) (act : Act) → i < length acts 
 schedule_more acts i act inside is =
     ap (λ (xs : List Act). schedule xs) (take_more acts i act inside ∙ ap (λ (a : Act). take i acts ++ a ∷ []) (sym is)) ∙ flat_map-append events_of (take i acts) (act ∷ []) ∙ ap (λ es. schedule (take i acts) ++ es) (append-nil (events_of act))
 
-pub one_act : (world : World) (drained : List Line) (acts : List Act) (i : ℕ) (act : Act) (s : Stage) → i < length acts → act ≡ get_or acts i act → RunsTo world drained (schedule (take i acts) ++ events_of act) s → RunsTo world drained (schedule (take (i + 1) acts)) s
-one_act world drained acts i act s inside is runs = subst (λ (es : List Event). RunsTo world drained es s) (sym (schedule_more acts i act inside is)) runs
+pub one_act : (world : World) (output : Output) (acts : List Act) (i : ℕ) (act : Act) (s : Stage) → i < length acts → act ≡ get_or acts i act → RunsTo world output (schedule (take i acts) ++ events_of act) s → RunsTo world output (schedule (take (i + 1) acts)) s
+one_act world output acts i act s inside is runs = subst (λ (es : List Event). RunsTo world output es s) (sym (schedule_more acts i act inside is)) runs
 
--- the lines of a stage that took all acts are the history
-pub whole_history : (world : World) (i : ℕ) (s : Stage) → length world.acts ≤ i → RunsTo world [] (schedule (take i world.acts)) s → s.scene.lines ≡ history world
-whole_history world i s whole runs =
-    runs.after.lines ∙ ap (λ (xs : List Act). reverse (moment_of world (schedule xs)).past) (take_all i world.acts whole)
+-- on its way through a scenario the stage has drained and keeps what a record tells of the history so far
+pub told_so_far : (world : World) (output : Output) (events more : List Event) (s : Stage) → RunsTo world output events s → schedule world.acts ≡ events ++ more →
+    output.drained ++ kept s ≡ told_in world output.version (reverse (moment_of world events).past)
+told_so_far world output events more s runs all = runs.after.log.lines (sessions_few world events more runs.after.is_world all)
+
+-- the lines of a stage that took all acts are what a record tells of the history
+pub whole_history : (world : World) (version i : ℕ) (s : Stage) → length world.acts ≤ i → RunsTo world (no_output version) (schedule (take i world.acts)) s → kept s ≡ told_in world version (history world)
+whole_history world version i s whole runs =
+    let all = take_all i world.acts whole in
+    told_so_far world (no_output version) (schedule (take i world.acts)) [] s runs (sym (append-nil (schedule (take i world.acts)) ∙ ap schedule all))
+    ∙ ap (λ (xs : List Act). told_in world version (reverse (moment_of world (schedule xs)).past)) all
 
 -- the lines that are kept so far are drained
-pub drained_on : (world : World) (drained : List Line) (events : List Event) (s s' : Stage) → s'.sizes ≡ s.sizes → s'.seats.items ≡ s.seats.items → s'.scene.region ≡ s.scene.region → s'.scene.device ≡ s.scene.device →
-    s'.scene.unspent ≡ s.scene.unspent → s'.scene.lines ≡ [] → RunsTo world drained events s → RunsTo world (drained ++ s.scene.lines) events s'
-drained_on world drained events s s' sizes seats region device unspent lines runs = record {
+pub drained_on : (world : World) (output : Output) (events : List Event) (s s' : Stage) → s'.sizes ≡ s.sizes → s'.seats.items ≡ s.seats.items → s'.scene.region ≡ s.scene.region → s'.scene.device ≡ s.scene.device →
+    s'.scene.unspent ≡ s.scene.unspent → ((w : World) (o : Output) (past : List Line) → IsLogOf w o past s.scene.log → IsLogOf w (given o (kept s)) past s'.scene.log) → RunsTo world output events s → RunsTo world (given output (kept s)) events s'
+drained_on world output events s s' sizes seats region device unspent log runs = record {
   there = runs.there;
   geometry = ap (λ g. g.geometry) sizes ∙ runs.geometry;
   queue = ap (λ g. g.queue) sizes ∙ runs.queue;
   after = record {
     is_world = runs.after.is_world;
     shape = ap (λ r. r.shape) region ∙ runs.after.shape;
-    lines = ap (λ ls. (drained ++ s.scene.lines) ++ ls) lines ∙ append-nil (drained ++ s.scene.lines) ∙ runs.after.lines;
-    frames = rw lines refl;
+    log = log world output (moment_of world events).past runs.after.log;
     words = rw region runs.after.words;
     devices = rw device runs.after.devices;
     unspent = λ p. let u = runs.after.unspent p in rw unspent u;
@@ -323,11 +317,11 @@ act_fits world act is allowed = act_there world act [] is.geometry.two_peers all
 
 -- an act of one event is played where its event happens
 pub played_on : (a x : Act) (event : Event) (old new : Stage) → a ≡ x → events_of x ≡ event ∷ [] → Happens event old new → Plays a old new
-played_on a x event old new is one happens = λ world drained events allowed runs.
+played_on a x event old new is one happens = λ world output events allowed runs.
     let fits = act_fits world x runs.after.is_world (subst (λ (b : Act). IsAct world b) is allowed) in
     let there : AllByRecursion (IsThere world) ((event ∷ []) ++ []) = subst (λ (es : List Event). AllByRecursion (IsThere world) (es ++ [])) one fits in
-    subst (λ (b : Act). RunsTo world drained (events ++ events_of b) new) (sym is)
-    (subst (λ (es : List Event). RunsTo world drained (events ++ es) new) (sym one) (happens world drained events there.0 runs))
+    subst (λ (b : Act). RunsTo world output (events ++ events_of b) new) (sym is)
+    (subst (λ (es : List Event). RunsTo world output (events ++ es) new) (sym one) (happens world output events there.0 runs))
 
 pub played : {T E : Type 0} (result : Result T E) (a x : Act) (event : Event) (old new : Stage) → a ≡ x → events_of x ≡ event ∷ [] → OnOk result (Happens event old new) → OnOk result (Plays a old new)
 played (Ok t) a x event old new is one happens = played_on a x event old new is one happens
@@ -335,13 +329,13 @@ played (Err e) a x event old new is one happens = tt
 
 -- so are turns
 turns_on : (a : Act) (peer steps : ℕ) (old new : Stage) → a ≡ act.Turn peer steps →
-    ((world : World) (drained : List Line) (events : List Event) → IsThere world (Turned peer) → RunsTo world drained events old → RunsTo world drained (events ++ replicate steps (Turned peer)) new) → Plays a old new
-turns_on a peer steps old new is turns = λ world drained events allowed runs.
+    ((world : World) (output : Output) (events : List Event) → IsThere world (Turned peer) → RunsTo world output events old → RunsTo world output (events ++ replicate steps (Turned peer)) new) → Plays a old new
+turns_on a peer steps old new is turns = λ world output events allowed runs.
     let here : IsAct world (act.Turn peer steps) = subst (λ (b : Act). IsAct world b) is allowed in
-    subst (λ (b : Act). RunsTo world drained (events ++ events_of b) new) (sym is) (turns world drained events (below_peers peer world.geometry.peers here.1.peer) runs)
+    subst (λ (b : Act). RunsTo world output (events ++ events_of b) new) (sym is) (turns world output events (below_peers peer world.geometry.peers here.1.peer) runs)
 
 pub played_turns : {T E : Type 0} (result : Result T E) (a : Act) (peer steps : ℕ) (old new : Stage) → a ≡ act.Turn peer steps →
-    OnOk result ((world : World) (drained : List Line) (events : List Event) → IsThere world (Turned peer) → RunsTo world drained events old → RunsTo world drained (events ++ replicate steps (Turned peer)) new) →
+    OnOk result ((world : World) (output : Output) (events : List Event) → IsThere world (Turned peer) → RunsTo world output events old → RunsTo world output (events ++ replicate steps (Turned peer)) new) →
     OnOk result (Plays a old new)
 played_turns (Ok t) a peer steps old new is turns = turns_on a peer steps old new is turns
 played_turns (Err e) a peer steps old new is turns = tt
@@ -446,8 +440,8 @@ two_below : (p : ℕ) (flag : Bool) → (nat_lt p 2 && flag) ≡ true → p < 2
 two_below p flag is = grind (arith, nat_tests)
 
 -- an act of a call is for an honest end of the link, and a storm is for none
-pub call_linked : (world : World) (drained : List Line) (events : List Event) (s : Stage) (p : ℕ) → RunsTo world drained events s → (nat_lt p 2 && slice_index_or world.honest p false) ≡ true → IsLinked s.seats.items p
-call_linked world drained events s p runs is = let two = runs.after.is_world.geometry.two_peers in let below = two_below p _ is in linked_there world drained events s p runs (omega arith) is
+pub call_linked : (world : World) (output : Output) (events : List Event) (s : Stage) (p : ℕ) → RunsTo world output events s → (nat_lt p 2 && slice_index_or world.honest p false) ≡ true → IsLinked s.seats.items p
+call_linked world output events s p runs is = let two = runs.after.is_world.geometry.two_peers in let below = two_below p _ is in linked_there world output events s p runs (omega arith) is
 
 pub hostile_below : (p peers : ℕ) (flag : Bool) → (nat_lt p peers && not flag) ≡ true → p < peers
 hostile_below p peers flag is = grind (arith, nat_tests)

@@ -28,6 +28,7 @@ use Rattle.lawful_history.specs.Peers.{Auto, Driver, Waits, Chooses, Storms, Pee
 use Rattle.lawful_history.specs.Device.{step_interrupts}
 use Rattle.lawful_history.specs.History.{driven_step, driven, step_by, moved_by, moved, turn_step, turned}
 use Rattle.lawful_history.specs.Frames.{has_frame, HaveFrames}
+use Rattle.stage.specs.Log.{Output}
 use Rattle.stage.specs.Scene.{SceneAfter, IsRemark, CanPerform, GaveLast, accessed}
 use Rattle.stage.specs.declared.scene.Scene.{Scene}
 use Rattle.stage.specs.declared.link.Link.{Link}
@@ -192,19 +193,19 @@ driver_waits plan driver marks none is =
     subst (λ (o : Option Plan). DriverIs o (driver_after driver marks)) (sym none) (ap (λ (d : Driver). driver_after d marks) waits)
 
 -- the whole step
-pub carried : PlacesFollowTrees → (world : World) (drained past : List Line) (losses : ℕ → ℕ) (me : ℕ) (peer : Peer) (link link' : Link) (scene scene' : Scene) (a : Access) (value : ℕ) (notes : List Note) (stands : LinkStands (who_of world me) peer link) →
-    is_open stands.place ≡ true → a ≡ access_at (who_of world me) stands.place → GaveLast past a value × SceneAfter world drained (reverse (accessed world past losses me a value) ++ past) losses scene →
+pub carried : PlacesFollowTrees → (world : World) (output : Output) (past : List Line) (losses : ℕ → ℕ) (me : ℕ) (peer : Peer) (link link' : Link) (scene scene' : Scene) (a : Access) (value : ℕ) (notes : List Note) (stands : LinkStands (who_of world me) peer link) →
+    is_open stands.place ≡ true → a ≡ access_at (who_of world me) stands.place → GaveLast past a value × SceneAfter world output (reverse (accessed world past losses me a value) ++ past) losses scene →
     Takes link.end value notes link'.end → is_busy link'.end ≡ is_open (next_place (who_of world me) stands.place value) → link'.waiting ≡ link.waiting →
     DriverIs link'.auto (driver_after peer.driver (marks_between (offered link'.end) (delivered link'.end) notes)) →
-    ((w : World) (g p : List Line) (l : ℕ → ℕ) → SceneAfter w g p l scene → SceneAfter w g (reverse (map (mark_line me) (marks_between (offered link'.end) (delivered link'.end) notes)) ++ p) l scene') →
-    SceneAfter world drained (reverse (turn_lines me (step_by world me peer.driver peer.left past) (step_interrupts world past losses me (step_by world me peer.driver peer.left past))) ++ past) losses scene'
+    ((w : World) (g : Output) (p : List Line) (l : ℕ → ℕ) → SceneAfter w g p l scene → SceneAfter w g (reverse (map (mark_line me) (marks_between (offered link'.end) (delivered link'.end) notes)) ++ p) l scene') →
+    SceneAfter world output (reverse (turn_lines me (step_by world me peer.driver peer.left past) (step_interrupts world past losses me (step_by world me peer.driver peer.left past))) ++ past) losses scene'
     × LinkStands (who_of world me) (moved peer past) link'
-carried follow world drained past losses me peer link link' scene scene' a value notes stands opens is performed took busy waits driver tell =
+carried follow world output past losses me peer link link' scene scene' a value notes stands opens is performed took busy waits driver tell =
     let who = who_of world me in
-    let told = tell world drained (reverse (accessed world past losses me a value) ++ past) losses performed.1 in
+    let told = tell world output (reverse (accessed world past losses me a value) ++ past) losses performed.1 in
     let marks : marks_between (offered link'.end) (delivered link'.end) notes ≡ marks_at who stands.place value = marks_now link.end link'.end value notes who peer.end stands.place took stands.end busy in
-    step_taken follow world past losses me peer stands.place a value (λ ls x. SceneAfter world drained ls losses scene' × LinkStands who x link') stands.left opens is performed.0 (
-      subst (λ (ms : List Mark). SceneAfter world drained (reverse (map (mark_line me) ms) ++ (reverse (accessed world past losses me a value) ++ past)) losses scene') marks told,
+    step_taken follow world past losses me peer stands.place a value (λ ls x. SceneAfter world output ls losses scene' × LinkStands who x link') stands.left opens is performed.0 (
+      subst (λ (ms : List Mark). SceneAfter world output (reverse (map (mark_line me) ms) ++ (reverse (accessed world past losses me a value) ++ past)) losses scene') marks told,
       steps_on who peer link link' stands value notes took busy waits driver,
     )
 
@@ -215,18 +216,18 @@ none_driven world p peer None driver is = (ap (λ (d : Driver). driven_step worl
 none_driven world p peer (Some plan) driver is = (ap (λ (d : Driver). driven_step world p d) is.1, ap (λ (d : Driver). driven peer d) is.1)
 
 -- an end with no call is idle
-pub idles : (world : World) (drained past : List Line) (losses : ℕ → ℕ) (me : ℕ) (peer : Peer) (link : Link) (scene : Scene) (stands : LinkStands (who_of world me) (opened (who_of world me) peer) link) → is_open stands.place ≡ false →
-    SceneAfter world drained (line.Idle me ∷ past) losses scene →
-    SceneAfter world drained (reverse (turn_lines me (turn_step world me peer past) (step_interrupts world past losses me (turn_step world me peer past))) ++ past) losses scene
+pub idles : (world : World) (output : Output) (past : List Line) (losses : ℕ → ℕ) (me : ℕ) (peer : Peer) (link : Link) (scene : Scene) (stands : LinkStands (who_of world me) (opened (who_of world me) peer) link) → is_open stands.place ≡ false →
+    SceneAfter world output (line.Idle me ∷ past) losses scene →
+    SceneAfter world output (reverse (turn_lines me (turn_step world me peer past) (step_interrupts world past losses me (turn_step world me peer past))) ++ past) losses scene
     × LinkStands (who_of world me) (turned world me peer past) link
-idles world drained past losses me peer link scene stands shut after =
+idles world output past losses me peer link scene stands shut after =
     let who = who_of world me in
     let next = opened who peer in
     let none : next.left ≡ Ended = shut_left who next link stands shut in
     let still = none_driven world me next link.auto next.driver stands.driver in
     let step_is : turn_step world me peer past ≡ None = ap (λ (t : CallTree). step_by world me next.driver t past) none ∙ still.0 in
     let turned_is : turned world me peer past ≡ next = ap (λ (t : CallTree). moved_by next t past) none ∙ still.1 in (
-      subst (λ (w : Option Step). SceneAfter world drained (reverse (turn_lines me w (step_interrupts world past losses me w)) ++ past) losses scene) (sym step_is) after,
+      subst (λ (w : Option Step). SceneAfter world output (reverse (turn_lines me w (step_interrupts world past losses me w)) ++ past) losses scene) (sym step_is) after,
       subst (λ (x : Peer). LinkStands who x link) (sym turned_is) stands,
     )
 
@@ -255,32 +256,32 @@ none_opened : (who : Who) (peer : Peer) (driver : Driver) → peer.left ≡ Ende
 none_opened who peer driver left waits is =
     ap (λ (t : CallTree). opened_by who peer t peer.waiting) left ∙ ap (λ (w : List calls.Call). opened_by who peer Ended w) waits ∙ ap (λ (d : Driver). chosen who peer d) is
 
-pub idle_turn : (world : World) (drained past : List Line) (losses : ℕ → ℕ) (me : ℕ) (peer : Peer) (scene : Scene) → SitsBy Waits peer → SceneAfter world drained (line.Idle me ∷ past) losses scene →
-    SceneAfter world drained (reverse (turn_lines me (turn_step world me peer past) (step_interrupts world past losses me (turn_step world me peer past))) ++ past) losses scene
+pub idle_turn : (world : World) (output : Output) (past : List Line) (losses : ℕ → ℕ) (me : ℕ) (peer : Peer) (scene : Scene) → SitsBy Waits peer → SceneAfter world output (line.Idle me ∷ past) losses scene →
+    SceneAfter world output (reverse (turn_lines me (turn_step world me peer past) (step_interrupts world past losses me (turn_step world me peer past))) ++ past) losses scene
     × SitsBy Waits (turned world me peer past)
-idle_turn world drained past losses me peer scene sits after =
+idle_turn world output past losses me peer scene sits after =
     let who = who_of world me in
     let same : opened who peer ≡ peer = none_opened who peer Waits sits.left sits.waiting sits.driver in
     let step_is : turn_step world me peer past ≡ None =
     ap (λ (p : Peer). step_by world me p.driver p.left past) same ∙ ap (λ (t : CallTree). step_by world me peer.driver t past) sits.left ∙ ap (λ (d : Driver). driven_step world me d) sits.driver in
     let turned_is : turned world me peer past ≡ peer =
     ap (λ (p : Peer). moved p past) same ∙ ap (λ (t : CallTree). moved_by peer t past) sits.left ∙ ap (λ (d : Driver). driven peer d) sits.driver in (
-      subst (λ (w : Option Step). SceneAfter world drained (reverse (turn_lines me w (step_interrupts world past losses me w)) ++ past) losses scene) (sym step_is) after,
+      subst (λ (w : Option Step). SceneAfter world output (reverse (turn_lines me w (step_interrupts world past losses me w)) ++ past) losses scene) (sym step_is) after,
       subst (λ (x : Peer). SitsBy Waits x) (sym turned_is) sits,
     )
 
-pub storm_turn : (world : World) (drained past : List Line) (losses : ℕ → ℕ) (me x next : ℕ) (peer : Peer) (scene : Scene) → SitsBy (Storms x) peer → next ≡ storm_after x →
-    SceneAfter world drained (reverse (turn_lines me (Some (storm_step world me x)) (step_interrupts world past losses me (Some (storm_step world me x)))) ++ past) losses scene →
-    SceneAfter world drained (reverse (turn_lines me (turn_step world me peer past) (step_interrupts world past losses me (turn_step world me peer past))) ++ past) losses scene
+pub storm_turn : (world : World) (output : Output) (past : List Line) (losses : ℕ → ℕ) (me x next : ℕ) (peer : Peer) (scene : Scene) → SitsBy (Storms x) peer → next ≡ storm_after x →
+    SceneAfter world output (reverse (turn_lines me (Some (storm_step world me x)) (step_interrupts world past losses me (Some (storm_step world me x)))) ++ past) losses scene →
+    SceneAfter world output (reverse (turn_lines me (turn_step world me peer past) (step_interrupts world past losses me (turn_step world me peer past))) ++ past) losses scene
     × SitsBy (Storms next) (turned world me peer past)
-storm_turn world drained past losses me x next peer scene sits next_is after =
+storm_turn world output past losses me x next peer scene sits next_is after =
     let who = who_of world me in
     let same : opened who peer ≡ peer = none_opened who peer (Storms x) sits.left sits.waiting sits.driver in
     let step_is : turn_step world me peer past ≡ Some (storm_step world me x) =
     ap (λ (p : Peer). step_by world me p.driver p.left past) same ∙ ap (λ (t : CallTree). step_by world me peer.driver t past) sits.left ∙ ap (λ (d : Driver). driven_step world me d) sits.driver in
     let turned_is : turned world me peer past ≡ record peer { driver = Storms (storm_after x) } =
     ap (λ (p : Peer). moved p past) same ∙ ap (λ (t : CallTree). moved_by peer t past) sits.left ∙ ap (λ (d : Driver). driven peer d) sits.driver in (
-      subst (λ (w : Option Step). SceneAfter world drained (reverse (turn_lines me w (step_interrupts world past losses me w)) ++ past) losses scene) (sym step_is) after,
+      subst (λ (w : Option Step). SceneAfter world output (reverse (turn_lines me w (step_interrupts world past losses me w)) ++ past) losses scene) (sym step_is) after,
       subst (λ (p : Peer). SitsBy (Storms next) p) (sym turned_is) (record { left = sits.left; waiting = sits.waiting; driver = ap Storms (sym next_is) }),
     )
 
@@ -295,16 +296,16 @@ draws_nothing world p kind place value v is =
     storm_does world p kind place value _ _ _ refl refl refl (omega arith) (omega arith) (omega arith) (λ (a : Access). value_given a v ≡ value_given a 0) (λ word low high. refl) (λ state. refl) (λ target vector. refl)
 
 -- the step of a storm that was performed
-pub storm_performed : (world : World) (drained past : List Line) (losses : ℕ → ℕ) (me x : ℕ) (scene : Scene) (a : Access) (value : ℕ) → IsWorld world →
+pub storm_performed : (world : World) (output : Output) (past : List Line) (losses : ℕ → ℕ) (me x : ℕ) (scene : Scene) (a : Access) (value : ℕ) → IsWorld world →
     a ≡ drawn_access world me (draw (next_number x)) (draw (next_number (next_number x))) (draw (next_number (next_number (next_number x)))) →
-    SceneAfter world drained (reverse (accessed world past losses me a value) ++ past) losses scene →
-    SceneAfter world drained (reverse (turn_lines me (Some (storm_step world me x)) (step_interrupts world past losses me (Some (storm_step world me x)))) ++ past) losses scene
-storm_performed world drained past losses me x scene a value is a_is after =
+    SceneAfter world output (reverse (accessed world past losses me a value) ++ past) losses scene →
+    SceneAfter world output (reverse (turn_lines me (Some (storm_step world me x)) (step_interrupts world past losses me (Some (storm_step world me x)))) ++ past) losses scene
+storm_performed world output past losses me x scene a value is a_is after =
     let kind = draw (next_number x) in
     let place = draw (next_number (next_number x)) in
     let drawn = draw (next_number (next_number (next_number x))) in
     let access_is = drawn_access world me kind place drawn in
     let step_is : step_of a value [] ≡ storm_step world me x =
     ap (λ (b : Access). step_of b value []) a_is ∙ ap (λ v. record { access = access_is; value = v; marks = [] }) (draws_nothing world me kind place drawn value is) in
-    subst (λ (s : Step). SceneAfter world drained (reverse (turn_lines me (Some s) (step_interrupts world past losses me (Some s))) ++ past) losses scene) step_is
-    (subst (λ (ls : List Line). SceneAfter world drained ls losses scene) (lines_are world past losses me a value []) after)
+    subst (λ (s : Step). SceneAfter world output (reverse (turn_lines me (Some s) (step_interrupts world past losses me (Some s))) ++ past) losses scene) step_is
+    (subst (λ (ls : List Line). SceneAfter world output ls losses scene) (lines_are world past losses me a value []) after)

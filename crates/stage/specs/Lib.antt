@@ -1,3 +1,4 @@
+pub mod Log
 pub mod Scene
 pub mod Seats
 pub mod Stage

@@ -1,5 +1,5 @@
 -- The scene of a world: its region, its devices and its lines, after the lines so far.
-use Rattle.std.specs.Prelude.{ℕ, ◌≡◌, ◌+◌, ◌<◌, ◌^◌, true, Option, Some, None, List, [], ◌∷◌, ◌++◌, reverse, length, slice_index, slice_index_or, slice_set}
+use Rattle.std.specs.Prelude.{ℕ, ◌≡◌, ◌+◌, ◌<◌, ◌^◌, true, Option, Some, None, List, [], ◌∷◌, ◌++◌, length, slice_index, slice_index_or, slice_set}
 use Rattle.section_map.specs.Geometry.{Words, word_count}
 use Rattle.section_map.specs.MayWrite.{MayWrite}
 use Rattle.split_ring.specs.declared.steps.Access.{Access}
@@ -13,21 +13,21 @@ use Rattle.lawful_history.specs.declared.line.Line.{Line}
 use Rattle.lawful_history.specs.Memory.{Apart, touch_of, last_write}
 use Rattle.lawful_history.specs.Entries.{access_lines}
 use Rattle.lawful_history.specs.Device.{devices_of, told_by, device_events, lost_by, lost_count, arrivals, brought_by}
-use Rattle.lawful_history.specs.Frames.{has_frame, HaveFrames}
+use Rattle.lawful_history.specs.Frames.{has_frame}
+use Rattle.stage.specs.Log.{Output, IsLogOf}
 use Rattle.stage.specs.declared.scene.Scene.{Scene}
 
 -- each word is what was written last, of lines with the newest first
 abbrev pub Holds : List ℕ → List Line → Type 0
 Holds words past = (word : ℕ) → word < length words → slice_index words word ≡ last_write past word
 
--- the scene after these lines, of which the newest is the first and of which the oldest ones were drained, where so many interrupts of each peer
--- are to be lost: the region has the words that were written last, the devices stand where the lines led them, and it is known how many
--- losses are still to come
-pub record SceneAfter (world : World) (drained past : List Line) (losses : ℕ → ℕ) (scene : Scene) : Type 0 where
+-- the scene after these lines, of which the newest is the first and of which the oldest ones were drained into this output, where so many
+-- interrupts of each peer are to be lost: the log tells them, the region has the words that were written last, the devices stand where the
+-- lines led them, and it is known how many losses are still to come
+pub record SceneAfter (world : World) (output : Output) (past : List Line) (losses : ℕ → ℕ) (scene : Scene) : Type 0 where
   pub is_world : IsWorld world
   pub shape : scene.region.shape ≡ world.geometry
-  pub lines : drained ++ scene.lines ≡ reverse past
-  pub frames : HaveFrames scene.lines
+  pub log : IsLogOf world output past scene.log
   pub words : Holds scene.region.words past
   pub devices : Stands (devices_of world) (device_events past) scene.device
   pub unspent : (p : ℕ) → slice_index_or scene.unspent p 0 + lost_count past p ≡ losses p

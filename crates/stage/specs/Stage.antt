@@ -9,6 +9,7 @@ use Rattle.lawful_history.specs.Sides.{who_of}
 use Rattle.lawful_history.specs.Peers.{at_start}
 use Rattle.lawful_history.specs.History.{Moment, run, beginning, peer_at}
 use Rattle.lawful_history.specs.Given.{IsThere}
+use Rattle.stage.specs.Log.{Output}
 use Rattle.stage.specs.Scene.{SceneAfter, IsSeated}
 use Rattle.stage.specs.Seats.{SeatStands, is_honest}
 use Rattle.stage.specs.declared.link.Link.{Link}
@@ -30,12 +31,16 @@ pub record AreAtStart (world : World) (count : ℕ) (seats : List Seat) : Type 0
 abbrev pub moment_of : World → List Event → Moment
 moment_of world events = run world events (beginning world)
 
--- the stage is at the moment to which these events lead, and these of its lines were drained
-pub record RunsTo (world : World) (drained : List Line) (events : List Event) (s : Stage) : Type 0 where
+-- the lines that the stage keeps: they were told and not drained
+abbrev pub kept : Stage → List Line
+kept s = s.scene.log.lines
+
+-- the stage is at the moment to which these events lead, and of its lines these were drained into an output
+pub record RunsTo (world : World) (output : Output) (events : List Event) (s : Stage) : Type 0 where
   pub there : AllByRecursion (IsThere world) events
   pub geometry : s.sizes.geometry ≡ world.geometry
   pub queue : s.sizes.queue ≡ world.queue
-  pub after : SceneAfter world drained (moment_of world events).past (moment_of world events).losses s.scene
+  pub after : SceneAfter world output (moment_of world events).past (moment_of world events).losses s.scene
   pub count : length s.seats.items ≡ world.geometry.peers
   pub seated : (p : ℕ) → p < world.geometry.peers → IsSeated s.scene p
   pub stands : (p : ℕ) (seat : Seat) → slice_get s.seats.items p ≡ Some seat → SeatStands (who_of world p) (peer_at (moment_of world events) p) seat
@@ -43,11 +48,12 @@ pub record RunsTo (world : World) (drained : List Line) (events : List Event) (s
 
 -- the event happens: from where any events led, the stage goes on to where they lead with this one after them
 abbrev pub Happens : Event → Stage → Stage → Type 0
-Happens event old new = (world : World) (drained : List Line) (events : List Event) → IsThere world event → RunsTo world drained events old → RunsTo world drained (events ++ event ∷ []) new
+Happens event old new = (world : World) (output : Output) (events : List Event) → IsThere world event → RunsTo world output events old
+    → RunsTo world output (events ++ event ∷ []) new
 
 -- some events led the stage here, in a world that has the peer
 abbrev pub IsRunning : Stage → ℕ → Type 0
-IsRunning s peer = (world : World) × (drained : List Line) × (events : List Event) × RunsTo world drained events s × (peer < world.geometry.peers)
+IsRunning s peer = (world : World) × (output : Output) × (events : List Event) × RunsTo world output events s × (peer < world.geometry.peers)
 
 -- the act is one of the world's
 abbrev pub IsAct : World → Act → Type 0
@@ -55,4 +61,5 @@ IsAct world act = (before : List Act) × IsAllowed world before act
 
 -- what the act asks for happens: from where any events led, the stage goes on to where they lead with those of the act after them
 abbrev pub Plays : Act → Stage → Stage → Type 0
-Plays act old new = (world : World) (drained : List Line) (events : List Event) → IsAct world act → RunsTo world drained events old → RunsTo world drained (events ++ events_of act) new
+Plays act old new = (world : World) (output : Output) (events : List Event) → IsAct world act → RunsTo world output events old
+    → RunsTo world output (events ++ events_of act) new

@@ -6,6 +6,7 @@ ghost use Rattle.scenario_text.specs.Scenario.{World};
 ghost use Rattle.lawful_history.specs.declared.line.Line.TheVariants.{Interrupt};
 ghost use Rattle.lawful_history.specs.Schedule.{Loses, ReadsConfig, WritesConfig, ReadsRegister, WritesRegister, ReadsMsix, WritesMsix};
 ghost use Rattle.lawful_history.specs.Device.{reached_line, losses_with};
+ghost use Rattle.stage.specs.Log.{Output};
 ghost use Rattle.stage.specs.Scene.{SceneAfter, IsSeated};
 
 use crate::scene::Scene;
@@ -17,13 +18,13 @@ impl Scene {
     pub fn read_config(&mut self, me: u32, offset: u16, width: u16) -> Result<(), NoMemory>
         requires seated { IsSeated self.old me }
         requires access { is_access 256 offset width ≡ true }
-        ensures after { (world : World) (drained past : List Line) (losses : ℕ → ℕ) → SceneAfter world drained past losses self.old →
-            OnOk result (SceneAfter world drained (reached_line world past me (ReadsConfig offset width) ∷ past) losses self.new) }
+        ensures after { (world : World) (output : Output) (past : List Line) (losses : ℕ → ℕ) → SceneAfter world output past losses self.old →
+            OnOk result (SceneAfter world output (reached_line world past me (ReadsConfig offset width) ∷ past) losses self.new) }
         ensures seated { (q : ℕ) → IsSeated self.old q → IsSeated self.new q }
     {
         match self.device.config_read(me, offset, width) {
             Ok(value) => {
-                self.lines.push(Line::ConfigRead {
+                self.log.push(Line::ConfigRead {
                     peer: me,
                     offset: offset as u32,
                     width: width as u32,
@@ -44,13 +45,13 @@ impl Scene {
     ) -> Result<(), NoMemory>
         requires seated { IsSeated self.old me }
         requires access { is_access 256 offset width ≡ true }
-        ensures after { (world : World) (drained past : List Line) (losses : ℕ → ℕ) → SceneAfter world drained past losses self.old →
-            OnOk result (SceneAfter world drained (reached_line world past me (WritesConfig offset width value) ∷ past) losses self.new) }
+        ensures after { (world : World) (output : Output) (past : List Line) (losses : ℕ → ℕ) → SceneAfter world output past losses self.old →
+            OnOk result (SceneAfter world output (reached_line world past me (WritesConfig offset width value) ∷ past) losses self.new) }
         ensures seated { (q : ℕ) → IsSeated self.old q → IsSeated self.new q }
     {
         match self.device.config_write(me, offset, width, value) {
             Ok(()) => {
-                self.lines.push(Line::ConfigWrite {
+                self.log.push(Line::ConfigWrite {
                     peer: me,
                     offset: offset as u32,
                     width: width as u32,
@@ -64,12 +65,12 @@ impl Scene {
     /// A peer reads a register.
     pub fn read_register(&mut self, me: u32, offset: u32) -> Result<(), NoMemory>
         requires { IsSeated self.old me }
-        ensures after { (world : World) (drained past : List Line) (losses : ℕ → ℕ) → SceneAfter world drained past losses self.old →
-            OnOk result (SceneAfter world drained (reached_line world past me (ReadsRegister offset) ∷ past) losses self.new) }
+        ensures after { (world : World) (output : Output) (past : List Line) (losses : ℕ → ℕ) → SceneAfter world output past losses self.old →
+            OnOk result (SceneAfter world output (reached_line world past me (ReadsRegister offset) ∷ past) losses self.new) }
         ensures seated { (q : ℕ) → IsSeated self.old q → IsSeated self.new q }
     {
         let value = self.device.register_read(me, offset);
-        self.lines.push(Line::RegisterRead {
+        self.log.push(Line::RegisterRead {
             peer: me,
             offset,
             value,
@@ -79,12 +80,12 @@ impl Scene {
     /// A peer writes a register that is neither State nor the Doorbell, so that nobody is interrupted.
     pub fn write_register(&mut self, me: u32, offset: u32, value: u32) -> Result<(), NoMemory>
         requires { IsSeated self.old me }
-        ensures after { (world : World) (drained past : List Line) (losses : ℕ → ℕ) → SceneAfter world drained past losses self.old →
-            OnOk result (SceneAfter world drained (reached_line world past me (WritesRegister offset value) ∷ past) losses self.new) }
+        ensures after { (world : World) (output : Output) (past : List Line) (losses : ℕ → ℕ) → SceneAfter world output past losses self.old →
+            OnOk result (SceneAfter world output (reached_line world past me (WritesRegister offset value) ∷ past) losses self.new) }
         ensures seated { (q : ℕ) → IsSeated self.old q → IsSeated self.new q }
     {
         let _ = self.device.register_write(me, offset, value);
-        self.lines.push(Line::RegisterWrite {
+        self.log.push(Line::RegisterWrite {
             peer: me,
             offset,
             value,
@@ -94,12 +95,12 @@ impl Scene {
     /// A peer reads its MSI-X region.
     pub fn read_msix(&mut self, me: u32, offset: u32) -> Result<(), NoMemory>
         requires { IsSeated self.old me }
-        ensures after { (world : World) (drained past : List Line) (losses : ℕ → ℕ) → SceneAfter world drained past losses self.old →
-            OnOk result (SceneAfter world drained (reached_line world past me (ReadsMsix offset) ∷ past) losses self.new) }
+        ensures after { (world : World) (output : Output) (past : List Line) (losses : ℕ → ℕ) → SceneAfter world output past losses self.old →
+            OnOk result (SceneAfter world output (reached_line world past me (ReadsMsix offset) ∷ past) losses self.new) }
         ensures seated { (q : ℕ) → IsSeated self.old q → IsSeated self.new q }
     {
         let value = self.device.msix_read(me, offset);
-        self.lines.push(Line::MsixRead {
+        self.log.push(Line::MsixRead {
             peer: me,
             offset,
             value,
@@ -109,12 +110,12 @@ impl Scene {
     /// A peer writes its MSI-X region.
     pub fn write_msix(&mut self, me: u32, offset: u32, value: u32) -> Result<(), NoMemory>
         requires { IsSeated self.old me }
-        ensures after { (world : World) (drained past : List Line) (losses : ℕ → ℕ) → SceneAfter world drained past losses self.old →
-            OnOk result (SceneAfter world drained (reached_line world past me (WritesMsix offset value) ∷ past) losses self.new) }
+        ensures after { (world : World) (output : Output) (past : List Line) (losses : ℕ → ℕ) → SceneAfter world output past losses self.old →
+            OnOk result (SceneAfter world output (reached_line world past me (WritesMsix offset value) ∷ past) losses self.new) }
         ensures seated { (q : ℕ) → IsSeated self.old q → IsSeated self.new q }
     {
         self.device.msix_write(me, offset, value);
-        self.lines.push(Line::MsixWrite {
+        self.log.push(Line::MsixWrite {
             peer: me,
             offset,
             value,
@@ -123,8 +124,8 @@ impl Scene {
 
     /// An interrupt is repeated at a peer, whatever its registers say.
     pub fn repeat(&mut self, me: u32, vector: u32) -> Result<(), NoMemory>
-        ensures after { (world : World) (drained past : List Line) (losses : ℕ → ℕ) → SceneAfter world drained past losses self.old →
-            OnOk result (SceneAfter world drained (Interrupt me vector ∷ past) losses self.new) }
+        ensures after { (world : World) (output : Output) (past : List Line) (losses : ℕ → ℕ) → SceneAfter world output past losses self.old →
+            OnOk result (SceneAfter world output (Interrupt me vector ∷ past) losses self.new) }
         ensures seated { (q : ℕ) → IsSeated self.old q → IsSeated self.new q }
     {
         self.remark(Line::Interrupt { peer: me, vector })
@@ -134,7 +135,7 @@ impl Scene {
     pub fn lose(&mut self, me: u32)
         requires seated { IsSeated self.old me }
         requires room { slice_index self.old.unspent me < 2 ^ 64 - 1 }
-        ensures after { (world : World) (drained past : List Line) (losses : ℕ → ℕ) → SceneAfter world drained past losses self.old → SceneAfter world drained past (losses_with (Loses me) losses) self.new }
+        ensures after { (world : World) (output : Output) (past : List Line) (losses : ℕ → ℕ) → SceneAfter world output past losses self.old → SceneAfter world output past (losses_with (Loses me) losses) self.new }
         ensures seated { (q : ℕ) → IsSeated self.old q → IsSeated self.new q }
     {
         self.unspent[me as usize] += 1;

@@ -6,6 +6,7 @@
 mod acts;
 mod devices;
 mod link;
+mod log;
 mod scene;
 mod seat;
 mod stage;

@@ -14,6 +14,7 @@ ghost use Rattle.lawful_history.specs.History.{turn_step, turned, step_by, moved
 ghost use Rattle.link_endpoint.specs.Engine.{is_busy, offered, delivered};
 ghost use Rattle.link_endpoint.specs.Stands.{StandsAt, mark_between, marks_between};
 ghost use Rattle.lawful_history.specs.Frames.{has_frame, HaveFrames};
+ghost use Rattle.stage.specs.Log.{Output};
 ghost use Rattle.stage.specs.Scene.{SceneAfter, IsSeated};
 ghost use Rattle.stage.specs.Seats.{call_of, IsPlanOf, LinkStands, MayWait, LinkFits, IsPlaced};
 
@@ -142,8 +143,8 @@ fn tell_note(
     scene: &mut Scene,
 ) -> Result<(), NoMemory>
     requires { has_frame (mark_line me (mark_between (offered end.now) (delivered end.now) note.now)) ≡ true }
-    ensures after { (world : World) (drained past : List Line) (losses : ℕ → ℕ) → SceneAfter world drained past losses scene.old →
-        OnOk result (SceneAfter world drained (mark_line me (mark_between (offered end.now) (delivered end.now) note.now) ∷ past) losses scene.new) }
+    ensures after { (world : World) (output : Output) (past : List Line) (losses : ℕ → ℕ) → SceneAfter world output past losses scene.old →
+        OnOk result (SceneAfter world output (mark_line me (mark_between (offered end.now) (delivered end.now) note.now) ∷ past) losses scene.new) }
     ensures seated { (q : ℕ) → IsSeated scene.old q → IsSeated scene.new q }
 {
     let line = line_of(alloc, me, end, *note)?;
@@ -159,8 +160,8 @@ fn tell_notes(
     scene: &mut Scene,
 ) -> Result<(), NoMemory>
     requires { HaveFrames (map (mark_line me) (marks_between (offered end.now) (delivered end.now) notes.now)) }
-    ensures after { (world : World) (drained past : List Line) (losses : ℕ → ℕ) → SceneAfter world drained past losses scene.old →
-        OnOk result (SceneAfter world drained (reverse (map (mark_line me) (marks_between (offered end.now) (delivered end.now) notes.now)) ++ past) losses scene.new) }
+    ensures after { (world : World) (output : Output) (past : List Line) (losses : ℕ → ℕ) → SceneAfter world output past losses scene.old →
+        OnOk result (SceneAfter world output (reverse (map (mark_line me) (marks_between (offered end.now) (delivered end.now) notes.now)) ++ past) losses scene.new) }
     ensures seated { (q : ℕ) → IsSeated scene.old q → IsSeated scene.new q }
 {
     for note in notes {
@@ -207,8 +208,8 @@ fn carry_on(alloc: Global, me: u32, link: &mut Link, scene: &mut Scene) -> Resul
     requires seated { IsSeated scene.old me }
     requires placed { IsPlaced scene.old.region.shape me link.old.end.who }
     requires stands { (who : Who) × (peer : Peer) × LinkStands who peer link.old }
-    ensures steps { (world : World) (drained past : List Line) (losses : ℕ → ℕ) (peer : Peer) → SceneAfter world drained past losses scene.old → LinkStands (who_of world me) peer link.old →
-        OnOk result (SceneAfter world drained (reverse (turn_lines me (step_by world me peer.driver peer.left past) (step_interrupts world past losses me (step_by world me peer.driver peer.left past))) ++ past) losses scene.new
+    ensures steps { (world : World) (output : Output) (past : List Line) (losses : ℕ → ℕ) (peer : Peer) → SceneAfter world output past losses scene.old → LinkStands (who_of world me) peer link.old →
+        OnOk result (SceneAfter world output (reverse (turn_lines me (step_by world me peer.driver peer.left past) (step_interrupts world past losses me (step_by world me peer.driver peer.left past))) ++ past) losses scene.new
         × LinkStands (who_of world me) (moved peer past) link.new) }
     ensures seated { (q : ℕ) → IsSeated scene.old q → IsSeated scene.new q }
 {
@@ -229,8 +230,8 @@ pub fn take_turn(alloc: Global, me: u32, link: &mut Link, scene: &mut Scene) -> 
     requires seated { IsSeated scene.old me }
     requires placed { IsPlaced scene.old.region.shape me link.old.end.who }
     requires stands { (who : Who) × (peer : Peer) × LinkStands who peer link.old }
-    ensures turn { (world : World) (drained past : List Line) (losses : ℕ → ℕ) (peer : Peer) → SceneAfter world drained past losses scene.old → LinkStands (who_of world me) peer link.old →
-        OnOk result (SceneAfter world drained (reverse (turn_lines me (turn_step world me peer past) (step_interrupts world past losses me (turn_step world me peer past))) ++ past) losses scene.new
+    ensures turn { (world : World) (output : Output) (past : List Line) (losses : ℕ → ℕ) (peer : Peer) → SceneAfter world output past losses scene.old → LinkStands (who_of world me) peer link.old →
+        OnOk result (SceneAfter world output (reverse (turn_lines me (turn_step world me peer past) (step_interrupts world past losses me (turn_step world me peer past))) ++ past) losses scene.new
         × LinkStands (who_of world me) (turned world me peer past) link.new) }
     ensures seated { (q : ℕ) → IsSeated scene.old q → IsSeated scene.new q }
 {
@@ -248,15 +249,10 @@ impl Link {
         ensures { OnOk result ((who : Who) (peer : Peer) → LinkStands who peer self.old → LinkStands who (asked peer (call_of call)) self.new) }
     {
         match (&mut self.auto, call) {
-            (Some(auto), Waiting::Offer(frame)) => {
-                auto.add(frame)?;
-                Ok(())
-            }
-            (_, call) => match self.waiting.push_back(call) {
-                Ok(()) => Ok(()),
-                Err(_) => Err(NoMemory),
-            },
+            (Some(auto), Waiting::Offer(frame)) => auto.add(frame)?,
+            (_, call) => self.waiting.push_back(call)?,
         }
+        Ok(())
     }
 
     /// The peer chooses its calls from now on.

@@ -11,12 +11,14 @@ ghost use Rattle.lawful_history.specs.Schedule.{Loses, ReadsConfig, WritesConfig
 ghost use Rattle.lawful_history.specs.Entries.{acted_lines};
 ghost use Rattle.lawful_history.specs.History.{acted_step};
 ghost use Rattle.lawful_history.specs.Device.{arrival, arrived, arrivals, brought_by, step_interrupts, reached_line, losses_with};
+ghost use Rattle.stage.specs.Log.{Output, Tells};
 ghost use Rattle.stage.specs.Scene.{SceneAfter, IsSeated, IsRemark, CanPerform, GaveLast, told, accessed, with_state};
 
+use crate::log::Log;
 use arrayvec::ArrayVec;
 use doorbell_irq::{Delivery, Device, Effect, REGISTER_DOORBELL, REGISTER_STATE, doorbell_word};
 use ivs_base::NoMemory;
-use lawful_history::{Line, Lines};
+use lawful_history::Line;
 use section_map::Region;
 use split_ring::steps::Access;
 
@@ -29,37 +31,37 @@ pub struct Scene {
     pub device: Device,
     /// How many interrupts are still to be lost, for each of 8 peers.
     pub unspent: [u64; 8],
-    /// The lines that were told and not drained, in their order.
-    pub lines: Lines,
+    /// The lines.
+    pub log: Log,
 }
 
 impl Scene {
     /// Tells a line that changes no word and no device.
     pub fn remark(&mut self, line: Line) -> Result<(), NoMemory>
         requires { IsRemark line }
-        ensures after { (world : World) (drained past : List Line) (losses : ℕ → ℕ) → SceneAfter world drained past losses self.old → OnOk result (SceneAfter world drained (line ∷ past) losses self.new) }
+        ensures after { (world : World) (output : Output) (past : List Line) (losses : ℕ → ℕ) → SceneAfter world output past losses self.old → OnOk result (SceneAfter world output (line ∷ past) losses self.new) }
         ensures seated { (me : ℕ) → IsSeated self.old me → IsSeated self.new me }
     {
-        self.lines.push(line)
+        self.log.push(line)
     }
 
     /// One interrupt comes to its peer, or is lost on its way.
     fn arrive_at(&mut self, delivery: &Delivery) -> Result<(), NoMemory>
-        ensures after { (world : World) (drained past : List Line) (losses : ℕ → ℕ) → SceneAfter world drained past losses self.old → OnOk result (SceneAfter world drained (arrival past losses delivery.now ∷ past) losses self.new) }
+        ensures after { (world : World) (output : Output) (past : List Line) (losses : ℕ → ℕ) → SceneAfter world output past losses self.old → OnOk result (SceneAfter world output (arrival past losses delivery.now ∷ past) losses self.new) }
         ensures seated { (me : ℕ) → IsSeated self.old me → IsSeated self.new me }
     {
         let Delivery { peer, vector } = *delivery;
         if peer < 8 && self.unspent[peer as usize] > 0 {
             self.unspent[peer as usize] -= 1;
-            self.lines.push(Line::Lost { peer, vector })
+            self.log.push(Line::Lost { peer, vector })
         } else {
-            self.lines.push(Line::Interrupt { peer, vector })
+            self.log.push(Line::Interrupt { peer, vector })
         }
     }
 
     /// Interrupts come, in their order.
     fn arrive(&mut self, deliveries: &[Delivery]) -> Result<(), NoMemory>
-        ensures after { (world : World) (drained past : List Line) (losses : ℕ → ℕ) → SceneAfter world drained past losses self.old → OnOk result (SceneAfter world drained (reverse (arrived past losses deliveries.now) ++ past) losses self.new) }
+        ensures after { (world : World) (output : Output) (past : List Line) (losses : ℕ → ℕ) → SceneAfter world output past losses self.old → OnOk result (SceneAfter world output (reverse (arrived past losses deliveries.now) ++ past) losses self.new) }
         ensures seated { (me : ℕ) → IsSeated self.old me → IsSeated self.new me }
     {
         for delivery in deliveries {
@@ -72,15 +74,15 @@ impl Scene {
     pub fn read(&mut self, me: u32, word: u32) -> Result<u32, NoMemory>
         requires seated { IsSeated self.old me }
         requires inside { word < word_count self.old.region.shape }
-        ensures after { (world : World) (drained past : List Line) (losses : ℕ → ℕ) → SceneAfter world drained past losses self.old →
-            IfOk result (λ value. (value ≡ last_write past word) × SceneAfter world drained (Line.Read me word value ∷ past) losses self.new) }
+        ensures after { (world : World) (output : Output) (past : List Line) (losses : ℕ → ℕ) → SceneAfter world output past losses self.old →
+            IfOk result (λ value. (value ≡ last_write past word) × SceneAfter world output (Line.Read me word value ∷ past) losses self.new) }
         ensures seated { (q : ℕ) → IsSeated self.old q → IsSeated self.new q }
     {
         let value = match self.region.read(me, word) {
             Ok(value) => value,
             Err(_) => unreachable!(),
         };
-        self.lines.push(Line::Read {
+        self.log.push(Line::Read {
             peer: me,
             word,
             value,
@@ -92,11 +94,11 @@ impl Scene {
     pub fn write(&mut self, me: u32, word: u32, value: u32) -> Result<(), NoMemory>
         requires seated { IsSeated self.old me }
         requires may { MayWrite self.old.region.shape me word }
-        ensures after { (world : World) (drained past : List Line) (losses : ℕ → ℕ) → SceneAfter world drained past losses self.old → OnOk result (SceneAfter world drained (Line.Write me word value ∷ past) losses self.new) }
+        ensures after { (world : World) (output : Output) (past : List Line) (losses : ℕ → ℕ) → SceneAfter world output past losses self.old → OnOk result (SceneAfter world output (Line.Write me word value ∷ past) losses self.new) }
         ensures seated { (q : ℕ) → IsSeated self.old q → IsSeated self.new q }
     {
         match self.region.write(me, word, value) {
-            Ok(()) => self.lines.push(Line::Write {
+            Ok(()) => self.log.push(Line::Write {
                 peer: me,
                 word,
                 value,
@@ -108,17 +110,17 @@ impl Scene {
     /// A peer writes a word if it may, and is denied it else.
     pub fn poke(&mut self, me: u32, word: u32, value: u32) -> Result<(), NoMemory>
         requires { IsSeated self.old me }
-        ensures after { (world : World) (drained past : List Line) (losses : ℕ → ℕ) → SceneAfter world drained past losses self.old →
-            OnOk result (SceneAfter world drained (reverse (acted_lines me (Access.Write word value) (acted_step world me (Access.Write word value) past) []) ++ past) losses self.new) }
+        ensures after { (world : World) (output : Output) (past : List Line) (losses : ℕ → ℕ) → SceneAfter world output past losses self.old →
+            OnOk result (SceneAfter world output (reverse (acted_lines me (Access.Write word value) (acted_step world me (Access.Write word value) past) []) ++ past) losses self.new) }
         ensures seated { (q : ℕ) → IsSeated self.old q → IsSeated self.new q }
     {
         match self.region.write(me, word, value) {
-            Ok(()) => self.lines.push(Line::Write {
+            Ok(()) => self.log.push(Line::Write {
                 peer: me,
                 word,
                 value,
             }),
-            Err(_) => self.lines.push(Line::Denied { peer: me, word }),
+            Err(_) => self.log.push(Line::Denied { peer: me, word }),
         }
     }
 
@@ -134,21 +136,21 @@ impl Scene {
         ensures region { self.new.region ≡ with_state self.old.region me effect.state }
         ensures device { self.new.device ≡ self.old.device }
         ensures unspent { self.new.unspent ≡ self.old.unspent }
-        ensures lines { OnOk result (self.new.lines ≡ self.old.lines ++ line ∷ []) }
+        ensures log { OnOk result (Tells line self.old.log self.new.log) }
         ensures deliveries { IfOk result (λ deliveries. deliveries ≡ effect.deliveries) }
     {
         if let Some(value) = effect.state {
             let _ = self.region.set_state(me, value);
         }
-        self.lines.push(line)?;
+        self.log.push(line)?;
         Ok(effect.deliveries)
     }
 
     /// A peer writes its State.
     pub fn set_state(&mut self, me: u32, value: u32) -> Result<(), NoMemory>
         requires { IsSeated self.old me }
-        ensures after { (world : World) (drained past : List Line) (losses : ℕ → ℕ) → SceneAfter world drained past losses self.old →
-            OnOk result (SceneAfter world drained (reverse (told world past losses (Line.State me value)) ++ past) losses self.new) }
+        ensures after { (world : World) (output : Output) (past : List Line) (losses : ℕ → ℕ) → SceneAfter world output past losses self.old →
+            OnOk result (SceneAfter world output (reverse (told world past losses (Line.State me value)) ++ past) losses self.new) }
         ensures seated { (q : ℕ) → IsSeated self.old q → IsSeated self.new q }
     {
         let effect = self.device.register_write(me, REGISTER_STATE, value);
@@ -161,8 +163,8 @@ impl Scene {
         requires seated { IsSeated self.old me }
         requires target { target < 2 ^ 16 }
         requires vector { vector < 2 ^ 16 }
-        ensures after { (world : World) (drained past : List Line) (losses : ℕ → ℕ) → SceneAfter world drained past losses self.old →
-            OnOk result (SceneAfter world drained (reverse (told world past losses (Line.Doorbell me target vector)) ++ past) losses self.new) }
+        ensures after { (world : World) (output : Output) (past : List Line) (losses : ℕ → ℕ) → SceneAfter world output past losses self.old →
+            OnOk result (SceneAfter world output (reverse (told world past losses (Line.Doorbell me target vector)) ++ past) losses self.new) }
         ensures seated { (q : ℕ) → IsSeated self.old q → IsSeated self.new q }
     {
         let word = doorbell_word(target, vector);
@@ -179,8 +181,8 @@ impl Scene {
     /// The device of a peer is reset.
     pub fn reset(&mut self, me: u32) -> Result<(), NoMemory>
         requires { IsSeated self.old me }
-        ensures after { (world : World) (drained past : List Line) (losses : ℕ → ℕ) → SceneAfter world drained past losses self.old →
-            OnOk result (SceneAfter world drained (reverse (told world past losses (Reset me)) ++ past) losses self.new) }
+        ensures after { (world : World) (output : Output) (past : List Line) (losses : ℕ → ℕ) → SceneAfter world output past losses self.old →
+            OnOk result (SceneAfter world output (reverse (told world past losses (Reset me)) ++ past) losses self.new) }
         ensures seated { (q : ℕ) → IsSeated self.old q → IsSeated self.new q }
     {
         let effect = self.device.reset(me);
@@ -192,8 +194,8 @@ impl Scene {
     pub fn perform(&mut self, me: u32, access: Access) -> Result<u32, NoMemory>
         requires seated { IsSeated self.old me }
         requires can { CanPerform self.old me access }
-        ensures after { (world : World) (drained past : List Line) (losses : ℕ → ℕ) → SceneAfter world drained past losses self.old →
-            IfOk result (λ value. GaveLast past access value × SceneAfter world drained (reverse (accessed world past losses me access value) ++ past) losses self.new) }
+        ensures after { (world : World) (output : Output) (past : List Line) (losses : ℕ → ℕ) → SceneAfter world output past losses self.old →
+            IfOk result (λ value. GaveLast past access value × SceneAfter world output (reverse (accessed world past losses me access value) ++ past) losses self.new) }
         ensures seated { (q : ℕ) → IsSeated self.old q → IsSeated self.new q }
     {
         match access {

@@ -8,6 +8,7 @@ ghost use Rattle.lawful_history.specs.Entries.{turn_lines};
 ghost use Rattle.lawful_history.specs.Peers.{Peer, was_reset};
 ghost use Rattle.lawful_history.specs.Device.{step_interrupts};
 ghost use Rattle.lawful_history.specs.History.{turn_step, turned};
+ghost use Rattle.stage.specs.Log.{Output};
 ghost use Rattle.stage.specs.Scene.{SceneAfter, IsSeated};
 ghost use Rattle.stage.specs.Seats.{SeatStands, SeatFits, SameKind, AreSizesOf};
 
@@ -76,8 +77,8 @@ fn access_of(sizes: &StormSizes, me: u32, kind: u32, place: u32, value: u32) -> 
 fn storm(sizes: &StormSizes, me: u32, x: u64, scene: &mut Scene) -> Result<u64, NoMemory>
     requires sizes { (world : World) × AreSizesOf world me sizes.now × (scene.old.region.shape ≡ world.geometry) }
     requires seated { IsSeated scene.old me }
-    ensures turn { (world : World) (drained past : List Line) (losses : ℕ → ℕ) → AreSizesOf world me sizes.now → SceneAfter world drained past losses scene.old →
-        IfOk result (λ next. (next ≡ storm_after x) × SceneAfter world drained (reverse (turn_lines me (Some (storm_step world me x)) (step_interrupts world past losses me (Some (storm_step world me x)))) ++ past) losses scene.new) }
+    ensures turn { (world : World) (output : Output) (past : List Line) (losses : ℕ → ℕ) → AreSizesOf world me sizes.now → SceneAfter world output past losses scene.old →
+        IfOk result (λ next. (next ≡ storm_after x) × SceneAfter world output (reverse (turn_lines me (Some (storm_step world me x)) (step_interrupts world past losses me (Some (storm_step world me x)))) ++ past) losses scene.new) }
     ensures seated { (q : ℕ) → IsSeated scene.old q → IsSeated scene.new q }
 {
     let first = next(x);
@@ -98,8 +99,8 @@ pub fn turn(
 ) -> Result<(), NoMemory>
     requires sizes { (world : World) × (peer : Peer) × AreSizesOf world me sizes.now × (scene.old.region.shape ≡ world.geometry) × SeatStands (who_of world me) peer seat.old × SeatFits (who_of world me) seat.old }
     requires seated { IsSeated scene.old me }
-    ensures turn { (world : World) (drained past : List Line) (losses : ℕ → ℕ) (peer : Peer) → AreSizesOf world me sizes.now → SceneAfter world drained past losses scene.old → SeatStands (who_of world me) peer seat.old →
-        OnOk result (SceneAfter world drained (reverse (turn_lines me (turn_step world me peer past) (step_interrupts world past losses me (turn_step world me peer past))) ++ past) losses scene.new
+    ensures turn { (world : World) (output : Output) (past : List Line) (losses : ℕ → ℕ) (peer : Peer) → AreSizesOf world me sizes.now → SceneAfter world output past losses scene.old → SeatStands (who_of world me) peer seat.old →
+        OnOk result (SceneAfter world output (reverse (turn_lines me (turn_step world me peer past) (step_interrupts world past losses me (turn_step world me peer past))) ++ past) losses scene.new
         × SeatStands (who_of world me) (turned world me peer past) seat.new) }
     ensures seated { (q : ℕ) → IsSeated scene.old q → IsSeated scene.new q }
     ensures kind { SameKind seat.old seat.new }

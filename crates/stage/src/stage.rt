@@ -4,13 +4,16 @@ ghost use Rattle.split_ring.specs.declared.steps.Access.TheVariants as access;
 ghost use Rattle.scenario_text.specs.Scenario.{World, is_link};
 ghost use Rattle.lawful_history.specs.declared.line.Line.{Line};
 ghost use Rattle.lawful_history.specs.Schedule.{Event, Asked, Automated, Stormed, Turned, Acted, WasReset, Reached, Loses, Repeated, DeviceAccess, register_event, events_of};
+ghost use Rattle.lawful_history.specs.Versions.{is_version};
 ghost use Rattle.lawful_history.specs.Sides.{world_of, who_of, traffic_vector};
 ghost use Rattle.lawful_history.specs.Peers.{at_start};
 ghost use Rattle.lawful_history.specs.Given.{IsThere};
+ghost use Rattle.stage.specs.Log.{Output, no_output, given, IsLogOf};
 ghost use Rattle.stage.specs.Seats.{call_of, SeatStands, is_honest};
-ghost use Rattle.stage.specs.Stage.{AreAtStart, IsLinked, RunsTo, Happens, IsRunning, IsAct, Plays, moment_of};
+ghost use Rattle.stage.specs.Stage.{AreAtStart, IsLinked, RunsTo, Happens, IsRunning, IsAct, Plays, moment_of, kept};
 
 use crate::link::{Link, Waiting};
+use crate::log::Log;
 use crate::scene::Scene;
 use crate::seat::{Seat, StormSizes, reset, turn};
 use call_grammar::calls_stay_in_reach;
@@ -46,13 +49,21 @@ fn traffic_of(wiring: Wiring) -> u32
     }
 }
 
+/// Is the peer an honest end of the link?
+fn is_end(scenario: &Scenario, peer: u32) -> bool
+    requires { peer < scenario.now.geometry.peers }
+    ensures { result ≡ is_link (world_of scenario.now) peer }
+{
+    peer < 2 && scenario.honest.items()[peer as usize]
+}
+
 /// The seat of a peer at the start.
 fn seat_of(alloc: Global, scenario: &Scenario, peer: u32) -> Result<Seat, NoMemory>
     requires { peer < scenario.now.geometry.peers }
     ensures stands { IfOk result (λ seat. SeatStands (who_of (world_of scenario.now) peer) at_start seat) }
     ensures linked { IfOk result (λ seat. is_honest seat ≡ is_link (world_of scenario.now) peer) }
 {
-    if peer > 1 || !scenario.honest.items()[peer as usize] {
+    if !is_end(scenario, peer) {
         return Ok(Seat::Idle);
     }
     let end = Endpoint::new(
@@ -75,19 +86,23 @@ fn seats_of(alloc: Global, scenario: &Scenario) -> Result<Vec<Seat>, NoMemory>
 {
     let mut seats = Vec::new(alloc);
     for peer in 0..scenario.geometry.peers() {
-        let seat = seat_of(alloc, scenario, peer)?;
-        match seats.push(seat) {
-            Ok(()) => {}
-            Err(_) => return Err(NoMemory),
-        }
+        seats.push(seat_of(alloc, scenario, peer)?)?;
     }
     Ok(seats)
 }
 
+/// The log of a scenario at the start, for a record of this version.
+fn log_of(alloc: Global, scenario: &Scenario, version: u32) -> Log
+    ensures { IsLogOf (world_of scenario.now) (no_output version) [] result }
+{
+    Log::new(alloc, version, [is_end(scenario, 0), is_end(scenario, 1)])
+}
+
 impl Stage {
-    /// The world in which nothing has happened.
-    pub fn new(alloc: Global, scenario: &Scenario) -> Result<Stage, NoMemory>
-        ensures { IfOk result (λ stage. RunsTo (world_of scenario.now) [] [] stage) }
+    /// The world in which nothing has happened; its lines are for a record of this version, 1 or 2.
+    pub fn new(alloc: Global, scenario: &Scenario, version: u32) -> Result<Stage, NoMemory>
+        requires { is_version version ≡ true }
+        ensures { IfOk result (λ stage. RunsTo (world_of scenario.now) (no_output version) [] stage) }
     {
         let seats = seats_of(alloc, scenario)?;
         let region = Region::new(alloc, &scenario.geometry)?;
@@ -101,7 +116,7 @@ impl Stage {
                 region,
                 device: Device::new(&scenario.geometry, scenario.wiring),
                 unspent: [0; 8],
-                lines: Lines::new(alloc),
+                log: log_of(alloc, scenario, version),
             },
             seats,
         })
@@ -135,7 +150,7 @@ impl Stage {
     /// Tells a hostile peer to write at random from now on.
     fn storm(&mut self, peer: u32, seed: u64)
         requires { peer < length self.old.seats.items }
-        ensures { (world : World) (drained : List Line) (events : List Event) → IsThere world (Stormed peer seed) → is_link world peer ≡ false → RunsTo world drained events self.old → RunsTo world drained (events ++ Stormed peer seed ∷ []) self.new }
+        ensures { (world : World) (output : Output) (events : List Event) → IsThere world (Stormed peer seed) → is_link world peer ≡ false → RunsTo world output events self.old → RunsTo world output (events ++ Stormed peer seed ∷ []) self.new }
     {
         self.seats[peer as usize] = Seat::Storm(seed);
     }
@@ -154,7 +169,7 @@ impl Stage {
     /// So many turns of a peer.
     fn turns(&mut self, peer: u32, steps: u32) -> Result<(), NoMemory>
         requires { IsRunning self.old peer }
-        ensures { OnOk result ((world : World) (drained : List Line) (events : List Event) → IsThere world (Turned peer) → RunsTo world drained events self.old → RunsTo world drained (events ++ replicate steps (Turned peer)) self.new) }
+        ensures { OnOk result ((world : World) (output : Output) (events : List Event) → IsThere world (Turned peer) → RunsTo world output events self.old → RunsTo world output (events ++ replicate steps (Turned peer)) self.new) }
     {
         for _k in 0..steps {
             self.turn(peer)?;
@@ -174,7 +189,7 @@ impl Stage {
 
     /// What one act asks for.
     pub fn act(&mut self, act: &Act) -> Result<(), NoMemory>
-        requires { (world : World) × (drained : List Line) × (events : List Event) × RunsTo world drained events self.old × IsAct world act.now × ((p : ℕ) → (moment_of world events).losses p < 2 ^ 64 - 1) }
+        requires { (world : World) × (output : Output) × (events : List Event) × RunsTo world output events self.old × IsAct world act.now × ((p : ℕ) → (moment_of world events).losses p < 2 ^ 64 - 1) }
         ensures { OnOk result (Plays act.now self.old self.new) }
     {
         match act {
@@ -238,30 +253,30 @@ impl Stage {
     pub fn reserve(&mut self, more: usize) -> Result<(), NoMemory>
         ensures { self.new ≡ self.old }
     {
-        self.scene.lines.reserve(more)
+        self.scene.log.reserve(more)
     }
 
     /// The lines that were told and not drained, in their order.
     pub fn lines(&self) -> &[Line]
-        ensures { result.now ≡ self.now.scene.lines }
+        ensures { result.now ≡ kept self.now }
     {
-        self.scene.lines.items()
+        self.scene.log.items()
     }
 
     /// Drains the lines that were told.
     pub fn drain(&mut self)
-        ensures on { (world : World) (drained : List Line) (events : List Event) → RunsTo world drained events self.old → RunsTo world (drained ++ self.old.scene.lines) events self.new }
-        ensures lines { self.new.scene.lines ≡ [] }
+        ensures on { (world : World) (output : Output) (events : List Event) → RunsTo world output events self.old → RunsTo world (given output (kept self.old)) events self.new }
+        ensures lines { kept self.new ≡ [] }
     {
-        self.scene.lines.clear();
+        self.scene.log.clear();
     }
 
     /// The lines that were told and not drained.
     pub fn into_lines(self) -> Lines
-        ensures { result ≡ self.scene.lines }
+        ensures { result ≡ kept self }
     {
         let Stage { scene, .. } = self;
-        let Scene { lines, .. } = scene;
-        lines
+        let Scene { log, .. } = scene;
+        log.into_lines()
     }
 }

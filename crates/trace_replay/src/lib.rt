@@ -16,13 +16,14 @@ use record_text::Trace;
 use std::alloc::Global;
 pub use verdict::Verdict;
 
-/// Is the record's history the lawful one of its scenario? Else the first line that differs from it, and the law that is broken there.
+/// Is the record's history what a record of its version tells of the lawful one of its scenario? Else the first line that differs, and the
+/// law that is broken there.
 /// NoMemory comes only where memory ran out.
 pub fn replay(alloc: Global, trace: &Trace) -> Result<Verdict, NoMemory>
-    ensures { IfOk result (IsVerdict (world_of trace.now.scenario) trace.now.lines) }
+    ensures { IfOk result (IsVerdict (world_of trace.now.scenario) trace.now.version trace.now.lines) }
 {
     let history = trace.lines.items();
-    let mut run = Run::new(alloc, &trace.scenario)?;
+    let mut run = Run::new(alloc, &trace.scenario, trace.version)?;
     for line in history {
         match run.step(line) {
             Ok(()) => {}

@@ -93,6 +93,13 @@ impl Tx {
         !matches!(self.place, Place::Closed)
     }
 
+    /// The bytes of the longest frame that an offer takes: 18 more than the MTU.
+    pub fn longest(&self) -> u32
+        ensures { result ≡ self.now.sizes.mtu + 18 }
+    {
+        self.queue.mtu() + 18
+    }
+
     /// The frame of the open offer, or of the last one since `reset`.
     pub fn frame(&self) -> &[u8]
         ensures { result.now ≡ self.now.frame }

@@ -6,6 +6,7 @@ returns c = kept (record {
   write = c.memory_is_kept.ensures.writes;
   read = c.memory_is_kept.ensures.reads;
   machine = c.histories_run_the_machine.ensures;
+  call = c.calls_end_within_bounds.ensures;
   deliver = c.delivered_frames_are_read.ensures;
   accept = c.accepted_frames_stand_in_the_section.ensures;
   refuse = c.values_out_of_range_are_refused.ensures;
@@ -14,4 +15,6 @@ returns c = kept (record {
   rest = c.refused_peers_rest.ensures;
   never = c.honest_peers_never_refuse.ensures;
   order = c.histories_deliver.ensures;
+  marked = c.versions_differ_in_marks.ensures.second;
+  number = c.sessions_are_numbered.ensures;
 })

@@ -1,14 +1,18 @@
+use Rattle.scenario_text.specs.Drafts.{so_far}
 use Rattle.scenario_text.proofs.WholeLaws.{is_whole, is_spelled, only_ok, only_err}
 use Rattle.scenario_text.proofs.reading.parse.Goals as goal
 
-pub finish-requires : goal.finish-requires
-finish-requires c = is_whole c.args.bytes.now _ c.in-Ok.ensures
+pub finish-requires-clause-ended : goal.finish-requires-clause-ended
+finish-requires-clause-ended c = (is_whole c.args.bytes.now (so_far c.read_text.new.draft) (rw c.new-draft.ensures at c.in_ok-read_text.ensures)).0
 
-pub returns-in-Ok-clause-found : goal.returns-in-Ok-clause-found
-returns-in-Ok-clause-found c = is_spelled c.args.bytes.now _ _ c.in-Ok.ensures c.finish.ensures
+pub finish-requires-clause-world : goal.finish-requires-clause-world
+finish-requires-clause-world c = (is_whole c.args.bytes.now (so_far c.read_text.new.draft) (rw c.new-draft.ensures at c.in_ok-read_text.ensures)).1
 
-pub returns-in-Ok-clause-only : goal.returns-in-Ok-clause-only
-returns-in-Ok-clause-only c = λ w is. only_ok c.args.bytes.now _ _ w c.in-Ok.ensures c.finish.ensures is
+pub returns-clause-found : goal.returns-clause-found
+returns-clause-found c = is_spelled c.args.bytes.now (so_far c.read_text.new.draft) _ (rw c.new-draft.ensures at c.in_ok-read_text.ensures) c.finish.ensures
 
-pub returns-in-Err-clause-only : goal.returns-in-Err-clause-only
-returns-in-Err-clause-only c = λ w is. only_err c.args.bytes.now c.in-Err.fault w c.in-Err.ensures is
+pub returns-clause-only : goal.returns-clause-only
+returns-clause-only c = λ w is. only_ok c.args.bytes.now (so_far c.read_text.new.draft) _ w (rw c.new-draft.ensures at c.in_ok-read_text.ensures) c.finish.ensures is
+
+pub returns-in_err-read_text-clause-only : goal.returns-in_err-read_text-clause-only
+returns-in_err-read_text-clause-only c = only_err c.args.bytes.now (so_far c.read_text.new.draft) c.in_err-read_text.field-0.0 c.from_residual.result c.from_residual.ensures.1 (rw c.new-draft.ensures at c.in_err-read_text.ensures)

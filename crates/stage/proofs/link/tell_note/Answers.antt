@@ -9,5 +9,5 @@ pub remark-requires : goal.remark-requires
 remark-requires c = rw c.in_ok-line.ensures (mark_remark c.args.me _ c.requires)
 
 pub returns-clause-after : goal.returns-clause-after
-returns-clause-after c = λ world drained past losses after.
-    subst (λ (l : Line). OnOk c.remark.result (SceneAfter world drained (l ∷ past) losses c.remark.new.self)) c.in_ok-line.ensures (c.remark.ensures.after world drained past losses after)
+returns-clause-after c = λ world output past losses after.
+    subst (λ (l : Line). OnOk c.remark.result (SceneAfter world output (l ∷ past) losses c.remark.new.self)) c.in_ok-line.ensures (c.remark.ensures.after world output past losses after)

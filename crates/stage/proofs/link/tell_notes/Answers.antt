@@ -15,16 +15,16 @@ tell_note-requires c = frame_at c.args.me (offered c.args.end.now) (delivered c.
 
 pub loop-note-preserved : goal.loop-note-preserved
 loop-note-preserved c = (
-  λ world drained past losses after.
+  λ world output past losses after.
       let i = c.loop-note.note-index in
       let older = reverse (map (mark_line c.args.me) (marks_between (offered c.args.end.now) (delivered c.args.end.now) (take i c.args.notes.now))) ++ past in
-      subst (λ (ls : List Line). SceneAfter world drained ls losses c.tell_note.new.scene)
+      subst (λ (ls : List Line). SceneAfter world output ls losses c.tell_note.new.scene)
       (sym (one_note c.args.me (offered c.args.end.now) (delivered c.args.end.now) c.args.notes.now i _ past c.loop-note-test.true (search rules)))
-      (c.in_ok-tell_note.ensures.after world drained older losses (c.loop-note.invariant.0 world drained past losses after)),
+      (c.in_ok-tell_note.ensures.after world output older losses (c.loop-note.invariant.0 world output past losses after)),
   λ q seated. c.in_ok-tell_note.ensures.seated q (c.loop-note.invariant.1 q seated),
 )
 
 pub returns-clause-after : goal.returns-clause-after
-returns-clause-after c = λ world drained past losses after.
-    subst (λ (ns : List Note). SceneAfter world drained (reverse (map (mark_line c.args.me) (marks_between (offered c.args.end.now) (delivered c.args.end.now) ns)) ++ past) losses c.loop-note.scene)
-    (take_all c.loop-note.note-index c.args.notes.now (omega arith)) (c.loop-note.invariant.0 world drained past losses after)
+returns-clause-after c = λ world output past losses after.
+    subst (λ (ns : List Note). SceneAfter world output (reverse (map (mark_line c.args.me) (marks_between (offered c.args.end.now) (delivered c.args.end.now) ns)) ++ past) losses c.loop-note.scene)
+    (take_all c.loop-note.note-index c.args.notes.now (omega arith)) (c.loop-note.invariant.0 world output past losses after)

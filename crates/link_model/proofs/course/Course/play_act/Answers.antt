@@ -22,8 +22,8 @@ act-requires c =
     )
 
 pub returns-in-Turn-clause-played : goal.returns-in-Turn-clause-played
-returns-in-Turn-clause-played c = λ drained played.
-    turns_noted drained c.args.self.now c.in-Turn.peer c.in-Turn.steps c.requires.left c.requires.inside
+returns-in-Turn-clause-played c = λ output played.
+    turns_noted output c.args.self.now c.in-Turn.peer c.in-Turn.steps c.requires.left c.requires.inside
     (subst (λ (a : Act). a ≡ get_or (world_in c.args.self.now).acts c.args.self.now.at a) c.in-Turn.is c.requires.at) played
 
 pub returns-in_ok-act-in_default : goal.returns-in_ok-act-in_default
@@ -33,8 +33,9 @@ returns-in_ok-act-in_default c =
     let inside = c.requires.inside in
     let less = one_act_less acts course.at c.args.act.now inside c.requires.at in
     record {
-      played = λ drained played. act_played drained course c.args.act.now c.act.new.self c.requires.left inside c.requires.at c.in_ok-act-in_default.ensures played;
+      played = λ output played. act_played output course c.args.act.now c.act.new.self c.requires.left inside c.requires.at c.in_ok-act-in_default.ensures played;
       fewer = omega arith;
       passed = refl;
       scenario = refl;
+      version = refl;
     }

@@ -8,6 +8,7 @@ invariant-loop-self l = record {
   along : (lines : List Line) → IsAlong lines l.initial.self → IsAlong lines l.self;
   some : (lines : List Line) × IsAlong lines l.self;
   scenario : l.self.scenario.now ≡ l.initial.self.scenario.now;
+  version : l.self.version ≡ l.initial.self.version;
 }
 
 abbrev pub decreases-loop-self : goal.decreases-loop-self

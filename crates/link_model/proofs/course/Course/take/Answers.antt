@@ -6,7 +6,7 @@ use Rattle.link_model.proofs.course.Course.take.Goals as goal
 
 pub returns-then-not-is_due-clause-cause : goal.returns-then-not-is_due-clause-cause
 returns-then-not-is_due-clause-cause c = λ lines goes number.
-    breaks c.one_history.ensures c.history_is_lawful.ensures lines c.args.self.now c.args.line.now _ goes (c.is_due.ensures.other c.if-not-is_due.true) number
+    breaks c.records_tell_one_history.ensures.one c.records_tell_one_history.ensures.told lines c.args.self.now c.args.line.now _ goes (c.is_due.ensures.other c.if-not-is_due.true) number
     (c.broken_law-law.ensures ∙ ap (λ h. law_between h (Some c.args.line.now)) c.due.ensures)
 
 pub settle-requires : goal.settle-requires

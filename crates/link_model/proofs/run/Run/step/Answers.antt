@@ -21,12 +21,12 @@ pub returns-in-Ok-clause-taken : goal.returns-in-Ok-clause-taken
 returns-in-Ok-clause-taken c =
     let going = subst (λ (o : Option StepFault). IsGoing o c.self.inside.next c.self.inside.course) c.in_default.is c.self.invariant in
     one_more c.self.inside.course c.take.new.self c.self.inside.next c.in-Some-checked_add.after c.self.inside.fault going.0 c.args.line.now c.args.self.now c.self.view_is going.1 going.2
-    (c.in-Ok.ensures.on going.0 going.1) (one_counted going.0 c.args.line.now c.self.inside.next c.in-Some-checked_add.after going.2 c.in-Some-checked_add.ensures.1) (ap world_of c.in-Ok.ensures.scenario)
+    (c.in-Ok.ensures.on going.0 going.1) (one_counted going.0 c.args.line.now c.self.inside.next c.in-Some-checked_add.after going.2 c.in-Some-checked_add.ensures.1) (ap world_of c.in-Ok.ensures.scenario) c.in-Ok.ensures.version
 
 pub returns-in-Ok-clause-lawful : goal.returns-in-Ok-clause-lawful
 returns-in-Ok-clause-lawful c =
     let going = subst (λ (o : Option StepFault). IsGoing o c.self.inside.next c.self.inside.course) c.in_default.is c.self.invariant in
-    seen_begins c.one_history.ensures c.history_is_lawful.ensures c.take.new.self c.in-Some-checked_add.after (going.0 ++ c.args.line.now ∷ []) (c.in-Ok.ensures.on going.0 going.1)
+    seen_begins c.records_tell_one_history.ensures.one c.records_tell_one_history.ensures.told c.take.new.self c.in-Some-checked_add.after (going.0 ++ c.args.line.now ∷ []) (c.in-Ok.ensures.on going.0 going.1)
     (one_counted going.0 c.args.line.now c.self.inside.next c.in-Some-checked_add.after going.2 c.in-Some-checked_add.ensures.1)
 
 pub returns-in-Err-clause-cause : goal.returns-in-Err-clause-cause

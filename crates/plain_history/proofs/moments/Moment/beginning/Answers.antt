@@ -10,7 +10,7 @@ use Rattle.plain_history.proofs.moments.Moment.beginning.Goals as goal
 
 pub loop-p-preserved : goal.loop-p-preserved
 loop-p-preserved c =
-    let put : c.push.new.self.items ≡ c.loop-p.peers.items ++ c.at_start.result ∷ [] = c.in-Ok.ensures.items in
+    let put : c.push.new.self.items ≡ c.loop-p.peers.items ++ c.at_start.result ∷ [] = c.in_ok-push.ensures.items in
     let before = c.loop-p.invariant.count in
     let more = length-append c.loop-p.peers.items (c.at_start.result ∷ []) in
     record {

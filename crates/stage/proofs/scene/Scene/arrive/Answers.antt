@@ -10,14 +10,14 @@ use Rattle.stage.proofs.scene.Scene.arrive.Goals as goal
 
 pub loop-delivery-preserved : goal.loop-delivery-preserved
 loop-delivery-preserved c = (
-  λ world drained past losses after.
+  λ world output past losses after.
       let l = c.loop-delivery in
-      subst (λ (ls : List Line). SceneAfter world drained ls losses c.arrive_at.new.self)
+      subst (λ (ls : List Line). SceneAfter world output ls losses c.arrive_at.new.self)
       (sym (one_arrived past losses c.args.deliveries.now l.delivery-index _ c.loop-delivery-test.true (search rules)))
-      (c.in_ok-arrive_at.ensures.after world drained (reverse (arrived past losses (take l.delivery-index c.args.deliveries.now)) ++ past) losses (l.invariant.0 world drained past losses after)),
+      (c.in_ok-arrive_at.ensures.after world output (reverse (arrived past losses (take l.delivery-index c.args.deliveries.now)) ++ past) losses (l.invariant.0 world output past losses after)),
   λ me seated. c.in_ok-arrive_at.ensures.seated me (c.loop-delivery.invariant.1 me seated),
 )
 
 pub returns-clause-after : goal.returns-clause-after
-returns-clause-after c = λ world drained past losses after.
-    subst (λ (ds : List Delivery). SceneAfter world drained (reverse (arrived past losses ds) ++ past) losses c.loop-delivery.self) (take_all c.loop-delivery.delivery-index c.args.deliveries.now (omega arith)) (c.loop-delivery.invariant.0 world drained past losses after)
+returns-clause-after c = λ world output past losses after.
+    subst (λ (ds : List Delivery). SceneAfter world output (reverse (arrived past losses ds) ++ past) losses c.loop-delivery.self) (take_all c.loop-delivery.delivery-index c.args.deliveries.now (omega arith)) (c.loop-delivery.invariant.0 world output past losses after)

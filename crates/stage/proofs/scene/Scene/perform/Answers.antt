@@ -4,29 +4,30 @@ use Rattle.split_ring.specs.declared.steps.Access.{Access}
 use Rattle.split_ring.specs.declared.steps.Access.TheVariants as access
 use Rattle.scenario_text.specs.Scenario.{World}
 use Rattle.lawful_history.specs.declared.line.Line.{Line}
+use Rattle.stage.specs.Log.{Output}
 use Rattle.stage.specs.Scene.{SceneAfter, GaveLast, accessed}
 use Rattle.stage.specs.declared.scene.Scene.{Scene}
 use Rattle.stage.proofs.scene.Scene.perform.Goals as goal
 
 -- what an access gave and left
-abbrev Left : World → List Line → List Line → (ℕ → ℕ) → ℕ → Scene → Access → ℕ → Type 0
-Left world drained past losses me scene a value = GaveLast past a value × SceneAfter world drained (reverse (accessed world past losses me a value) ++ past) losses scene
+abbrev Left : World → Output → List Line → (ℕ → ℕ) → ℕ → Scene → Access → ℕ → Type 0
+Left world output past losses me scene a value = GaveLast past a value × SceneAfter world output (reverse (accessed world past losses me a value) ++ past) losses scene
 
-to : (world : World) (drained past : List Line) (losses : ℕ → ℕ) (me : ℕ) (scene : Scene) (a b : Access) (value : ℕ) → a ≡ b → Left world drained past losses me scene b value → Left world drained past losses me scene a value
-to world drained past losses me scene a b value is left = subst (λ (x : Access). Left world drained past losses me scene x value) (sym is) left
+to : (world : World) (output : Output) (past : List Line) (losses : ℕ → ℕ) (me : ℕ) (scene : Scene) (a b : Access) (value : ℕ) → a ≡ b → Left world output past losses me scene b value → Left world output past losses me scene a value
+to world output past losses me scene a b value is left = subst (λ (x : Access). Left world output past losses me scene x value) (sym is) left
 
 pub returns-in-Read-clause-after : goal.returns-in-Read-clause-after
-returns-in-Read-clause-after c = λ world drained past losses after.
-    subst (λ (x : Access). IfOk c.read.result (Left world drained past losses c.args.me c.read.new.self x)) (sym c.in-Read.is) (c.read.ensures.after world drained past losses after)
+returns-in-Read-clause-after c = λ world output past losses after.
+    subst (λ (x : Access). IfOk c.read.result (Left world output past losses c.args.me c.read.new.self x)) (sym c.in-Read.is) (c.read.ensures.after world output past losses after)
 
 pub returns-in_ok-write-in-Write-clause-after : goal.returns-in_ok-write-in-Write-clause-after
-returns-in_ok-write-in-Write-clause-after c = λ world drained past losses after.
-    to world drained past losses c.args.me c.write.new.self c.args.access (access.Write c.in-Write.word c.in-Write.value) 0 c.in-Write.is (tt, c.in_ok-write-in-Write.ensures.after world drained past losses after)
+returns-in_ok-write-in-Write-clause-after c = λ world output past losses after.
+    to world output past losses c.args.me c.write.new.self c.args.access (access.Write c.in-Write.word c.in-Write.value) 0 c.in-Write.is (tt, c.in_ok-write-in-Write.ensures.after world output past losses after)
 
 pub returns-in_ok-set_state-in-State-clause-after : goal.returns-in_ok-set_state-in-State-clause-after
-returns-in_ok-set_state-in-State-clause-after c = λ world drained past losses after.
-    to world drained past losses c.args.me c.set_state.new.self c.args.access (access.State c.in-State.state) 0 c.in-State.is (tt, c.in_ok-set_state-in-State.ensures.after world drained past losses after)
+returns-in_ok-set_state-in-State-clause-after c = λ world output past losses after.
+    to world output past losses c.args.me c.set_state.new.self c.args.access (access.State c.in-State.state) 0 c.in-State.is (tt, c.in_ok-set_state-in-State.ensures.after world output past losses after)
 
 pub returns-in_ok-ring-in-Ring-clause-after : goal.returns-in_ok-ring-in-Ring-clause-after
-returns-in_ok-ring-in-Ring-clause-after c = λ world drained past losses after.
-    to world drained past losses c.args.me c.ring.new.self c.args.access (access.Ring c.in-Ring.target c.in-Ring.vector) 0 c.in-Ring.is (tt, c.in_ok-ring-in-Ring.ensures.after world drained past losses after)
+returns-in_ok-ring-in-Ring-clause-after c = λ world output past losses after.
+    to world output past losses c.args.me c.ring.new.self c.args.access (access.Ring c.in-Ring.target c.in-Ring.vector) 0 c.in-Ring.is (tt, c.in_ok-ring-in-Ring.ensures.after world output past losses after)

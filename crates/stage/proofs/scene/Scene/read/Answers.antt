@@ -3,4 +3,4 @@ use Rattle.stage.proofs.Arriving.{read_after}
 use Rattle.stage.proofs.scene.Scene.read.Goals as goal
 
 pub returns-clause-after : goal.returns-clause-after
-returns-clause-after c = λ world drained past losses after. read_after world drained past losses c.args.self.now _ c.args.me c.args.word c.in-Ok.value after c.in-Ok.ensures.inside refl refl refl c.in_ok-push.ensures.put
+returns-clause-after c = λ world output past losses after. read_after world output past losses c.args.self.now _ c.args.me c.args.word c.in-Ok.value after c.in-Ok.ensures.inside refl refl refl c.in_ok-push.ensures

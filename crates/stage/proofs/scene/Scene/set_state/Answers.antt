@@ -8,15 +8,15 @@ use Rattle.stage.proofs.Arriving.{told_after, come_after, state_words}
 use Rattle.stage.proofs.scene.Scene.set_state.Goals as goal
 
 pub returns-clause-after : goal.returns-clause-after
-returns-clause-after c = λ world drained past losses after.
+returns-clause-after c = λ world output past losses after.
     let line = State c.args.me c.args.value in
     let effect = c.register_write-effect.ensures.effect (devices_of world) (device_events past) after.devices in
     let region = c.tell.ensures.region ∙ ap (λ e. with_state c.args.self.now.region c.args.me e.state) effect in
-    let told = told_after world drained past losses c.args.self.now c.tell.new.self line _ after refl (λ p. refl) refl
+    let told = told_after world output past losses c.args.self.now c.tell.new.self line _ after refl (λ p. refl) refl
     (rw region (state_words c.args.self.now.region.words past c.args.me c.args.value after.words))
     (ap (λ r. r.shape) region) (rw c.tell.ensures.device (c.register_write-effect.ensures.stands (devices_of world) (device_events past) after.devices))
-    c.tell.ensures.unspent c.in_ok-deliveries.ensures.lines in
+    c.tell.ensures.unspent c.in_ok-deliveries.ensures.log in
     let brings : BringsBy world past (told_by line) c.as_slice.result.now =
     c.as_slice.ensures.value ∙ ap (λ ds. ds.items) c.in_ok-deliveries.ensures.deliveries ∙ ap (λ e. e.deliveries.items) effect in
-    come_after (λ (ls : List Line). OnOk c.arrive.result (SceneAfter world drained ls losses c.arrive.new.self)) world past losses line (told_by line) c.as_slice.result.now brings
-    (c.arrive.ensures.after world drained (line ∷ past) losses told)
+    come_after (λ (ls : List Line). OnOk c.arrive.result (SceneAfter world output ls losses c.arrive.new.self)) world past losses line (told_by line) c.as_slice.result.now brings
+    (c.arrive.ensures.after world output (line ∷ past) losses told)

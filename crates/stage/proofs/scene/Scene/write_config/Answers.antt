@@ -6,7 +6,7 @@ use Rattle.std.proofs.lemmas.Result.{on_ok_weaker}
 use Rattle.stage.proofs.scene.Scene.write_config.Goals as goal
 
 pub returns-clause-after : goal.returns-clause-after
-returns-clause-after c = λ world drained past losses after.
-    on_ok_weaker c.push.result (λ put. told_after world drained past losses c.args.self.now _ (ConfigWrite c.args.me c.args.offset c.args.width c.args.value) _ after refl (λ p. refl) refl after.words refl
+returns-clause-after c = λ world output past losses after.
+    on_ok_weaker c.push.result (λ put. told_after world output past losses c.args.self.now _ (ConfigWrite c.args.me c.args.offset c.args.width c.args.value) _ after refl (λ p. refl) refl after.words refl
     (c.in-Ok.ensures.written (devices_of world) (device_events past) after.devices) refl put)
-    c.push.ensures.put
+    c.push.ensures

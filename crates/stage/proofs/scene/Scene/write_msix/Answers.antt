@@ -6,6 +6,6 @@ use Rattle.std.proofs.lemmas.Result.{on_ok_weaker}
 use Rattle.stage.proofs.scene.Scene.write_msix.Goals as goal
 
 pub returns-clause-after : goal.returns-clause-after
-returns-clause-after c = λ world drained past losses after.
-    on_ok_weaker c.push.result (λ put. told_after world drained past losses c.args.self.now _ (MsixWrite c.args.me c.args.offset c.args.value) _ after refl (λ p. refl) refl after.words refl (c.msix_write.ensures.stands (devices_of world) (device_events past) after.devices) refl put)
-    c.push.ensures.put
+returns-clause-after c = λ world output past losses after.
+    on_ok_weaker c.push.result (λ put. told_after world output past losses c.args.self.now _ (MsixWrite c.args.me c.args.offset c.args.value) _ after refl (λ p. refl) refl after.words refl (c.msix_write.ensures.stands (devices_of world) (device_events past) after.devices) refl put)
+    c.push.ensures

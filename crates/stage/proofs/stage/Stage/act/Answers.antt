@@ -99,8 +99,8 @@ pub returns-in-Turn : goal.returns-in-Turn
 returns-in-Turn c = played_turns c.turns.result c.args.act.now c.in-Turn.peer c.in-Turn.steps c.args.self.now c.turns.new.self c.in-Turn.is c.turns.ensures
 
 pub returns-in-Storm : goal.returns-in-Storm
-returns-in-Storm c = λ world drained events allowed runs.
+returns-in-Storm c = λ world output events allowed runs.
     let here : IsAct world (act.Storm c.in-Storm.peer c.in-Storm.seed) = subst (λ (a : Act). IsAct world a) c.in-Storm.is allowed in
     let fits = act_fits world (act.Storm c.in-Storm.peer c.in-Storm.seed) runs.after.is_world here in
-    subst (λ (a : Act). RunsTo world drained (events ++ events_of a) c.storm.new.self) (sym c.in-Storm.is)
-    (c.storm.ensures world drained events fits.0 (hostile_unlinked c.in-Storm.peer world.geometry.peers _ here.1.peer) runs)
+    subst (λ (a : Act). RunsTo world output (events ++ events_of a) c.storm.new.self) (sym c.in-Storm.is)
+    (c.storm.ensures world output events fits.0 (hostile_unlinked c.in-Storm.peer world.geometry.peers _ here.1.peer) runs)

@@ -10,8 +10,8 @@ use Rattle.stage.proofs.Runs.{seat_goes_on}
 use Rattle.stage.proofs.stage.Stage.ask.Goals as goal
 
 pub returns : goal.returns
-returns c = λ world drained events there runs.
+returns c = λ world output events there runs.
     let m = moment_of world events in
     let p = c.args.peer in
-    seat_goes_on world drained events (Asked p (call_of c.args.call)) c.args.self.now _ _ (Honest c.ask.new.self) there c.index_mut.ensures.value refl refl
+    seat_goes_on world output events (Asked p (call_of c.args.call)) c.args.self.now _ _ (Honest c.ask.new.self) there c.index_mut.ensures.value refl refl
     (λ stands. c.in_ok-ask-in-Honest.ensures (who_of world p) (peer_at m p) (subst (λ (s : Seat). SeatStands (who_of world p) (peer_at m p) s) c.in-Honest.is stands)) (λ kind. sym (ap is_honest c.in-Honest.is) ∙ kind) runs.after (λ q seated. seated) runs

@@ -3,4 +3,4 @@ use Rattle.stage.proofs.Runs.{drained_on}
 use Rattle.stage.proofs.stage.Stage.drain.Goals as goal
 
 pub returns-clause-on : goal.returns-clause-on
-returns-clause-on c = λ world drained events runs. drained_on world drained events c.args.self.now _ refl refl refl refl refl c.clear.ensures runs
+returns-clause-on c = λ world output events runs. drained_on world output events c.args.self.now _ refl refl refl refl refl c.clear.ensures.on runs

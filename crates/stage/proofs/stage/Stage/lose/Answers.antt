@@ -5,6 +5,6 @@ use Rattle.stage.proofs.Runs.{scene_goes_on}
 use Rattle.stage.proofs.stage.Stage.lose.Goals as goal
 
 pub returns : goal.returns
-returns c = λ world drained events there runs.
+returns c = λ world output events there runs.
     let m = moment_of world events in
-    scene_goes_on world drained events (Loses c.args.peer) c.args.self.now _ there refl refl refl (c.lose.ensures.after world drained m.past m.losses runs.after) c.lose.ensures.seated runs
+    scene_goes_on world output events (Loses c.args.peer) c.args.self.now _ there refl refl refl (c.lose.ensures.after world output m.past m.losses runs.after) c.lose.ensures.seated runs

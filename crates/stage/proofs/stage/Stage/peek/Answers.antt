@@ -8,6 +8,6 @@ use Rattle.stage.proofs.Runs.{scene_goes_on}
 use Rattle.stage.proofs.stage.Stage.peek.Goals as goal
 
 pub returns : goal.returns
-returns c = λ world drained events there runs.
+returns c = λ world output events there runs.
     let m = moment_of world events in
-    scene_goes_on world drained events (Acted c.args.peer (access.Read c.args.word)) c.args.self.now _ there refl refl refl (let gave = c.in_ok-read.ensures.after world drained m.past m.losses runs.after in subst (λ (v : ℕ). SceneAfter world drained (line.Read c.args.peer c.args.word v ∷ m.past) m.losses c.read.new.self) gave.0 gave.1) c.in_ok-read.ensures.seated runs
+    scene_goes_on world output events (Acted c.args.peer (access.Read c.args.word)) c.args.self.now _ there refl refl refl (let gave = c.in_ok-read.ensures.after world output m.past m.losses runs.after in subst (λ (v : ℕ). SceneAfter world output (line.Read c.args.peer c.args.word v ∷ m.past) m.losses c.read.new.self) gave.0 gave.1) c.in_ok-read.ensures.seated runs

@@ -6,4 +6,4 @@ use Rattle.stage.proofs.stage.Stage.repeat.Goals as goal
 pub returns : goal.returns
 returns c =
     scene_happens c.repeat.result (Repeated c.args.peer c.args.vector) c.args.self.now _ refl refl (λ world m. refl)
-    (λ world drained m after. c.repeat.ensures.after world drained m.past m.losses after) c.repeat.ensures.seated
+    (λ world output m after. c.repeat.ensures.after world output m.past m.losses after) c.repeat.ensures.seated

@@ -7,8 +7,8 @@ use Rattle.stage.proofs.Runs.{seat_goes_on}
 use Rattle.stage.proofs.stage.Stage.reset.Goals as goal
 
 pub returns : goal.returns
-returns c = λ world drained events there runs.
+returns c = λ world output events there runs.
     let m = moment_of world events in
     let p = c.args.peer in
-    seat_goes_on world drained events (WasReset p) c.args.self.now _ _ c.reset.new.seat there c.index_mut.ensures.value refl refl
-    (λ stands. c.reset.ensures.reset (who_of world p) (peer_at m p) stands) (λ kind. c.reset.ensures.kind ∙ kind) (c.in_ok-reset.ensures.after world drained m.past m.losses runs.after) c.in_ok-reset.ensures.seated runs
+    seat_goes_on world output events (WasReset p) c.args.self.now _ _ c.reset.new.seat there c.index_mut.ensures.value refl refl
+    (λ stands. c.reset.ensures.reset (who_of world p) (peer_at m p) stands) (λ kind. c.reset.ensures.kind ∙ kind) (c.in_ok-reset.ensures.after world output m.past m.losses runs.after) c.in_ok-reset.ensures.seated runs

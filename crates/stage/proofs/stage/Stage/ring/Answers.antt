@@ -10,4 +10,4 @@ use Rattle.stage.proofs.stage.Stage.ring.Goals as goal
 pub returns : goal.returns
 returns c =
     scene_happens c.ring.result (Acted c.args.peer (access.Ring c.args.target c.args.vector)) c.args.self.now _ refl refl (λ world m. refl)
-    (λ world drained m after. told_alone world m.past m.losses (line.Doorbell c.args.peer c.args.target c.args.vector) (λ ls. OnOk c.ring.result (SceneAfter world drained ls m.losses c.ring.new.self)) (c.ring.ensures.after world drained m.past m.losses after)) c.ring.ensures.seated
+    (λ world output m after. told_alone world m.past m.losses (line.Doorbell c.args.peer c.args.target c.args.vector) (λ ls. OnOk c.ring.result (SceneAfter world output ls m.losses c.ring.new.self)) (c.ring.ensures.after world output m.past m.losses after)) c.ring.ensures.seated

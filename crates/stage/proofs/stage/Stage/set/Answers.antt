@@ -10,4 +10,4 @@ use Rattle.stage.proofs.stage.Stage.set.Goals as goal
 pub returns : goal.returns
 returns c =
     scene_happens c.set_state.result (Acted c.args.peer (access.State c.args.value)) c.args.self.now _ refl refl (λ world m. refl)
-    (λ world drained m after. told_alone world m.past m.losses (line.State c.args.peer c.args.value) (λ ls. OnOk c.set_state.result (SceneAfter world drained ls m.losses c.set_state.new.self)) (c.set_state.ensures.after world drained m.past m.losses after)) c.set_state.ensures.seated
+    (λ world output m after. told_alone world m.past m.losses (line.State c.args.peer c.args.value) (λ ls. OnOk c.set_state.result (SceneAfter world output ls m.losses c.set_state.new.self)) (c.set_state.ensures.after world output m.past m.losses after)) c.set_state.ensures.seated

@@ -27,11 +27,11 @@ turn-requires-clause-sizes c =
     )
 
 pub returns : goal.returns
-returns c = λ world drained events there runs.
+returns c = λ world output events there runs.
     let m = moment_of world events in
     let p = c.args.peer in
     let count = runs.count in
     let here = slice_get-get_or c.args.self.now.seats.items p _ (omega arith) ∙ ap Some (sym c.index_mut-seat.ensures.value) in
-    let turned = c.in_ok-turn.ensures.turn world drained m.past m.losses (peer_at m p) (record { is_world = runs.after.is_world; there = there; geometry = runs.geometry; queue = runs.queue }) runs.after (runs.stands p _ here) in
-    seat_goes_on world drained events (Turned p) c.args.self.now _ _ c.turn.new.seat there c.index_mut-seat.ensures.value refl refl
+    let turned = c.in_ok-turn.ensures.turn world output m.past m.losses (peer_at m p) (record { is_world = runs.after.is_world; there = there; geometry = runs.geometry; queue = runs.queue }) runs.after (runs.stands p _ here) in
+    seat_goes_on world output events (Turned p) c.args.self.now _ _ c.turn.new.seat there c.index_mut-seat.ensures.value refl refl
     (λ stands. turned.1) (λ kind. c.in_ok-turn.ensures.kind ∙ kind) turned.0 c.in_ok-turn.ensures.seated runs

@@ -1,0 +1,202 @@
+/* bare: a program without a C library, as a guest that has none. It brings its own memory and its own memcpy, memmove and memset, and tries
+ * each call of the header, its answers among them. It ends with the number of the first line that isn't as it should be, or with 0. */
+#include "ivshm_c.h"
+
+struct rattle_block {
+    uint64_t ok;
+    void *at;
+};
+
+static _Alignas(16) unsigned char arena[1 << 18];
+static size_t top;
+
+struct rattle_block rattle_alloc(size_t size, size_t align);
+void rattle_dealloc(void *at);
+int check(void);
+void _start(void);
+
+struct rattle_block rattle_alloc(size_t size, size_t align) {
+    (void)align;
+    size = (size + 15) & ~(size_t)15;
+    if (size > sizeof arena - top) return (struct rattle_block){0, arena};
+    void *at = arena + top;
+    top += size;
+    return (struct rattle_block){1, at};
+}
+
+void rattle_dealloc(void *at) { (void)at; }
+
+void *memcpy(void *restrict to, const void *restrict from, size_t n) {
+    unsigned char *t = to;
+    for (const unsigned char *f = from; n > 0; n--) *t++ = *f++;
+    return to;
+}
+
+void *memmove(void *to, const void *from, size_t n) {
+    unsigned char *t = to;
+    const unsigned char *f = from;
+    if (t <= f) return memcpy(to, from, n);
+    while (n-- > 0) t[n] = f[n];
+    return to;
+}
+
+void *memset(void *to, int byte, size_t n) {
+    for (unsigned char *t = to; n > 0; n--) *t++ = (unsigned char)byte;
+    return to;
+}
+
+static uint32_t words[1024 + 2 * 4096];
+
+/* Makes the accesses of the open call, and tells whether a frame was delivered. */
+static int run(ivshm_end *end, uint32_t me) {
+    ivshm_access access;
+    ivshm_notes notes;
+    int delivered = 0;
+    while (ivshm_end_next(end, &access) == IVSHM_DONE) {
+        uint32_t value = 0;
+        if (access.kind == IVSHM_READ) value = words[access.word];
+        if (access.kind == IVSHM_WRITE) words[access.word] = access.value;
+        if (access.kind == IVSHM_STATE) words[me] = access.value;
+        if (ivshm_end_took(end, value, &notes) != IVSHM_DONE) return -1;
+        for (uint32_t i = 0; i < notes.count; i++) delivered += notes.note[i].kind == IVSHM_DELIVER;
+    }
+    return delivered;
+}
+
+static void tick(ivshm_end *end, uint32_t me) {
+    ivshm_end_begin(end, IVSHM_TICK);
+    run(end, me);
+}
+
+#define WANT(right) \
+    if (!(right)) return __LINE__ % 256
+
+/* The sizes of structs on both sides of the header. */
+_Static_assert(sizeof(ivshm_end) == 8 && sizeof(ivshm_access) == 12 && sizeof(ivshm_note) == 16 && sizeof(ivshm_notes) == 40, "sizes");
+_Static_assert(sizeof(ivshm_view) == 40 && sizeof(ivshm_found) == 64 && sizeof(ivshm_words) == 56 && sizeof(ivshm_limits_told) == 24, "sizes");
+
+static int check_tables(void) {
+    static uint8_t space[256];
+    ivshm_limits_told limits;
+    ivshm_found found = {0};
+    ivshm_words layout;
+    ivshm_limits(&limits);
+    WANT(limits.version == IVSHM_VERSION && limits.least_mtu == IVSHM_LEAST_MTU && limits.most_mtu == IVSHM_MOST_MTU);
+    WANT(limits.shortest_frame == IVSHM_SHORTEST && limits.longest_frame == IVSHM_LONGEST && limits.largest_region == IVSHM_LARGEST_REGION);
+    /* a vendor capability at 40h with a base, then MSI-X at 60h with 4 vectors */
+    static const uint8_t head[] = {0x0a, 0x11, 0x06, 0x41, 0, 0, 0x10, 0, 0, 1, 0, 0xff};
+    static const uint8_t vendor[] = {9, 0x60, 0x20, 1, 0, 0x10, 0, 0, 0, 0, 0, 0, 0, 0, 0, 0, 0, 0x40, 0, 0, 0, 0, 0, 0, 0, 0, 0, 0, 1};
+    static const uint8_t msix[] = {0x11, 0, 3, 0, 1, 0, 0, 0, 1, 8, 0, 0};
+    WANT(ivshm_walk(space, &found) == IVSHM_OTHER_DEVICE && found.table == 0);
+    memcpy(space, head, sizeof head);
+    WANT(ivshm_walk(space, &found) == IVSHM_NO_VENDOR);
+    space[0x34] = 0x40;
+    memcpy(space + 0x40, vendor, sizeof vendor);
+    memcpy(space + 0x60, msix, sizeof msix);
+    WANT(ivshm_walk(space, &found) == IVSHM_DONE);
+    WANT(found.table == 4096 && found.common == 0 && found.out == 16384 && found.has_base == 1 && found.base == 0x100000000);
+    WANT(found.protocol == 1 && found.one_shot == 1 && found.vectors == 4);
+    WANT(found.vectors_bar == 1 && found.vectors_offset == 0 && found.pending_bar == 1 && found.pending_offset == 0x800);
+    space[0x42] = 0x1c;
+    WANT(ivshm_walk(space, &found) == IVSHM_BAD_VENDOR_LENGTH);
+    space[0x34] = 0x3c;
+    WANT(ivshm_walk(space, &found) == IVSHM_OUT_OF_SPACE);
+    space[0x34] = 0x80;
+    space[0x81] = 0x80;
+    WANT(ivshm_walk(space, &found) == IVSHM_LOOP);
+    space[0x0b] = 0x02;
+    WANT(ivshm_walk(space, &found) == IVSHM_BAD_CLASS);
+    /* a section of 16,384 bytes has a queue of 64 */
+    WANT(ivshm_layout(&found, 2, 256, &layout) == IVSHM_DONE && layout.first == 1024 && layout.words == 4096 && layout.queue_size == 64);
+    WANT(layout.available_index == 256 && layout.available_entries == 257 && layout.used_event == 289 && layout.longest_offer == 274);
+    WANT(ivshm_layout(&found, 1, 256, &layout) == IVSHM_BAD_PEERS && ivshm_layout(&found, 2, 255, &layout) == IVSHM_BAD_MTU);
+    WANT(ivshm_layout(&found, 2, 65535, &layout) == IVSHM_NO_SLOT && ivshm_layout(&found, 2000, 256, &layout) == IVSHM_SMALL_TABLE);
+    WANT(ivshm_layout(&found, 1024, 256, &layout) == IVSHM_LARGE_REGION);
+    found.common = 1;
+    WANT(ivshm_layout(&found, 2, 256, &layout) == IVSHM_BAD_COMMON);
+    found = (ivshm_found){.table = 4096, .out = 4096};
+    WANT(ivshm_layout(&found, 2, 256, &layout) == IVSHM_SMALL_OUT);
+    found.out = 0;
+    WANT(ivshm_layout(&found, 2, 256, &layout) == IVSHM_BAD_OUT);
+    found.table = 100;
+    WANT(ivshm_layout(&found, 2, 256, &layout) == IVSHM_BAD_TABLE && layout.words == 4096);
+    return 0;
+}
+
+static int check_handles(void) {
+    ivshm_end none = IVSHM_END_NONE;
+    ivshm_access access;
+    ivshm_notes notes;
+    ivshm_view view;
+    uint8_t frame[14] = {0};
+    size_t length;
+    WANT(ivshm_end_begin(&none, IVSHM_TICK) == IVSHM_NO_END && ivshm_end_offer(&none, frame, 14) == IVSHM_NO_END);
+    WANT(ivshm_end_next(&none, &access) == IVSHM_NO_END && ivshm_end_took(&none, 0, &notes) == IVSHM_NO_END);
+    WANT(ivshm_end_view(&none, &view) == IVSHM_NO_END && ivshm_end_frame(&none, frame, 14, &length) == IVSHM_NO_END);
+    WANT(ivshm_end_reset(&none) == IVSHM_NO_END && ivshm_end_free(&none) == IVSHM_NO_END && none.at == NULL);
+    return 0;
+}
+
+static int check_ends(void) {
+    static ivshm_end a = IVSHM_END_NONE, b = IVSHM_END_NONE;
+    static uint8_t frame[300] = {255, 255, 255, 255, 255, 255, 2}, room[300];
+    ivshm_found found = {.table = 4096, .out = 16384};
+    ivshm_access access;
+    ivshm_notes notes;
+    ivshm_view view;
+    size_t length;
+    WANT(ivshm_end_new(&a, &found, 2, 2, 256, 1) == IVSHM_BAD_PEER && ivshm_end_new(&a, &found, 2, 0, 255, 1) == IVSHM_BAD_MTU);
+    WANT(ivshm_end_new(&a, &found, 2, 0, 256, 1) == IVSHM_DONE && ivshm_end_new(&b, &found, 2, 1, 256, 1) == IVSHM_DONE);
+    WANT(ivshm_end_new(&a, &found, 2, 0, 256, 1) == IVSHM_HAS_END);
+    /* State 0 comes first */
+    WANT(ivshm_end_begin(&a, IVSHM_TICK) == IVSHM_CALL_OPEN);
+    WANT(ivshm_end_next(&a, &access) == IVSHM_DONE && access.kind == IVSHM_STATE && access.value == IVSHM_RESET);
+    words[0] = words[1] = 7;
+    WANT(run(&a, 0) == 0 && run(&b, 1) == 0 && words[0] == 0 && words[1] == 0);
+    WANT(ivshm_end_next(&a, &access) == IVSHM_NO_CALL && ivshm_end_took(&a, 0, &notes) == IVSHM_NO_CALL);
+    WANT(ivshm_end_view(&a, &view) == IVSHM_DONE && view.outcome == IVSHM_NEVER && view.longest == 274 && view.delivered == 0);
+    /* outside RUN an offer is down */
+    WANT(ivshm_end_offer(&a, frame, 14) == IVSHM_DONE && run(&a, 0) == 0 && ivshm_end_view(&a, &view) == IVSHM_DONE && view.outcome == IVSHM_WAS_DOWN);
+    for (int i = 0; i < 10; i++) {
+        tick(&a, 0);
+        tick(&b, 1);
+    }
+    WANT(ivshm_end_view(&a, &view) == IVSHM_DONE && view.state == IVSHM_RUN && view.busy == 0);
+    WANT(ivshm_end_offer(&a, frame, 13) == IVSHM_SHORT_FRAME && ivshm_end_offer(&a, frame, 275) == IVSHM_LONG_FRAME);
+    WANT(ivshm_end_begin(&a, 3) == IVSHM_BAD_CALL);
+    for (int i = 14; i < 274; i++) frame[i] = (uint8_t)i;
+    WANT(ivshm_end_offer(&a, frame, 274) == IVSHM_DONE && ivshm_end_offer(&a, frame, 274) == IVSHM_CALL_OPEN);
+    WANT(ivshm_end_view(&a, &view) == IVSHM_DONE && view.outcome == IVSHM_OPEN && view.busy == 1);
+    WANT(run(&a, 0) == 0 && ivshm_end_view(&a, &view) == IVSHM_DONE && view.outcome == IVSHM_ACCEPTED);
+    WANT(ivshm_end_begin(&b, IVSHM_POLL) == IVSHM_DONE && run(&b, 1) == 1);
+    WANT(ivshm_end_frame(&b, room, 273, &length) == IVSHM_SHORT_ROOM && length == 274 && room[0] == 0);
+    WANT(ivshm_end_frame(&b, room, 300, &length) == IVSHM_DONE && length == 274);
+    for (int i = 0; i < 274; i++) WANT(frame[i] == room[i]);
+    /* the link is full in the end, and an offer that is cut is told as such */
+    view.outcome = IVSHM_ACCEPTED;
+    for (int i = 0; i < 100 && view.outcome == IVSHM_ACCEPTED; i++) {
+        WANT(ivshm_end_offer(&a, frame, 14) == IVSHM_DONE && run(&a, 0) == 0 && ivshm_end_view(&a, &view) == IVSHM_DONE);
+    }
+    WANT(view.outcome == IVSHM_WAS_FULL);
+    WANT(ivshm_end_offer(&a, frame, 14) == IVSHM_DONE && ivshm_end_reset(&a) == IVSHM_DONE);
+    WANT(ivshm_end_view(&a, &view) == IVSHM_DONE && view.outcome == IVSHM_CUT);
+    WANT(view.state == IVSHM_RESET && run(&a, 0) == 0 && words[0] == 0);
+    /* the other's index is out of range: its end refuses it, and stays in RESET */
+    words[1024 + 256] = 100 << 16;
+    WANT(ivshm_end_begin(&b, IVSHM_POLL) == IVSHM_DONE && run(&b, 1) == 0 && ivshm_end_view(&b, &view) == IVSHM_DONE);
+    WANT(view.refused_field == IVSHM_AVAIL_INDEX && view.refused_value == 100 && view.state == IVSHM_RESET && words[1] == 0);
+    WANT(ivshm_end_free(&a) == IVSHM_DONE && ivshm_end_free(&a) == IVSHM_NO_END && ivshm_end_free(&b) == IVSHM_DONE && a.at == NULL);
+    return 0;
+}
+
+int check(void) {
+    int line = check_tables();
+    if (!line) line = check_handles();
+    return line ? line : check_ends();
+}
+
+#ifdef HOSTED
+int main(void) { return check(); }
+#else
+__attribute__((naked, noreturn)) void _start(void) { __asm__("and $-16, %rsp\n call check\n mov %eax, %edi\n mov $60, %eax\n syscall"); }
+#endif

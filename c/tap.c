@@ -1,0 +1,115 @@
+/* tap REGION ME OUT MTU TAP: frames between a TAP device and the link. A doorbell is a byte in the FIFO REGION.bellN of peer N. It ends at SIGTERM. */
+#include "region.h"
+
+#include <linux/if.h>
+#include <linux/if_tun.h>
+#include <poll.h>
+#include <signal.h>
+#include <sys/ioctl.h>
+#include <sys/stat.h>
+
+static volatile sig_atomic_t over;
+static int tap, own_bell, other_bell;
+static uint64_t from_tap, to_tap, lost;
+
+static void stop(int number) {
+    (void)number;
+    over = 1;
+}
+
+static void take(struct link *l, const uint8_t *frame, size_t length) {
+    (void)l;
+    if (write(tap, frame, length) == (ssize_t)length) to_tap++;
+    else lost++;
+}
+
+static void ring(struct link *l, uint32_t peer, uint32_t vector) {
+    (void)l, (void)peer, (void)vector;
+    if (write(other_bell, "", 1) < 0 && errno != EAGAIN) perror("bell");
+}
+
+static int bell(const char *region, uint32_t peer) {
+    char name[256];
+    snprintf(name, sizeof name, "%s.bell%u", region, peer);
+    if (mkfifo(name, 0600) && errno != EEXIST) fail(name);
+    int file = open(name, O_RDWR | O_NONBLOCK);
+    if (file < 0) fail(name);
+    return file;
+}
+
+static int open_tap(const char *name) {
+    struct ifreq request;
+    memset(&request, 0, sizeof request);
+    request.ifr_flags = IFF_TAP | IFF_NO_PI;
+    snprintf(request.ifr_name, sizeof request.ifr_name, "%s", name);
+    int file = open("/dev/net/tun", O_RDWR | O_NONBLOCK);
+    if (file < 0 || ioctl(file, TUNSETIFF, &request)) fail(name);
+    return file;
+}
+
+/* Takes frames of the TAP device to the link: 32 at most, and none after the link is full. A frame that found no room waits. */
+static bool send_some(struct link *l, uint8_t *frame, ssize_t *waiting, uint32_t longest) {
+    bool moved = false;
+    for (int i = 0; i < 32; i++) {
+        if (*waiting == 0) {
+            ssize_t length = read(tap, frame, IVSHM_LONGEST);
+            if (length <= 0) break;
+            from_tap++;
+            if (length < IVSHM_SHORTEST || length > longest) {
+                lost++;
+                continue;
+            }
+            *waiting = length;
+        }
+        if (offer(l, frame, (size_t)*waiting) != IVSHM_ACCEPTED) break;
+        *waiting = 0;
+        moved = true;
+    }
+    return moved;
+}
+
+static void wait_for_work(bool waiting) {
+    char drain[4096];
+    struct pollfd files[2] = {{own_bell, POLLIN, 0}, {tap, waiting ? 0 : POLLIN, 0}};
+    poll(files, 2, 10);
+    while (read(own_bell, drain, sizeof drain) == sizeof drain) {}
+}
+
+int main(int argc, char **argv) {
+    static struct link l;
+    static uint8_t frame[IVSHM_LONGEST];
+    ssize_t waiting = 0;
+    double ticked = 0;
+    uint32_t state = IVSHM_RESET;
+    if (argc != 6) return 2;
+    attach(&l, argv[1], (uint32_t)strtoul(argv[2], NULL, 10), strtoull(argv[3], NULL, 10), (uint32_t)strtoul(argv[4], NULL, 10), NULL);
+    l.deliver = take;
+    l.ring = ring;
+    own_bell = bell(argv[1], l.me);
+    other_bell = bell(argv[1], l.other);
+    tap = open_tap(argv[5]);
+    signal(SIGTERM, stop);
+    signal(SIGINT, stop);
+    uint32_t longest = view(&l).longest;
+    while (!over) {
+        if (now() - ticked > 0.01) {
+            call(&l, IVSHM_TICK);
+            ticked = now();
+            state = view(&l).state;
+        }
+        if (l.refusals) break;
+        if (state != IVSHM_RUN) {
+            usleep(1000);
+            continue;
+        }
+        uint64_t before = l.delivered;
+        call(&l, IVSHM_POLL);
+        bool moved = send_some(&l, frame, &waiting, longest);
+        if (!moved && l.delivered == before) wait_for_work(waiting > 0);
+    }
+    detach(&l);
+    printf("peer %u: %" PRIu64 " frames from the tap, %" PRIu64 " accepted, %" PRIu64 " delivered, %" PRIu64 " to the tap, %" PRIu64 " lost, %" PRIu64
+           " times full, %" PRIu64 " refusals, %" PRIu64 " stray accesses, %" PRIu64 " doorbells\n",
+           l.me, from_tap, l.accepted, l.delivered, to_tap, lost, l.full, l.refusals, l.stray, l.rings);
+    return l.refusals || l.stray;
+}

@@ -1,0 +1,9 @@
+pub mod FrameLaws
+pub mod TableLaws
+pub mod Follows
+pub mod PositionLaws
+pub mod BackLaws
+pub mod ReadLaws
+pub mod WholeLaws
+pub mod ForwardLaws
+pub mod LawLaws

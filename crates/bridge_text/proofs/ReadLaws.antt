@@ -1,0 +1,33 @@
+-- What is answered of a text that is wrong.
+use Rattle.std.proofs.Common.{◌≡◌, ℕ, Result, Err, ap}
+use Rattle.line_text.specs.declared.reading.TextFault.{TextFault}
+use Rattle.line_text.specs.declared.reading.TextFault.TheVariants as texts
+use Rattle.line_text.specs.Machine.{Wrong}
+use Rattle.line_text.specs.Reading.{Reads}
+use Rattle.bridge_text.specs.declared.faults.Cause.{Cause}
+use Rattle.bridge_text.specs.declared.faults.Cause.TheVariants.{BadLine}
+use Rattle.bridge_text.specs.declared.faults.BridgeFault.{BridgeFault}
+use Rattle.bridge_text.specs.declared.faults.BridgeFault.TheVariants as faults
+use Rattle.bridge_text.specs.Judge.{SoFar, fault_at, faulted, world_in}
+use Rattle.bridge_text.specs.Answers.{Refuses, fault_of_text}
+
+refuses_at : {Y : Type 0} (cause : Cause) (n : ℕ) (said : Result Y BridgeFault) → said ≡ Err (fault_at cause n) → Refuses (fault_at cause n) said
+refuses_at BadLine n said is = is
+refuses_at _ n said is = is
+
+-- what is wrong with the lines is the fault that is answered
+pub text_fails : (d : SoFar) (fault : TextFault Cause) (said : Result SoFar (Wrong Cause)) → Reads {U = Unit {0}} d (Err fault) said → Refuses (fault_of_text fault) (faulted said)
+text_fails d texts.NoMemory said is = tt
+text_fails d (texts.At cause n) said is = refuses_at cause n (faulted said) (ap faulted is)
+text_fails d (texts.After n) said is = ap faulted is
+text_fails d texts.NoEnd said is = ap faulted is
+
+-- a fault of the lines is a fault of the text
+pub same_fault : (fault : BridgeFault) (said : Result SoFar BridgeFault) → Refuses fault said → Refuses fault (world_in said)
+same_fault faults.NoMemory said is = tt
+same_fault (faults.BadLine n) said is = ap world_in is
+same_fault (faults.BadNumber n) said is = ap world_in is
+same_fault (faults.BadFrame n) said is = ap world_in is
+same_fault (faults.BadOrder n) said is = ap world_in is
+same_fault (faults.TooManyFrames n) said is = ap world_in is
+same_fault faults.NoEnd said is = ap world_in is

@@ -1,0 +1,14 @@
+pub mod Growing
+pub mod Learned
+pub mod PortLists
+pub mod Forwarded
+pub mod Steps
+pub mod Keeping
+pub mod Worlds
+pub mod Turns
+pub mod PortTurns
+pub mod There
+pub mod Copying
+pub mod Schedules
+pub mod Starting
+pub mod Telling

@@ -1,0 +1,74 @@
+-- What a bridge's run gives: the arrivals; for each port the frames that its station delivered, and how many forwarded ones are left; and how many addresses
+-- are known (profile).
+use Rattle.std.specs.Prelude.{ℕ, ◌≡◌, ◌-◌, ◌<◌, ◌==◌, List, [], ◌∷◌, ◌++◌, length, map, filter, codes}
+use Rattle.std.specs.List.{flat_map}
+use Rattle.line_text.specs.Forms.{Piece, Word, Number, Hex}
+use Rattle.line_text.specs.Rows.{Row, row, text_of}
+use Rattle.ends_pair.specs.Runs.{HonestRuns}
+use Rattle.bridge_text.specs.Spelling as text
+use Rattle.bridge_text.specs.Spelling.{IsSpelling}
+use Rattle.frame_bridge.specs.declared.output.Line.{Line}
+use Rattle.frame_bridge.specs.declared.output.Line.TheVariants.{Arrive, Port, Out, Left, Known, End}
+use Rattle.frame_bridge.specs.Forwarding.{Arrival, first_ports, forward, known_count}
+use Rattle.frame_bridge.specs.Links.{ground}
+use Rattle.frame_bridge.specs.Run.{World, frames_of, run_of}
+
+abbrev pub any_number : Piece
+any_number = Number 0 18446744073709551615
+
+-- what stands in the fields of a line of this form
+abbrev pub pieces_of : Line → List Piece
+pieces_of Arrive = Word (codes "arrive") ∷ any_number ∷ Hex ∷ []
+pieces_of Port = Word (codes "port") ∷ any_number ∷ []
+pieces_of Out = Word (codes "out") ∷ Hex ∷ []
+pieces_of Left = Word (codes "left") ∷ any_number ∷ []
+pieces_of Known = Word (codes "known") ∷ any_number ∷ []
+pieces_of End = Word (codes "end") ∷ []
+
+abbrev pub arrive_row : Arrival → Row Line
+arrive_row a = row Arrive (a.port ∷ []) a.frame
+
+abbrev pub out_row : List ℕ → Row Line
+out_row frame = row Out [] frame
+
+-- the frames that the station of this port delivered
+abbrev pub outs : World → ℕ → List (List ℕ)
+outs w port = ((w.links port).parties 0).delivered
+
+-- how many frames that were forwarded to this port it didn't deliver
+abbrev pub left : World → ℕ → ℕ
+left w port = length (forward w.arrivals port) - length (outs w port)
+
+abbrev pub port_rows : World → ℕ → List (Row Line)
+port_rows w port = (row Port (port ∷ []) [] ∷ map out_row (outs w port)) ++ row Left (left w port ∷ []) [] ∷ []
+
+abbrev pub rows_of : ℕ → World → List (Row Line)
+rows_of ports w =
+    (map arrive_row w.arrivals ++ flat_map (port_rows w) (first_ports ports)) ++ (row Known (known_count w.arrivals ∷ []) [] ∷ row End [] [] ∷ [])
+
+abbrev pub output_of : ℕ → World → List ℕ
+output_of ports w = text_of pieces_of (rows_of ports w)
+
+-- What holds of a run
+
+-- the frames that arrived at this port
+abbrev pub arrived_at : ℕ → List Arrival → List (List ℕ)
+arrived_at port arrivals = map (λ a. a.frame) (filter (λ a. a.port == port) arrivals)
+
+-- of each port: its ends are two honest ends of a link, over the words of its region; what arrived at it begins the frames that its station sends; and what its
+-- station delivered begins what was forwarded to it, and the rest is left
+pub record Delivers (script : text.World) (w : World) (port : ℕ) : Type 0 where
+  pub runs : HonestRuns ground (w.links port).memory (λ p. ((w.links port).parties p).end) (λ p. ((w.links port).parties p).place)
+  pub arrives : (rest : List (List ℕ)) × (frames_of port script.sent ≡ arrived_at port w.arrivals ++ rest)
+  pub goes_out : (rest : List (List ℕ)) × (forward w.arrivals port ≡ outs w port ++ rest) × (left w port ≡ length rest)
+
+-- the output is that of the run of this script
+pub record IsOutput (script : text.World) (output : List ℕ) : Type 0 where
+  pub text : output ≡ output_of script.ports (run_of script)
+  pub delivers : (port : ℕ) → port < script.ports → Delivers script (run_of script) port
+
+-- the bytes spell a script, and the output is that of its run
+pub record IsBridged (bytes output : List ℕ) : Type 0 where
+  pub script : text.World
+  pub spelled : IsSpelling script bytes
+  pub run : IsOutput script output

@@ -1,0 +1,169 @@
+//! The run of a text, from its bytes to its output.
+ghost use Rattle.std.specs.Prelude.{◌≡◌, ℕ, List, ◌++◌, ◌∷◌, [], ◌-◌, ◌^◌, ◌<◌, ◌≤◌, length, IfOk, IfErr, OnOk, Some, slice_get};
+ghost use Rattle.std.specs.List.{flat_map};
+ghost use Rattle.line_text.specs.Rows.{text_of};
+ghost use Rattle.bridge_text.specs.declared.faults.BridgeFault.TheVariants.{NoMemory as OutOfMemory};
+ghost use Rattle.bridge_text.specs.declared.scripts.Sent.{Sent as SentFrame};
+ghost use Rattle.bridge_text.specs.Answers.{Refuses};
+ghost use Rattle.bridge_text.specs.Judge.{answer};
+ghost use Rattle.bridge_text.specs.Spelling as text;
+ghost use Rattle.bridge_text.specs.Spelling.{IsSpelling, IsWorld, world_of};
+ghost use Rattle.section_map.specs.Geometry.{Shape};
+ghost use Rattle.frame_bridge.specs.declared.ports.Port.{Port as HeldPort};
+ghost use Rattle.frame_bridge.specs.Forwarding.{first_ports, forward};
+ghost use Rattle.frame_bridge.specs.Links.{ground};
+ghost use Rattle.frame_bridge.specs.Run.{World, started, run_of};
+ghost use Rattle.frame_bridge.specs.Output.{pieces_of, port_rows, outs, IsBridged, IsOutput, output_of};
+ghost use Rattle.frame_bridge.specs.Held.{shape, PortStands, ArePorts, RunStands, IsThere};
+
+use crate::learning::Bridge;
+use crate::output::{Line, put};
+use crate::ports::Port;
+use crate::run::Run;
+use bridge_text::{BridgeFault, Script, SentFrames, parse};
+use ivs_base::NoMemory;
+use section_map::Geometry;
+use split_ring::Queue;
+use std::alloc::Global;
+
+/// The region of a port: a page for the table, and sections of 16,384 bytes for two peers.
+fn region() -> Geometry
+    ensures { result ≡ shape }
+{
+    match Geometry::new(2, 4096, 0, 16_384) {
+        Ok(geometry) => geometry,
+        Err(_) => unreachable!(),
+    }
+}
+
+/// The queue of such a section, for an MTU of 256.
+fn section() -> Queue
+    ensures { result ≡ ground.sizes }
+{
+    match Queue::of(16_384, 256) {
+        Ok(queue) => queue,
+        Err(_) => unreachable!(),
+    }
+}
+
+/// So many ports at their start, whose stations send nothing.
+fn ports_at_start(alloc: Global, count: u32) -> Result<Vec<Port>, NoMemory>
+    ensures long { IfOk result (λ ports. length ports.items ≡ count) }
+    ensures each { IfOk result (λ ports. (k : ℕ) (port : HeldPort) → slice_get ports.items k ≡ Some port → PortStands ((started []).links k) [] port) }
+{
+    let geometry = region();
+    let queue = section();
+    let mut ports = Vec::new(alloc);
+    for _number in 0..count {
+        ports.push(Port::new(alloc, &geometry, &queue)?)?;
+    }
+    Ok(ports)
+}
+
+impl Run {
+    /// A run of so many ports at its start, whose stations send nothing.
+    fn new(alloc: Global, ports: u32) -> Result<Run, NoMemory>
+        requires { (2 ≤ ports) × (ports ≤ 8) }
+        ensures { IfOk result (RunStands ports (started [])) }
+    {
+        Ok(Run {
+            bridge: Bridge::new(alloc, ports)?,
+            ports: ports_at_start(alloc, ports)?,
+            text: Vec::new(alloc),
+        })
+    }
+
+    /// Gives each station the frames that it sends.
+    fn send(&mut self, sent: SentFrames) -> Result<(), NoMemory>
+        requires { (k : ℕ) (s : SentFrame) → slice_get sent k ≡ Some s → s.port < length self.old.ports.items }
+        ensures { (ports : ℕ) → RunStands ports (started []) self.old → OnOk result (RunStands ports (started sent) self.new) }
+    {
+        for one in sent.into_items() {
+            let port = &mut self.ports[one.port as usize];
+            port.send(one.frame)?;
+        }
+        Ok(())
+    }
+}
+
+/// Puts the lines of a port last: the frames that its station delivered, and how many forwarded ones are left.
+fn put_port(out: &mut Vec<u8>, number: u64, port: &Port) -> Result<(), NoMemory>
+    requires { port.now.delivered ≤ port.now.forwarded }
+    ensures { (w : World) → PortStands (w.links number) (forward w.arrivals number) port.now → length (forward w.arrivals number) < 2 ^ 64 →
+        length (outs w number) ≤ length (forward w.arrivals number) → OnOk result (out.new.items ≡ out.old.items ++ text_of pieces_of (port_rows w number)) }
+{
+    put(out, Line::Port, &[number], &[])?;
+    out.extend_from_slice(&port.outs)?;
+    put(out, Line::Left, &[port.forwarded - port.delivered], &[])?;
+    Ok(())
+}
+
+/// Puts the lines of all ports last.
+fn put_ports(out: &mut Vec<u8>, ports: &[Port]) -> Result<(), NoMemory>
+    requires { (k : ℕ) (port : HeldPort) → slice_get ports.now k ≡ Some port → port.delivered ≤ port.forwarded }
+    ensures { (w : World) → ArePorts w ports.now →
+        OnOk result (out.new.items ≡ out.old.items ++ text_of pieces_of (flat_map (port_rows w) (first_ports (length ports.now)))) }
+{
+    for (number, port) in ports.iter().enumerate() {
+        put_port(out, number as u64, port)?;
+    }
+    Ok(())
+}
+
+impl Run {
+    /// The output of the run, at its end.
+    fn finish(self) -> Result<Vec<u8>, NoMemory>
+        requires { (sent : List SentFrame) × (ports : ℕ) × (w : World) × IsThere sent ports w self }
+        ensures { (sent : List SentFrame) (ports : ℕ) (w : World) → IsThere sent ports w self → IfOk result (λ output. output.items ≡ output_of ports w) }
+    {
+        let Run {
+            bridge,
+            ports,
+            mut text,
+        } = self;
+        put_ports(&mut text, &ports)?;
+        put(&mut text, Line::Known, &[u64::from(bridge.known())], &[])?;
+        put(&mut text, Line::End, &[], &[])?;
+        Ok(text)
+    }
+}
+
+/// The output of the run of a script.
+fn output(alloc: Global, script: Script) -> Result<Vec<u8>, NoMemory>
+    requires { IsWorld (world_of script) }
+    ensures { IfOk result (λ output. IsOutput (world_of script) output.items) }
+{
+    let Script {
+        ports,
+        rounds,
+        sent,
+    } = script;
+    let mut run = Run::new(alloc, ports)?;
+    run.send(sent)?;
+    run.rounds(alloc, rounds)?;
+    run.finish()
+}
+
+/// The output of the run that a text spells: `bridge 1`, `ports K` with 2 to 8, `rounds R` with 0 to 4,000, `begin`, lines `frame PORT HEX`
+/// with 14 to 274 bytes, 10,000 at most, and `end`.
+///
+/// Each port has a link between a station, which sends its frames, and the bridge's end. In a round each port in ascending order has 64
+/// turns of its station, then 64 of the bridge's end, and each frame that the bridge's end delivers arrives. Where the text has a fault, the
+/// first one is the error; NoMemory comes only where memory ran out.
+pub fn bridge(alloc: Global, bytes: &[u8]) -> Result<Vec<u8>, BridgeFault>
+    // What is given is the output of the run that the bytes spell.
+    ensures found { IfOk result (λ output. IsBridged bytes.now output.items) }
+    // A text that spells a run is refused for want of memory alone.
+    ensures only { (w : text.World) → IsSpelling w bytes.now → IfErr result (λ fault. fault ≡ OutOfMemory) }
+    // Which fault it is.
+    ensures fault { IfErr result (λ fault. Refuses {Y = text.World} fault (answer bytes.now)) }
+{
+    let script = match parse(alloc, bytes) {
+        Ok(script) => script,
+        Err(fault) => return Err(fault),
+    };
+    match output(alloc, script) {
+        Ok(output) => Ok(output),
+        Err(NoMemory) => Err(BridgeFault::NoMemory),
+    }
+}

@@ -1,0 +1,110 @@
+//! The run of a bridge: the turns of its ports, and the frames that arrive.
+ghost use Rattle.std.specs.Prelude.{◌≡◌, ℕ, List, ◌++◌, ◌∷◌, [], ◌<◌, ◌≤◌, length, IfOk, OnOk, Some, slice_get};
+ghost use Rattle.std.specs.List.{flat_map};
+ghost use Rattle.bridge_text.specs.declared.scripts.Sent.{Sent as SentFrame};
+ghost use Rattle.link_endpoint.specs.Engine.{delivered};
+ghost use Rattle.frame_bridge.specs.declared.ports.Port.{Port as HeldPort};
+ghost use Rattle.frame_bridge.specs.Forwarding.{first_ports};
+ghost use Rattle.frame_bridge.specs.Run.{World, turn, times, turns_of, schedule, ran, world_after};
+ghost use Rattle.frame_bridge.specs.Held.{RunStands, IsThere, with_arrival};
+
+use crate::learning::Bridge;
+use crate::output::{Line, put};
+use crate::ports::Port;
+use ivs_base::{Frame, NoMemory};
+use std::alloc::Global;
+
+/// How many turns an end has in a round.
+const TURNS: u32 = 64;
+
+/// A run so far: the bridge, its ports, and the lines of what arrived.
+#[derive(Debug, Drop)]
+pub struct Run {
+    pub bridge: Bridge,
+    pub ports: Vec<Port>,
+    pub text: Vec<u8>,
+}
+
+impl Run {
+    /// A turn of the station of this port.
+    fn station_turn(&mut self, port: usize) -> Result<(), NoMemory>
+        requires { (sent : List SentFrame) × (ports : ℕ) × (w : World) × IsThere sent ports w self.old × (port < ports) }
+        ensures { (sent : List SentFrame) (ports : ℕ) (w : World) → IsThere sent ports w self.old →
+            OnOk result (IsThere sent ports (world_after w (turn port 0)) self.new) }
+    {
+        let port = &mut self.ports[port];
+        port.station_turn()
+    }
+
+    /// The frame that the bridge's end of this port delivered last arrives: its line is written, and a copy of it goes to each port to which
+    /// it is forwarded.
+    fn arrive(&mut self, alloc: Global, from: usize) -> Result<(), NoMemory>
+        requires stands { (w : World) × (ports : ℕ) × RunStands ports w self.old × (from < ports) × (ports ≤ 8) }
+        requires frame { (port : HeldPort) → slice_get self.old.ports.items from ≡ Some port → 14 ≤ length (delivered port.own.end) }
+        ensures { (w : World) (ports : ℕ) (port : HeldPort) → RunStands ports w self.old → slice_get self.old.ports.items from ≡ Some port →
+            OnOk result (RunStands ports (with_arrival w from (delivered port.own.end)) self.new) }
+    {
+        let frame = self.ports[from].own.end.delivered();
+        put(&mut self.text, Line::Arrive, &[from as u64], frame)?;
+        let to = self.bridge.arrive(from as u32, frame)?;
+        for port in 0..self.ports.len() {
+            if to.as_slice().contains(&(port as u32)) {
+                let copy = Frame::of(alloc, self.ports[from].own.end.delivered())?;
+                self.ports[port].take_copy(copy)?;
+            }
+        }
+        Ok(())
+    }
+
+    /// A turn of the bridge's end of this port.
+    fn own_turn(&mut self, alloc: Global, port: usize) -> Result<(), NoMemory>
+        requires { (sent : List SentFrame) × (ports : ℕ) × (w : World) × IsThere sent ports w self.old × (port < ports) }
+        ensures { (sent : List SentFrame) (ports : ℕ) (w : World) → IsThere sent ports w self.old →
+            OnOk result (IsThere sent ports (world_after w (turn port 1)) self.new) }
+    {
+        let here = &mut self.ports[port];
+        if here.own_turn() {
+            self.arrive(alloc, port)?;
+        }
+        Ok(())
+    }
+
+    /// The turns of both ends of a port in a round.
+    fn port_turns(&mut self, alloc: Global, port: usize) -> Result<(), NoMemory>
+        requires { (sent : List SentFrame) × (ports : ℕ) × (w : World) × IsThere sent ports w self.old × (port < ports) }
+        ensures { (sent : List SentFrame) (ports : ℕ) (w : World) → IsThere sent ports w self.old →
+            OnOk result (IsThere sent ports (ran w (turns_of port)) self.new) }
+    {
+        for _station in 0..TURNS {
+            self.station_turn(port)?;
+        }
+        for _own in 0..TURNS {
+            self.own_turn(alloc, port)?;
+        }
+        Ok(())
+    }
+
+    /// A round of all ports.
+    fn round(&mut self, alloc: Global) -> Result<(), NoMemory>
+        requires { (sent : List SentFrame) × (ports : ℕ) × (w : World) × IsThere sent ports w self.old }
+        ensures { (sent : List SentFrame) (ports : ℕ) (w : World) → IsThere sent ports w self.old →
+            OnOk result (IsThere sent ports (ran w (flat_map turns_of (first_ports ports))) self.new) }
+    {
+        for port in 0..self.ports.len() {
+            self.port_turns(alloc, port)?;
+        }
+        Ok(())
+    }
+
+    /// So many rounds.
+    pub fn rounds(&mut self, alloc: Global, rounds: u32) -> Result<(), NoMemory>
+        requires { (sent : List SentFrame) × (ports : ℕ) × (w : World) × IsThere sent ports w self.old }
+        ensures { (sent : List SentFrame) (ports : ℕ) (w : World) → IsThere sent ports w self.old →
+            OnOk result (IsThere sent ports (ran w (schedule rounds ports)) self.new) }
+    {
+        for _round in 0..rounds {
+            self.round(alloc)?;
+        }
+        Ok(())
+    }
+}

@@ -1,0 +1,106 @@
+-- The exact answer of each export, and what it does to the end of a handle.
+use Rattle.std.specs.Prelude.{ℕ, ◌≡◌, ◌≢◌, ◌+◌, ◌≤◌, nat_lt, if◌then◌else◌, List, length, take, Option, Some, None, is_none, IfSome}
+use Rattle.split_ring.specs.declared.steps.Access as steps
+use Rattle.split_ring.specs.declared.steps.Note.{Note}
+use Rattle.link_endpoint.specs.Engine.{who_of, is_busy, delivered}
+use Rattle.ivshm_c.specs.declared.crossing.Access.{Access}
+use Rattle.ivshm_c.specs.declared.crossing.Notes.{Notes}
+use Rattle.ivshm_c.specs.declared.device.Found.{Found}
+use Rattle.ivshm_c.specs.declared.port.Port.{Port}
+use Rattle.ivshm_c.specs.declared.port.Outcome.TheVariants.{Never, Open}
+use Rattle.ivshm_c.specs.declared.status.Status.{Status}
+use Rattle.ivshm_c.specs.declared.status.Status.TheVariants.{Done, NoEnd, HasEnd, CallOpen, NoCall, NoMemory, BadCall, ShortFrame, LongFrame, ShortRoom, BadPeer}
+use Rattle.ivshm_c.specs.Crossing.{call_numbered, access_crossed, notes_crossed}
+use Rattle.ivshm_c.specs.Ports.{Begins, Offers, IsNext, Steps, IsStarted, Restarts, outcome_after, outcome_cut}
+use Rattle.ivshm_c.specs.Sizes.{shape_found, sizes_found, IsSizeFault}
+
+-- a handle that holds no end answers so, whatever is asked
+abbrev pub answer_at : Option Port → (Port → Status) → Status
+answer_at None answer = NoEnd
+answer_at (Some port) answer = answer port
+
+-- a handle that holds no end stays so; the end of another takes this step, and stays in the handle
+abbrev pub Leads : Option Port → (Port → Port → Type 0) → Option Port → Type 0
+Leads None step None = Unit {0}
+Leads (Some old) step (Some new) = step old new
+Leads old step new = ⊥
+
+-- where the answer is that it is done, the end takes the step; else nothing of it changes
+abbrev pub Where : Status → Type 0 → Type 0 → Type 0
+Where Done step rest = step
+Where status step rest = rest
+
+-- The answers of the calls
+
+abbrev pub begin_answer : ℕ → Port → Status
+begin_answer call port =
+    if is_none (call_numbered call) then BadCall
+    else if is_busy port.endpoint then CallOpen
+    else Done
+
+abbrev pub offer_answer : List ℕ → Port → Status
+offer_answer frame port =
+    if nat_lt (length frame) 14 then ShortFrame
+    else if nat_lt (port.endpoint.who.sizes.mtu + 18) (length frame) then LongFrame
+    else if is_busy port.endpoint then CallOpen
+    else Done
+
+abbrev pub step_answer : Port → Status
+step_answer port = if is_busy port.endpoint then Done else NoCall
+
+abbrev pub frame_answer : ℕ → Port → Status
+frame_answer room port = if nat_lt room (length (delivered port.endpoint)) then ShortRoom else Done
+
+abbrev pub done_answer : Port → Status
+done_answer port = Done
+
+-- The steps of the calls
+
+-- a call begins, and the outcome of the last offer stays
+abbrev pub BeginsAnswered : ℕ → Port → Port → Type 0
+BeginsAnswered call old new = Where (begin_answer call old)
+    (IfSome (call_numbered call) (λ named. Begins named old.endpoint new.endpoint) × (new.outcome ≡ old.outcome))
+    (new ≡ old)
+
+-- an offer begins
+abbrev pub OffersAnswered : List ℕ → Port → Port → Type 0
+OffersAnswered frame old new = Where (offer_answer frame old) (Offers frame old.endpoint new.endpoint × (new.outcome ≡ Open)) (new ≡ old)
+
+-- the access of the open call is told
+abbrev pub TellsNext : Port → Access → Access → Type 0
+TellsNext port before after = Where (step_answer port)
+    ((next : steps.Access) × IsNext port.endpoint next × (after ≡ access_crossed next))
+    (after ≡ before)
+
+-- a step of the open call is taken, with its notes
+abbrev pub TakesAnswered : ℕ → Notes → Notes → Port → Port → Type 0
+TakesAnswered value before after old new = Where (step_answer old)
+    ((notes : List Note) × Steps old.endpoint value notes new.endpoint × (new.outcome ≡ outcome_after notes old.outcome) × (after ≡ notes_crossed notes))
+    ((new ≡ old) × (after ≡ before))
+
+-- the frame delivered last is copied to the front
+abbrev pub CopiesFrame : Port → List ℕ → List ℕ → Type 0
+CopiesFrame port before after = Where (frame_answer (length before) port)
+    (take (length (delivered port.endpoint)) after ≡ delivered port.endpoint)
+    (after ≡ before)
+
+-- the device was reset
+abbrev pub Renews : Port → Port → Type 0
+Renews old new = Restarts old.endpoint new.endpoint × (new.outcome ≡ outcome_cut old.outcome)
+
+-- a new end of a region of these sizes
+abbrev pub IsNew : Found → (peers me mtu vector : ℕ) → Port → Type 0
+IsNew found peers me mtu vector port =
+    IsStarted (who_of (shape_found found peers) (sizes_found found mtu) me vector) port.endpoint × (port.outcome ≡ Never)
+
+-- why no end is made, but for want of memory, which is free to come
+pub data RefusesNew (found : Found) (peers me mtu : ℕ) : Status → Type 0 where
+  bad_peer : 2 ≤ me → RefusesNew found peers me mtu BadPeer
+  bad_sizes : (status : Status) → IsSizeFault found peers mtu status → RefusesNew found peers me mtu status
+  no_memory : RefusesNew found peers me mtu NoMemory
+
+-- the answer where an end is to be made, and what the handle holds then
+pub data MakesAnswered (old : Option Port) (found : Found) (peers me mtu vector : ℕ) : Status → Option Port → Type 0 where
+  made : (port : Port) → old ≡ None → IsNew found peers me mtu vector port → MakesAnswered old found peers me mtu vector Done (Some port)
+  has_end : old ≢ None → MakesAnswered old found peers me mtu vector HasEnd old
+  refused : (status : Status) → RefusesNew found peers me mtu status → MakesAnswered old found peers me mtu vector status old

@@ -1,0 +1,111 @@
+-- What crosses to C and back: numbers in the place of enums.
+use Rattle.std.specs.Prelude.{ℕ, ◌≡◌, ◌+◌, List, [], ◌∷◌, length, Option, Some, None, ◌==◌, if◌then◌else◌}
+use Rattle.link_handshake.specs.declared.Phase.{Phase}
+use Rattle.link_handshake.specs.declared.Phase.TheVariants.{Reset, Init, Ready, Run}
+use Rattle.split_ring.specs.declared.steps.Access.{Access}
+use Rattle.split_ring.specs.declared.steps.Access.TheVariants as access
+use Rattle.split_ring.specs.declared.steps.Note.{Note}
+use Rattle.split_ring.specs.declared.steps.Note.TheVariants as note
+use Rattle.split_ring.specs.declared.ranges.FieldName.{FieldName}
+use Rattle.split_ring.specs.declared.ranges.FieldName.TheVariants.{AvailIndex, AvailEntry, DescAddress, DescLength, DescFlags, UsedIndex, UsedId}
+use Rattle.split_ring.specs.declared.ranges.Refused.{Refused}
+use Rattle.link_endpoint.specs.declared.place.Call.{Call}
+use Rattle.link_endpoint.specs.declared.place.Call.TheVariants.{Tick, Poll, Stop}
+use Rattle.link_endpoint.specs.Engine.{is_busy, delivered}
+use Rattle.ivshm_c.specs.declared.crossing.Access as crossed_access
+use Rattle.ivshm_c.specs.declared.crossing.Note as crossed_note
+use Rattle.ivshm_c.specs.declared.crossing.Notes as crossed_notes
+use Rattle.ivshm_c.specs.declared.crossing.View.{View}
+use Rattle.ivshm_c.specs.declared.port.Port.{Port}
+use Rattle.ivshm_c.specs.declared.port.Outcome.{Outcome}
+use Rattle.ivshm_c.specs.declared.port.Outcome.TheVariants as outcome
+use Rattle.ivshm_c.specs.Sizes.{flag}
+
+-- a call by its number
+abbrev pub call_numbered : ℕ → Option Call
+call_numbered number = if number == 0 then Some Tick else if number == 1 then Some Poll else if number == 2 then Some Stop else None
+
+-- a phase as the state that stands for it
+abbrev pub state_of : Phase → ℕ
+state_of Reset = 0
+state_of Init = 1
+state_of Ready = 2
+state_of Run = 3
+
+abbrev pub field_number : FieldName → ℕ
+field_number AvailIndex = 1
+field_number AvailEntry = 2
+field_number DescAddress = 3
+field_number DescLength = 4
+field_number DescFlags = 5
+field_number UsedIndex = 6
+field_number UsedId = 7
+
+-- an access: its kind, and the two numbers with it
+abbrev pub access_crossed : Access → crossed_access.Access
+access_crossed access.Nothing = record { kind = 0; word = 0; value = 0 }
+access_crossed (access.Read word) = record { kind = 1; word = word; value = 0 }
+access_crossed (access.Write word value) = record { kind = 2; word = word; value = value }
+access_crossed (access.State value) = record { kind = 3; word = 0; value = value }
+access_crossed (access.Ring target vector) = record { kind = 4; word = target; value = vector }
+
+-- what was refused
+abbrev pub refusal_crossed : Refused → crossed_note.Note
+refusal_crossed refused = record { kind = 10; field = field_number refused.field; value = refused.value }
+
+-- a note: its kind, the field of a refusal, and the number with it
+abbrev pub note_crossed : Note → crossed_note.Note
+note_crossed note.Over = record { kind = 0; field = 0; value = 0 }
+note_crossed (note.Saw state) = record { kind = 1; field = 0; value = state }
+note_crossed (note.Reclaim count) = record { kind = 2; field = 0; value = count }
+note_crossed note.Full = record { kind = 3; field = 0; value = 0 }
+note_crossed note.Accept = record { kind = 4; field = 0; value = 0 }
+note_crossed (note.Look count) = record { kind = 5; field = 0; value = count }
+note_crossed note.Deliver = record { kind = 6; field = 0; value = 0 }
+note_crossed note.Return = record { kind = 7; field = 0; value = 0 }
+note_crossed note.Done = record { kind = 8; field = 0; value = 0 }
+note_crossed note.Down = record { kind = 9; field = 0; value = 0 }
+note_crossed (note.Refuse refused) = refusal_crossed refused
+
+abbrev pub blank : crossed_note.Note
+blank = record { kind = 0; field = 0; value = 0 }
+
+-- the notes of a step, two at most
+abbrev pub notes_crossed : List Note → crossed_notes.Notes
+notes_crossed [] = record { count = 0; first = blank; second = blank }
+notes_crossed (a ∷ []) = record { count = 1; first = note_crossed a; second = blank }
+notes_crossed (a ∷ b ∷ more) = record { count = 2; first = note_crossed a; second = note_crossed b }
+
+abbrev pub outcome_number : Outcome → ℕ
+outcome_number outcome.Never = 0
+outcome_number outcome.Open = 1
+outcome_number outcome.Accepted = 2
+outcome_number outcome.Full = 3
+outcome_number outcome.Refused = 4
+outcome_number outcome.Down = 5
+outcome_number outcome.Cut = 6
+
+abbrev pub field_of : Option Refused → ℕ
+field_of None = 0
+field_of (Some refused) = field_number refused.field
+
+abbrev pub value_of : Option Refused → ℕ
+value_of None = 0
+value_of (Some refused) = refused.value
+
+-- what an end tells of itself
+abbrev pub view_of : Port → View
+view_of port = let end = port.endpoint in record {
+  refused_value = value_of end.refused;
+  delivered = length (delivered end);
+  refused_field = field_of end.refused;
+  state = state_of end.phase;
+  busy = flag (is_busy end);
+  outcome = outcome_number port.outcome;
+  longest = end.who.sizes.mtu + 18;
+}
+
+-- what crosses is told apart: accesses by their three numbers, notes by theirs
+pub record CrossingsAreTold : Type 0 where
+  pub accesses : (a b : Access) → access_crossed a ≡ access_crossed b → a ≡ b
+  pub notes : (a b : Note) → note_crossed a ≡ note_crossed b → a ≡ b

@@ -1,0 +1,96 @@
+-- An end and the outcome of its last offer: what its calls do.
+use Rattle.std.specs.Prelude.{ℕ, ◌≡◌, ◌↔◌, List, [], ◌∷◌, true, not, IsTrue}
+use Rattle.link_handshake.specs.declared.Phase.TheVariants.{Run}
+use Rattle.split_ring.specs.declared.steps.Access.{Access}
+use Rattle.split_ring.specs.declared.steps.Access.TheVariants.{Nothing, State}
+use Rattle.split_ring.specs.declared.steps.Note.{Note}
+use Rattle.split_ring.specs.declared.steps.Note.TheVariants as note
+use Rattle.call_grammar.specs.Ends.{End, fresh, after_reset}
+use Rattle.call_grammar.specs.Calls.{Who, Offer, in_run}
+use Rattle.call_grammar.specs.Places as places
+use Rattle.call_grammar.specs.Reach.{InReach}
+use Rattle.call_grammar.specs.StepBounds.{HasFewInFlight}
+use Rattle.link_endpoint.specs.declared.place.Call.{Call}
+use Rattle.link_endpoint.specs.declared.place.Call.TheVariants.{Stop}
+use Rattle.link_endpoint.specs.Engine.{Engine, fresh_engine, engine_after_reset, is_busy, is_down, is_leaving, is_looking, is_tick, offered, delivered, call_of, comes_down}
+use Rattle.link_endpoint.specs.Stands.{StandsAt, Takes, Opens}
+use Rattle.link_endpoint.specs.Leaving.{Refuses, Leaves, KeepsRefused, Stays}
+use Rattle.ivshm_c.specs.declared.port.Outcome.{Outcome}
+use Rattle.ivshm_c.specs.declared.port.Outcome.TheVariants as outcome
+
+-- The clauses of an endpoint's calls
+
+-- a call opens: for whatever end the endpoint stands, it stands at the first place of the call
+pub record Begins (call : Call) (old new : Engine) : Type 0 where
+  pub stands : (who : Who) (end : End) → StandsAt old who end places.Closed → StandsAt new who end (places.first_place who end (call_of call))
+  pub opened : is_busy new ≡ true
+  pub down : is_down new ≡ comes_down call old.phase
+  pub looks : is_looking new ≡ is_tick call
+  pub kept : Opens old new
+
+-- an offer of this frame opens
+pub record Offers (frame : List ℕ) (old new : Engine) : Type 0 where
+  pub stands : (who : Who) (end : End) → StandsAt old who end places.Closed → StandsAt new who end (places.first_place who end (Offer frame))
+  pub few : (who : Who) (end : End) (place : places.Place) → StandsAt old who end place → HasFewInFlight who end
+  pub opened : is_busy new ≡ true
+  pub down : is_down new ≡ not (in_run old.phase)
+  pub holds : old.phase ≡ Run → offered new ≡ frame
+  pub kept : Opens old new
+
+-- this is the access of the open call: the one at its place, and in reach of the peer. It is none exactly where the call is down, and State 0
+-- after a refusal
+pub record IsNext (engine : Engine) (next : Access) : Type 0 where
+  pub access : (who : Who) (end : End) (place : places.Place) → StandsAt engine who end place → next ≡ places.access_at who place
+  pub reach : InReach engine.who next
+  pub nothing : (next ≡ Nothing) ↔ IsTrue (is_down engine)
+  pub leaves : is_leaving engine ≡ true → next ≡ State 0
+
+-- a step of the open call, with these notes. A value that is refused is kept, and State 0 follows, with which the end is in RESET and stays there
+pub record Steps (old : Engine) (value : ℕ) (notes : List Note) (new : Engine) : Type 0 where
+  pub takes : Takes old value notes new
+  pub refuses : Refuses notes new
+  pub leaves : Leaves old notes new
+  pub keeps : KeepsRefused old new
+  pub stays : Stays old value notes new
+
+-- a new end of this peer: its one open call is a Stop, which begins with State 0
+pub record IsStarted (who : Who) (new : Engine) : Type 0 where
+  pub stands : StandsAt new who fresh (places.first_place who fresh (call_of Stop))
+  pub begins : Begins Stop (fresh_engine who) new
+
+-- the device was reset: the open call is cut, and a Stop is open, which begins with State 0. The frame delivered last stays
+pub record Restarts (old new : Engine) : Type 0 where
+  pub stands : (who : Who) (end : End) (place : places.Place) → StandsAt old who end place →
+      StandsAt new who (after_reset end) (places.first_place who (after_reset end) (call_of Stop))
+  pub begins : Begins Stop (engine_after_reset old) new
+  pub delivered : delivered new ≡ delivered old
+
+-- The outcome of the last offer
+
+-- what a note tells of an open offer
+abbrev pub outcome_told : Note → Outcome
+outcome_told note.Accept = outcome.Accepted
+outcome_told note.Full = outcome.Full
+outcome_told (note.Refuse refused) = outcome.Refused
+outcome_told note.Down = outcome.Down
+outcome_told _ = outcome.Open
+
+-- an open offer's outcome is told once
+abbrev pub outcome_with : Note → Outcome → Outcome
+outcome_with n outcome.Open = outcome_told n
+outcome_with n before = before
+
+-- what the notes of a step tell of an open offer
+abbrev pub told_by : List Note → Outcome → Outcome
+told_by [] before = before
+told_by (n ∷ notes) before = told_by notes (outcome_with n before)
+
+-- the outcome after these notes: that of an offer that isn't open stays
+abbrev pub outcome_after : List Note → Outcome → Outcome
+outcome_after notes outcome.Open = told_by notes outcome.Open
+outcome_after notes before = before
+
+-- a reset cuts an open offer
+abbrev pub outcome_cut : Outcome → Outcome
+outcome_cut outcome.Open = outcome.Cut
+outcome_cut before = before

@@ -1,0 +1,216 @@
+//! What crosses to C of an end.
+ghost use Rattle.std.specs.Prelude.{◌≡◌, ◌≤◌, length};
+ghost use Rattle.ivshm_c.specs.Crossing.{call_numbered, state_of, field_number, outcome_number, access_crossed, refusal_crossed, note_crossed, notes_crossed, field_of, value_of, view_of, CrossingsAreTold};
+
+use crate::port::{Outcome, Port};
+use link_endpoint::Call;
+use link_handshake::Phase;
+use split_ring::{FieldName, Refused, steps};
+
+/// An access. Kind 0 is none, 1 a read of `word`, 2 a write of `value` to `word`, 3 a write of `value` to the own State, and 4 a doorbell,
+/// to the peer `word` by the vector `value`.
+#[repr(C)]
+#[derive(Clone, Copy)]
+pub struct Access {
+    pub kind: u32,
+    pub word: u32,
+    pub value: u32,
+}
+
+/// A note of a step. Kind 0 is Over, 1 Saw, 2 Reclaim, 3 Full, 4 Accept, 5 Look, 6 Deliver, 7 Return, 8 Done, 9 Down and 10 Refuse; `field`
+/// is that of a refusal, from 1, and `value` its value, the state seen or the count.
+#[repr(C)]
+#[derive(Clone, Copy)]
+pub struct Note {
+    pub kind: u32,
+    pub field: u32,
+    pub value: u64,
+}
+
+/// The notes of a step: how many, and the notes.
+#[repr(C)]
+#[derive(Clone, Copy)]
+pub struct Notes {
+    pub count: u32,
+    pub first: Note,
+    pub second: Note,
+}
+
+/// What an end tells of itself: the value and the field of what it refused since its reset, with field 0 for none; the bytes of the frame
+/// delivered last; the state; whether a call is open; the outcome of the last offer; and the bytes of the longest frame that may be
+/// offered.
+#[repr(C)]
+#[derive(Clone, Copy)]
+pub struct View {
+    pub refused_value: u64,
+    pub delivered: u64,
+    pub refused_field: u32,
+    pub state: u32,
+    pub busy: u32,
+    pub outcome: u32,
+    pub longest: u32,
+}
+
+pub(crate) fn call_numbered(number: u32) -> Option<Call>
+    ensures { result ≡ call_numbered number }
+{
+    match number {
+        0 => Some(Call::Tick),
+        1 => Some(Call::Poll),
+        2 => Some(Call::Stop),
+        _ => None,
+    }
+}
+
+pub(crate) fn state_of(phase: Phase) -> u32
+    ensures { result ≡ state_of phase }
+{
+    match phase {
+        Phase::Reset => 0,
+        Phase::Init => 1,
+        Phase::Ready => 2,
+        Phase::Run => 3,
+    }
+}
+
+pub(crate) fn field_number(field: FieldName) -> u32
+    ensures { result ≡ field_number field }
+{
+    match field {
+        FieldName::AvailIndex => 1,
+        FieldName::AvailEntry => 2,
+        FieldName::DescAddress => 3,
+        FieldName::DescLength => 4,
+        FieldName::DescFlags => 5,
+        FieldName::UsedIndex => 6,
+        FieldName::UsedId => 7,
+    }
+}
+
+pub(crate) fn access_crossed(access: steps::Access) -> Access
+    ensures { result ≡ access_crossed access }
+{
+    let (kind, word, value) = match access {
+        steps::Access::Nothing => (0, 0, 0),
+        steps::Access::Read(word) => (1, word, 0),
+        steps::Access::Write(word, value) => (2, word, value),
+        steps::Access::State(value) => (3, 0, value),
+        steps::Access::Ring { target, vector } => (4, target, vector),
+    };
+    Access { kind, word, value }
+}
+
+pub(crate) fn refusal_crossed(refused: Refused) -> Note
+    ensures { result ≡ refusal_crossed refused }
+{
+    Note {
+        kind: 10,
+        field: field_number(refused.field),
+        value: refused.value,
+    }
+}
+
+/// A note of this kind with this number.
+fn plain(kind: u32, value: u32) -> Note
+    ensures { result ≡ record { kind = kind; field = 0; value = value } }
+{
+    Note {
+        kind,
+        field: 0,
+        value: u64::from(value),
+    }
+}
+
+pub(crate) fn note_crossed(note: steps::Note) -> Note
+    ensures { result ≡ note_crossed note }
+{
+    match note {
+        steps::Note::Over => plain(0, 0),
+        steps::Note::Saw(state) => plain(1, state),
+        steps::Note::Reclaim(count) => plain(2, count),
+        steps::Note::Full => plain(3, 0),
+        steps::Note::Accept => plain(4, 0),
+        steps::Note::Look(count) => plain(5, count),
+        steps::Note::Deliver => plain(6, 0),
+        steps::Note::Return => plain(7, 0),
+        steps::Note::Done => plain(8, 0),
+        steps::Note::Down => plain(9, 0),
+        steps::Note::Refuse(refused) => refusal_crossed(refused),
+    }
+}
+
+pub(crate) fn notes_crossed(notes: &[steps::Note]) -> Notes
+    ensures { result ≡ notes_crossed notes.now }
+{
+    match notes {
+        [] => Notes {
+            count: 0,
+            first: plain(0, 0),
+            second: plain(0, 0),
+        },
+        [one] => Notes {
+            count: 1,
+            first: note_crossed(*one),
+            second: plain(0, 0),
+        },
+        [one, other, ..] => Notes {
+            count: 2,
+            first: note_crossed(*one),
+            second: note_crossed(*other),
+        },
+    }
+}
+
+pub(crate) fn outcome_number(outcome: Outcome) -> u32
+    ensures { result ≡ outcome_number outcome }
+{
+    match outcome {
+        Outcome::Never => 0,
+        Outcome::Open => 1,
+        Outcome::Accepted => 2,
+        Outcome::Full => 3,
+        Outcome::Refused => 4,
+        Outcome::Down => 5,
+        Outcome::Cut => 6,
+    }
+}
+
+fn field_of(refused: Option<Refused>) -> u32
+    ensures { result ≡ field_of refused }
+{
+    match refused {
+        Some(refused) => field_number(refused.field),
+        None => 0,
+    }
+}
+
+fn value_of(refused: Option<Refused>) -> u64
+    ensures { result ≡ value_of refused }
+{
+    match refused {
+        Some(refused) => refused.value,
+        None => 0,
+    }
+}
+
+pub(crate) fn view_of(port: &Port) -> View
+    ensures { result ≡ view_of port.now }
+{
+    let endpoint = &port.endpoint;
+    let refused = endpoint.refused();
+    View {
+        refused_value: value_of(refused),
+        delivered: endpoint.delivered().len() as u64,
+        refused_field: field_of(refused),
+        state: state_of(endpoint.phase()),
+        busy: if endpoint.busy() { 1 } else { 0 },
+        outcome: outcome_number(port.outcome),
+        longest: endpoint.longest(),
+    }
+}
+
+/// Law: the numbers of an access, and those of a note, tell it apart from every other.
+#[tactic(auto, using(crate::proofs::Told::crossings_told))]
+pub fn crossings_are_told()
+    ensures { CrossingsAreTold }
+{}

@@ -1,0 +1,167 @@
+//! The exports of an end.
+ghost use Rattle.std.specs.Prelude.{◌≡◌, ◌+◌, ◌≤◌, length, None, IfSome};
+ghost use Rattle.ivshm_c.specs.Statuses.{number_of};
+ghost use Rattle.ivshm_c.specs.declared.status.Status.{Status as Answer};
+ghost use Rattle.link_endpoint.specs.Engine.{delivered};
+ghost use Rattle.ivshm_c.specs.Crossing.{view_of};
+ghost use Rattle.ivshm_c.specs.Answers.{answer_at, Leads, begin_answer, offer_answer, step_answer, frame_answer, done_answer, BeginsAnswered, OffersAnswered, TellsNext, TakesAnswered, CopiesFrame, Renews, MakesAnswered};
+
+use crate::calls::{begun, framed, made, next, offered, took};
+use crate::crossing::view_of;
+use crate::device::Found;
+use crate::status::Status;
+use crate::{Access, End, Notes, View};
+use std::alloc::Global;
+
+/// Makes the end of peer `me` of a region of these sizes, with so many peers, for frames of this MTU; its doorbells have the vector
+/// `vector`. The State step is open with which it begins.
+#[unsafe(no_mangle)]
+pub extern "C" fn ivshm_end_new(
+    alloc: Global,
+    end: &mut End,
+    found: &Found,
+    peers: u32,
+    me: u32,
+    mtu: u32,
+    vector: u32,
+) -> u32
+    ensures { (answer : Answer) × (result ≡ number_of answer) × MakesAnswered end.old.port found.now peers me mtu vector answer end.new.port }
+{
+    if let Some(port) = end.take(alloc) {
+        end.put(port);
+        return Status::HasEnd.number();
+    }
+    match made(alloc, found, peers, me, mtu, vector) {
+        Ok(port) => {
+            end.put(port);
+            Status::Done.number()
+        }
+        Err(status) => status.number(),
+    }
+}
+
+/// Frees the end.
+#[unsafe(no_mangle)]
+pub extern "C" fn ivshm_end_free(alloc: Global, end: &mut End) -> u32
+    ensures answer { result ≡ number_of (answer_at end.old.port done_answer) }
+    ensures empty { end.new.port ≡ None }
+{
+    match end.take(alloc) {
+        Some(port) => {
+            drop(port);
+            Status::Done.number()
+        }
+        None => Status::NoEnd.number(),
+    }
+}
+
+/// Opens a call: 0 a Tick, 1 a Poll, 2 a Stop.
+#[unsafe(no_mangle)]
+pub extern "C" fn ivshm_end_begin(alloc: Global, end: &mut End, call: u32) -> u32
+    ensures answer { result ≡ number_of (answer_at end.old.port (begin_answer call)) }
+    ensures step { Leads end.old.port (BeginsAnswered call) end.new.port }
+{
+    let Some(mut port) = end.take(alloc) else {
+        return Status::NoEnd.number();
+    };
+    let status = begun(&mut port, call);
+    end.put(port);
+    status.number()
+}
+
+/// Opens an offer of this frame, which is copied.
+#[unsafe(no_mangle)]
+pub extern "C" fn ivshm_end_offer(alloc: Global, end: &mut End, frame: &[u8]) -> u32
+    ensures answer { result ≡ number_of (answer_at end.old.port (offer_answer frame.now)) }
+    ensures step { Leads end.old.port (OffersAnswered frame.now) end.new.port }
+{
+    let Some(mut port) = end.take(alloc) else {
+        return Status::NoEnd.number();
+    };
+    let status = offered(&mut port, frame);
+    end.put(port);
+    status.number()
+}
+
+/// Tells the next access of the open call.
+#[unsafe(no_mangle)]
+pub extern "C" fn ivshm_end_next(alloc: Global, end: &mut End, access: &mut Access) -> u32
+    ensures answer { result ≡ number_of (answer_at end.old.port step_answer) }
+    ensures access { IfSome end.old.port (λ port. TellsNext port access.old access.new) }
+    ensures untouched { end.old.port ≡ None → access.new ≡ access.old }
+    ensures kept { end.new.port ≡ end.old.port }
+{
+    let Some(port) = end.take(alloc) else {
+        return Status::NoEnd.number();
+    };
+    let status = next(&port, access);
+    end.put(port);
+    status.number()
+}
+
+/// Takes the step of the access that `ivshm_end_next` told; `value` is what a read gave.
+#[unsafe(no_mangle)]
+pub extern "C" fn ivshm_end_took(alloc: Global, end: &mut End, value: u32, notes: &mut Notes) -> u32
+    ensures answer { result ≡ number_of (answer_at end.old.port step_answer) }
+    ensures step { Leads end.old.port (TakesAnswered value notes.old notes.new) end.new.port }
+    ensures untouched { end.old.port ≡ None → notes.new ≡ notes.old }
+{
+    let Some(mut port) = end.take(alloc) else {
+        return Status::NoEnd.number();
+    };
+    let status = took(&mut port, value, notes);
+    end.put(port);
+    status.number()
+}
+
+/// Tells how the end stands.
+#[unsafe(no_mangle)]
+pub extern "C" fn ivshm_end_view(alloc: Global, end: &mut End, view: &mut View) -> u32
+    ensures answer { result ≡ number_of (answer_at end.old.port done_answer) }
+    ensures view { IfSome end.old.port (λ port. view.new ≡ view_of port) }
+    ensures untouched { end.old.port ≡ None → view.new ≡ view.old }
+    ensures kept { end.new.port ≡ end.old.port }
+{
+    let Some(port) = end.take(alloc) else {
+        return Status::NoEnd.number();
+    };
+    *view = view_of(&port);
+    end.put(port);
+    Status::Done.number()
+}
+
+/// Copies the frame delivered last to the front of `room`, where it fits, and tells its length.
+#[unsafe(no_mangle)]
+pub extern "C" fn ivshm_end_frame(
+    alloc: Global,
+    end: &mut End,
+    room: &mut [u8],
+    size: &mut usize,
+) -> u32
+    ensures answer { result ≡ number_of (answer_at end.old.port (frame_answer (length room.old))) }
+    ensures length { IfSome end.old.port (λ port. size.new ≡ length (delivered port.endpoint)) }
+    ensures bytes { IfSome end.old.port (λ port. CopiesFrame port room.old room.new) }
+    ensures untouched { end.old.port ≡ None → (room.new ≡ room.old) × (size.new ≡ size.old) }
+    ensures kept { end.new.port ≡ end.old.port }
+{
+    let Some(port) = end.take(alloc) else {
+        return Status::NoEnd.number();
+    };
+    let status = framed(&port, room, size);
+    end.put(port);
+    status.number()
+}
+
+/// The end's own device was reset: the open call is cut, and the State step is open with which the end begins anew.
+#[unsafe(no_mangle)]
+pub extern "C" fn ivshm_end_reset(alloc: Global, end: &mut End) -> u32
+    ensures answer { result ≡ number_of (answer_at end.old.port done_answer) }
+    ensures step { Leads end.old.port Renews end.new.port }
+{
+    let Some(mut port) = end.take(alloc) else {
+        return Status::NoEnd.number();
+    };
+    port.reset();
+    end.put(port);
+    Status::Done.number()
+}

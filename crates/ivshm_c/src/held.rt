@@ -1,0 +1,82 @@
+//! The handle by which a program in C holds an end.
+ghost use Rattle.std.specs.Prelude.{◌≡◌, Option, Some, None, MatchOption};
+ghost use Rattle.ivshm_c.specs.declared.port.Port.{Port as Held};
+
+use crate::port::Port;
+use loose_box::Loose;
+use std::alloc::Global;
+use std::marker::Model;
+
+/// A handle: a pointer, which is null where the handle holds no end. The program in C keeps it, and never reads or writes it but to
+/// make it null at first.
+#[repr(C)]
+#[derive(Drop)]
+pub struct End {
+    at: *mut u8,
+    alloc: Global,
+    pub(crate) ghost port: { Option Held },
+}
+
+impl Model for End {
+    ghost use Rattle.ivshm_c.specs.Held.{held};
+
+    ghost also_owns = { λ h. held h.at h.alloc h.port };
+}
+
+// It may go to another thread, since the port and the allocator may.
+unsafe impl Send for End {}
+
+impl End {
+    /// The handle of no end.
+    pub(crate) fn empty(alloc: Global) -> End
+        ensures { result.port ≡ None }
+    {
+        End {
+            at: std::ptr::null_mut(),
+            alloc,
+        }
+    }
+
+    fn of(loose: Loose<Port, Global>) -> End
+        ensures { result.port ≡ Some loose.value }
+    {
+        let Loose { at, alloc } = loose;
+        End {
+            at: at as *mut u8,
+            alloc,
+        }
+    }
+
+    fn into_loose(self) -> Option<Loose<Port, Global>>
+        ensures { MatchOption result (self.port ≡ None) (λ l. self.port ≡ Some l.value) }
+    {
+        let End { at, alloc } = self;
+        if at.is_null() {
+            None
+        } else {
+            Some(Loose {
+                at: at as *mut Port,
+                alloc,
+            })
+        }
+    }
+
+    /// Takes the end out, where there is one.
+    pub(crate) fn take(&mut self, alloc: Global) -> Option<Box<Port>>
+        ensures port { MatchOption result (self.old.port ≡ None) (λ b. self.old.port ≡ Some b.value) }
+        ensures empty { self.new.port ≡ None }
+    {
+        match std::mem::replace(self, End::empty(alloc)).into_loose() {
+            Some(loose) => Some(loose.into_box()),
+            None => None,
+        }
+    }
+
+    /// Puts an end in, where there is none.
+    pub(crate) fn put(&mut self, port: Box<Port>)
+        requires { self.old.port ≡ None }
+        ensures { self.new.port ≡ Some port.value }
+    {
+        *self = End::of(Loose::of(port));
+    }
+}

@@ -1,0 +1,135 @@
+//! An end of the link, with the outcome of its last offer.
+ghost use Rattle.std.specs.Prelude.{◌≡◌, ℕ, ◌+◌, ◌≤◌, true, false, length};
+ghost use Rattle.link_endpoint.specs.Engine.{is_busy};
+ghost use Rattle.link_endpoint.specs.declared.place.Call.TheVariants.{Stop};
+ghost use Rattle.ivshm_c.specs.Ports.{Begins, Offers, Steps, Restarts, outcome_after, outcome_cut, outcome_with, outcome_told, told_by};
+
+use link_endpoint::{Call, Endpoint};
+use split_ring::steps::{Note, Notes};
+
+/// What came of the last offer.
+#[derive(Clone, Copy, Debug, PartialEq, Eq)]
+pub(crate) enum Outcome {
+    /// Nothing was offered yet.
+    Never,
+    /// The offer is open.
+    Open,
+    /// The frame is published.
+    Accepted,
+    /// As many frames as may be are in flight.
+    Full,
+    /// The other peer's value was refused.
+    Refused,
+    /// The offer came outside RUN.
+    Down,
+    /// The device was reset in the offer.
+    Cut,
+}
+
+/// An end and the outcome of its last offer.
+#[derive(Debug, Drop)]
+pub(crate) struct Port {
+    pub(crate) endpoint: Endpoint,
+    pub(crate) outcome: Outcome,
+}
+
+impl Port {
+    /// A new end, before the State step with which it begins: its Stop is open.
+    pub(crate) fn of(endpoint: Endpoint) -> Port
+        requires { is_busy endpoint ≡ false }
+        ensures begins { Begins Stop endpoint result.endpoint }
+        ensures outcome { result.outcome ≡ Outcome.Never }
+    {
+        let mut endpoint = endpoint;
+        endpoint.begin(Call::Stop);
+        Port {
+            endpoint,
+            outcome: Outcome::Never,
+        }
+    }
+
+    pub(crate) fn begin(&mut self, call: Call)
+        requires { is_busy self.old.endpoint ≡ false }
+        ensures begins { Begins call self.old.endpoint self.new.endpoint }
+        ensures outcome { self.new.outcome ≡ self.old.outcome }
+    {
+        self.endpoint.begin(call);
+    }
+
+    pub(crate) fn offer(&mut self, frame: &[u8])
+        requires closed { is_busy self.old.endpoint ≡ false }
+        requires frame { (14 ≤ length frame.now) × (length frame.now ≤ self.old.endpoint.who.sizes.mtu + 18) }
+        ensures offers { Offers frame.now self.old.endpoint self.new.endpoint }
+        ensures outcome { self.new.outcome ≡ Outcome.Open }
+    {
+        self.endpoint.offer(frame);
+        self.outcome = Outcome::Open;
+    }
+
+    pub(crate) fn took(&mut self, value: u32) -> Notes
+        requires { is_busy self.old.endpoint ≡ true }
+        ensures steps { Steps self.old.endpoint value result.items self.new.endpoint }
+        ensures outcome { self.new.outcome ≡ outcome_after result.items self.old.outcome }
+    {
+        let notes = self.endpoint.took(value);
+        self.outcome = outcome_after(notes.as_slice(), self.outcome);
+        notes
+    }
+
+    /// The device was reset: the open call is cut, and the State step comes with which the end begins anew.
+    pub(crate) fn reset(&mut self)
+        ensures restarts { Restarts self.old.endpoint self.new.endpoint }
+        ensures outcome { self.new.outcome ≡ outcome_cut self.old.outcome }
+    {
+        self.endpoint.reset();
+        self.endpoint.begin(Call::Stop);
+        self.outcome = match self.outcome {
+            Outcome::Open => Outcome::Cut,
+            outcome => outcome,
+        };
+    }
+}
+
+/// The outcome after these notes: that of an offer that isn't open stays.
+fn outcome_after(notes: &[Note], before: Outcome) -> Outcome
+    ensures { result ≡ outcome_after notes.now before }
+{
+    match before {
+        Outcome::Open => told_by(notes),
+        outcome => outcome,
+    }
+}
+
+/// What these notes tell of an open offer.
+fn told_by(notes: &[Note]) -> Outcome
+    ensures { result ≡ told_by notes.now Outcome.Open }
+{
+    let mut outcome = Outcome::Open;
+    for note in notes {
+        outcome = outcome_with(note, outcome);
+    }
+    outcome
+}
+
+/// The outcome after a note: an open offer's is told once.
+fn outcome_with(note: &Note, before: Outcome) -> Outcome
+    ensures { result ≡ outcome_with note.now before }
+{
+    match before {
+        Outcome::Open => outcome_told(note),
+        outcome => outcome,
+    }
+}
+
+/// The outcome that a note tells of an open offer.
+fn outcome_told(note: &Note) -> Outcome
+    ensures { result ≡ outcome_told note.now }
+{
+    match note {
+        Note::Accept => Outcome::Accepted,
+        Note::Full => Outcome::Full,
+        Note::Refuse(_) => Outcome::Refused,
+        Note::Down => Outcome::Down,
+        _ => Outcome::Open,
+    }
+}

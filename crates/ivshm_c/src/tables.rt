@@ -1,0 +1,56 @@
+//! The exports that need no end: the walk over a configuration space, the words of a region, and the bounds of the link's numbers.
+ghost use Rattle.std.specs.Prelude.{◌≡◌, Result, Ok, Err};
+ghost use Rattle.pci_space.specs.Walk.{IsWalk};
+ghost use Rattle.pci_space.specs.declared.found.Found.{Found as Walked};
+ghost use Rattle.pci_space.specs.declared.found.CapabilityFault.{CapabilityFault as WalkFault};
+ghost use Rattle.ivshm_c.specs.declared.status.Status.{Status as Answer};
+ghost use Rattle.ivshm_c.specs.Statuses.{number_of};
+ghost use Rattle.ivshm_c.specs.Sizes.{walk_status, found_after, LaysOut, limits};
+
+use crate::device::{Found, Layout, Limits, found_crossed, layout_of, sized};
+use crate::status::{Status, capability_status};
+use pci_space::walk;
+
+/// Finds the device in the 256 bytes of a configuration space, which can't be trusted.
+#[unsafe(no_mangle)]
+pub extern "C" fn ivshm_walk(space: &[u8; 256], found: &mut Found) -> u32
+    ensures { (answer : Result Walked WalkFault) × IsWalk space.now answer × (result ≡ number_of (walk_status answer)) ×
+        (found.new ≡ found_after answer found.old) }
+{
+    match walk(space) {
+        Ok(walked) => {
+            *found = found_crossed(&walked);
+            Status::Done.number()
+        }
+        Err(fault) => capability_status(&fault).number(),
+    }
+}
+
+/// Tells the words of a region of these sizes by name.
+#[unsafe(no_mangle)]
+pub extern "C" fn ivshm_layout(found: &Found, peers: u32, mtu: u32, layout: &mut Layout) -> u32
+    ensures { (answer : Answer) × (result ≡ number_of answer) × LaysOut found.now peers mtu layout.old answer layout.new }
+{
+    match sized(found, peers, mtu) {
+        Ok((geometry, queue)) => {
+            *layout = layout_of(&geometry, &queue);
+            Status::Done.number()
+        }
+        Err(status) => status.number(),
+    }
+}
+
+/// Tells the version of the link and the bounds of its numbers.
+#[unsafe(no_mangle)]
+pub extern "C" fn ivshm_limits(told: &mut Limits)
+    ensures { told.new ≡ limits }
+{
+    *told = Limits {
+        version: 1,
+        least_mtu: 256,
+        most_mtu: 65_535,
+        shortest_frame: 14,
+        longest_frame: 65_553,
+        largest_region: 16_777_216,
+    };
+}

@@ -1,0 +1,154 @@
+//! Each export once, on numbers that the layout of a section and the device's specification give.
+ghost use Rattle.std.specs.Prelude.{◌≡◌};
+
+use crate::exports::{
+    ivshm_end_begin, ivshm_end_frame, ivshm_end_free, ivshm_end_new, ivshm_end_next,
+    ivshm_end_offer, ivshm_end_reset, ivshm_end_took, ivshm_end_view,
+};
+use crate::tables::{ivshm_layout, ivshm_limits, ivshm_walk};
+use crate::{Access, End, Found, Layout, Limits, Note, Notes, View};
+use std::test::Fail;
+
+const FOUND: Found = Found {
+    common: 0,
+    out: 16_384,
+    base: 0,
+    table: 4096,
+    protocol: 1,
+    one_shot: 0,
+    has_base: 0,
+    vectors: 2,
+    vectors_bar: 1,
+    vectors_offset: 0,
+    pending_bar: 1,
+    pending_offset: 2048,
+};
+
+const NO_NOTE: Note = Note {
+    kind: 0,
+    field: 0,
+    value: 0,
+};
+
+const NO_VIEW: View = View {
+    refused_value: 0,
+    delivered: 0,
+    refused_field: 0,
+    state: 0,
+    busy: 0,
+    outcome: 0,
+    longest: 0,
+};
+
+/// A new end writes State 0, ticks, and is reset: State 0 again.
+#[test]
+fn first_steps(rt: HostRuntime) -> Result<(), Fail> {
+    let alloc = rt.alloc();
+    let mut end = End::empty(alloc);
+    assert_eq!(rt; ivshm_end_new(alloc, &mut end, &FOUND, 2, 0, 256, 1), 0);
+    let mut access = Access {
+        kind: 0,
+        word: 0,
+        value: 0,
+    };
+    let mut notes = Notes {
+        count: 0,
+        first: NO_NOTE,
+        second: NO_NOTE,
+    };
+    assert_eq!(rt; ivshm_end_begin(alloc, &mut end, 0), 3);
+    assert_eq!(rt; ivshm_end_next(alloc, &mut end, &mut access), 0);
+    assert_eq!(rt; access.kind, 3);
+    assert_eq!(rt; access.value, 0);
+    assert_eq!(rt; ivshm_end_took(alloc, &mut end, 0, &mut notes), 0);
+    assert_eq!(rt; notes.count, 1);
+    assert_eq!(rt; ivshm_end_begin(alloc, &mut end, 0), 0);
+    assert_eq!(rt; ivshm_end_next(alloc, &mut end, &mut access), 0);
+    assert_eq!(rt; access.kind, 1);
+    assert_eq!(rt; access.word, 1);
+    assert_eq!(rt; ivshm_end_took(alloc, &mut end, 0, &mut notes), 0);
+    assert_eq!(rt; ivshm_end_next(alloc, &mut end, &mut access), 0);
+    assert_eq!(rt; access.kind, 3);
+    assert_eq!(rt; access.value, 1);
+    assert_eq!(rt; ivshm_end_reset(alloc, &mut end), 0);
+    assert_eq!(rt; ivshm_end_next(alloc, &mut end, &mut access), 0);
+    assert_eq!(rt; access.value, 0);
+    assert_eq!(rt; ivshm_end_free(alloc, &mut end), 0);
+    assert_eq!(rt; ivshm_end_free(alloc, &mut end), 1);
+    Ok(())
+}
+
+/// Outside RUN an offer is down, and nothing was delivered.
+#[test]
+fn an_offer_outside_run(rt: HostRuntime) -> Result<(), Fail> {
+    let alloc = rt.alloc();
+    let mut end = End::empty(alloc);
+    assert_eq!(rt; ivshm_end_new(alloc, &mut end, &FOUND, 2, 1, 256, 1), 0);
+    let mut notes = Notes {
+        count: 0,
+        first: NO_NOTE,
+        second: NO_NOTE,
+    };
+    let mut view = NO_VIEW;
+    assert_eq!(rt; ivshm_end_took(alloc, &mut end, 0, &mut notes), 0);
+    assert_eq!(rt; ivshm_end_offer(alloc, &mut end, &[7; 13]), 7);
+    assert_eq!(rt; ivshm_end_offer(alloc, &mut end, &[7; 14]), 0);
+    assert_eq!(rt; ivshm_end_view(alloc, &mut end, &mut view), 0);
+    assert_eq!(rt; view.outcome, 1);
+    assert_eq!(rt; ivshm_end_took(alloc, &mut end, 0, &mut notes), 0);
+    assert_eq!(rt; ivshm_end_took(alloc, &mut end, 0, &mut notes), 4);
+    assert_eq!(rt; ivshm_end_view(alloc, &mut end, &mut view), 0);
+    assert_eq!(rt; view.outcome, 5);
+    assert_eq!(rt; view.longest, 274);
+    let mut room = [1; 4];
+    let mut size = 9;
+    assert_eq!(rt; ivshm_end_frame(alloc, &mut end, &mut room, &mut size), 0);
+    assert_eq!(rt; size, 0);
+    assert_eq!(rt; ivshm_end_free(alloc, &mut end), 0);
+    Ok(())
+}
+
+/// The words of a section of 16,384 bytes, whose queue has 64 descriptors; a configuration space of nobody; the bounds.
+#[test]
+fn numbers_without_an_end(rt: HostRuntime) -> Result<(), Fail> {
+    let mut layout = Layout {
+        first: 0,
+        words: 0,
+        queue_size: 0,
+        limit: 0,
+        slot: 0,
+        data_area: 0,
+        available_index: 0,
+        available_entries: 0,
+        used_event: 0,
+        used_index: 0,
+        used_elements: 0,
+        available_event: 0,
+        longest_offer: 0,
+        longest_delivery: 0,
+    };
+    assert_eq!(rt; ivshm_layout(&FOUND, 2, 256, &mut layout), 0);
+    assert_eq!(rt; layout.first, 1024);
+    assert_eq!(rt; layout.queue_size, 64);
+    assert_eq!(rt; layout.available_index, 256);
+    assert_eq!(rt; layout.used_event, 289);
+    assert_eq!(rt; layout.used_index, 304);
+    assert_eq!(rt; layout.data_area, 1792);
+    assert_eq!(rt; layout.longest_delivery, 14_592);
+    assert_eq!(rt; ivshm_layout(&FOUND, 2, 255, &mut layout), 17);
+    let mut found = FOUND;
+    assert_eq!(rt; ivshm_walk(&[0; 256], &mut found), 20);
+    assert_eq!(rt; found.table, 4096);
+    let mut limits = Limits {
+        version: 0,
+        least_mtu: 0,
+        most_mtu: 0,
+        shortest_frame: 0,
+        longest_frame: 0,
+        largest_region: 0,
+    };
+    ivshm_limits(&mut limits);
+    assert_eq!(rt; limits.version, 1);
+    assert_eq!(rt; limits.longest_frame, 65_553);
+    Ok(())
+}

@@ -1,0 +1,66 @@
+-- What the top call owes: the cause of each status, and what was written.
+use Rattle.std.specs.Prelude.{ℕ, ◌≡◌, ◌+◌, ◌⊎◌, List, codes, Option, Some, None, Err}
+use Rattle.ivs_base.specs.Ends.{Input, Output, Gave, GaveMany, HasEnded, Took, SourceFailed, SinkFailed}
+use Rattle.record_text.specs.declared.faults.RecordFault.{RecordFault}
+use Rattle.record_text.specs.Spelling.{Record, IsSpelling}
+use Rattle.record_text.specs.Judge.{answer}
+use Rattle.record_chart.specs.declared.pictures.Picture.{Picture}
+use Rattle.record_chart.specs.Pictures.{IsPicture}
+use Rattle.ivshm_chart.specs.declared.words.Span.{Span}
+use Rattle.ivshm_chart.specs.declared.status.Status.{Status}
+use Rattle.ivshm_chart.specs.declared.status.Status.TheVariants.{Done, Usage, Refused, ReadFault, WriteFault, NoMemory}
+use Rattle.ivshm_chart.specs.Refusals.{line_of}
+
+abbrev pub usage_line : List ℕ
+usage_line = codes "usage: ivshm_chart | ivshm_chart FROM TO\n"
+
+-- the most bytes that are read, as `ivshm replay` reads them
+abbrev pub limit : ℕ
+limit = 1073741824
+
+-- the bytes spell a record, and the picture is one of the lines asked for
+abbrev pub Draws : Span → List ℕ → Option Picture → Type 0
+Draws span bytes None = ⊥
+Draws span bytes (Some picture) = (r : Record) × IsSpelling r bytes × IsPicture r.world r.lines span.first span.last picture
+
+-- the bytes spell no record, and this is the line that says so
+abbrev pub IsRefusal : List ℕ → (text : List ℕ) → Type 0
+IsRefusal bytes text = (fault : RecordFault) × (answer bytes ≡ Err fault) × (text ≡ line_of fault)
+
+-- the reply to bytes that were read: its status, its text and the picture that is left behind
+abbrev pub IsReply : Span → List ℕ → Status → (text : List ℕ) → Option Picture → Type 0
+IsReply span bytes Done text drawn = Draws span bytes drawn
+IsReply span bytes Refused text drawn = IsRefusal bytes text × (drawn ≡ None)
+IsReply span bytes _ text drawn = ⊥
+
+-- a record was read to its end, and a whole text was written; `drawn` is the picture that it shows
+pub record Charts (span : Span) (before now : Input) (before' now' : Output) (drawn : Option Picture) : Type 0 where
+  pub bytes : List ℕ
+  pub text : List ℕ
+  pub gave : Gave before bytes now
+  pub ended : HasEnded now
+  pub draws : Draws span bytes drawn
+  pub wrote : Took before' text now'
+
+-- more bytes were read than the limit, or a text that spells no record
+abbrev pub IsWhy : (before now : Input) → (text : List ℕ) → Type 0
+IsWhy before now text = ((text ≡ codes "refused 0 TooLong\n") × GaveMany before (limit + 1) now) ⊎
+    ((bytes : List ℕ) × Gave before bytes now × HasEnded now × IsRefusal bytes text)
+
+-- and the line that says so was written
+pub record Refuses (before now : Input) (before' now' : Output) : Type 0 where
+  pub text : List ℕ
+  pub why : IsWhy before now text
+  pub wrote : Took before' text now'
+
+-- each status has its cause
+abbrev pub HasCause : Status → Option Span → (before now : Input) → (before' now' : Output) → Option Picture → Type 0
+HasCause Done (Some span) before now before' now' drawn = Charts span before now before' now' drawn
+HasCause Done None before now before' now' drawn = ⊥
+HasCause Usage None before now before' now' drawn = (now ≡ before) × Took before' usage_line now'
+HasCause Usage (Some span) before now before' now' drawn = ⊥
+HasCause Refused (Some span) before now before' now' drawn = Refuses before now before' now'
+HasCause Refused None before now before' now' drawn = ⊥
+HasCause ReadFault form before now before' now' drawn = SourceFailed before now × (now' ≡ before')
+HasCause WriteFault form before now before' now' drawn = SinkFailed before' now'
+HasCause NoMemory form before now before' now' drawn = now' ≡ before'

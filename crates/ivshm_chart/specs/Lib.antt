@@ -1,0 +1,4 @@
+pub mod Status
+pub mod Forms
+pub mod Refusals
+pub mod Charts

@@ -1,0 +1,34 @@
+-- The line that says where and why a text spells no record, as `ivshm replay` writes it (profile).
+use Rattle.std.specs.Prelude.{ℕ, List, ◌++◌, codes, decimal}
+use Rattle.scenario_text.specs.declared.faults.ScenarioFault.{ScenarioFault}
+use Rattle.scenario_text.specs.declared.faults.ScenarioFault.TheVariants as faults
+use Rattle.record_text.specs.declared.faults.RecordFault.{RecordFault}
+use Rattle.record_text.specs.declared.faults.RecordFault.TheVariants as records
+
+-- a line of the text that is wrong
+abbrev pub place_line_of : (name : List ℕ) → (number : ℕ) → List ℕ
+place_line_of name number = codes "refused " ++ decimal number ++ codes " " ++ name ++ codes "\n"
+
+-- the text as a whole hasn't the lines that it states
+abbrev pub count_line_of : (name : List ℕ) → (kept found : ℕ) → List ℕ
+count_line_of name kept found = codes "refused 0 " ++ name ++ codes " " ++ decimal kept ++ codes " " ++ decimal found ++ codes "\n"
+
+-- a text as a whole; no text has the fault NoMemory
+abbrev pub scenario_line_of : ScenarioFault → List ℕ
+scenario_line_of (faults.BadLine line) = place_line_of (codes "BadLine") line
+scenario_line_of (faults.BadNumber line) = place_line_of (codes "BadNumber") line
+scenario_line_of (faults.BadFrame line) = place_line_of (codes "BadFrame") line
+scenario_line_of (faults.BadPeer line) = place_line_of (codes "BadPeer") line
+scenario_line_of (faults.BadGeometry line) = place_line_of (codes "BadGeometry") line
+scenario_line_of (faults.BadOrder line) = place_line_of (codes "BadOrder") line
+scenario_line_of (faults.TooManyTurns line) = place_line_of (codes "TooManyTurns") line
+scenario_line_of faults.NoEnd = codes "refused 0 NoEnd\n"
+scenario_line_of faults.NoMemory = codes "refused 0 NoMemory\n"
+
+abbrev pub line_of : RecordFault → List ℕ
+line_of (records.Scenario fault) = scenario_line_of fault
+line_of (records.BadLine line) = place_line_of (codes "BadLine") line
+line_of (records.BadNumber line) = place_line_of (codes "BadNumber") line
+line_of (records.BadCount kept found) = count_line_of (codes "BadCount") kept found
+line_of records.NoEnd = codes "refused 0 NoEnd\n"
+line_of records.NoMemory = codes "refused 0 NoMemory\n"

@@ -1,0 +1,26 @@
+//! The program `ivshm_chart`: it reads a record, and writes a picture of its history as an SVG file. It stands on `record_text` for
+//! the record and on `record_chart` for the picture. The top call is [`program::chart`], over any source and sink; the arguments and
+//! the two real ends are the trusted edge, of which no contract tells.
+#![tactic(auto)]
+
+mod arguments;
+mod program;
+mod refusals;
+mod status;
+#[cfg(test)]
+mod tests;
+mod words;
+
+use arguments::words_of;
+use ivs_base::{InputSource, OutputSink};
+use program::status_of_words;
+use std::process::ExitCode;
+use std::{env, io};
+
+fn main(rt: HostRuntime) -> ExitCode {
+    let words = words_of(rt.alloc(), env::args(&rt));
+    let mut source = InputSource::new(rt.reader());
+    let mut sink = OutputSink::new(io::writer(&rt));
+    let mut drawn = None;
+    status_of_words(rt.alloc(), words, &mut source, &mut sink, &mut drawn).exit_code()
+}

@@ -1,0 +1,129 @@
+//! The top call.
+ghost use Rattle.std.specs.Prelude.{◌≡◌, ◌≢◌, ◌⊎◌, ◌≤◌, ℕ, None, Some, IfOk, IsErrOf, map, take, length};
+ghost use Rattle.std.specs.String.{string_bytes};
+ghost use Rattle.ivs_base.specs.Ends.{Took, SinkFailed};
+ghost use Rattle.ivshm_chart.specs.Forms.{form_of};
+ghost use Rattle.ivshm_chart.specs.Charts.{HasCause, IsReply};
+
+use crate::arguments::WordsFault;
+use crate::refusals::refusal_line;
+use crate::status::Status;
+use crate::words::{Span, read_form};
+use ivs_base::{NoMemory, ReadEnd, Sink, Source, read_all, write_whole};
+use record_chart::{Picture, draw, picture_of};
+use record_text::{RecordFault, parse};
+use std::alloc::Global;
+
+/// The line that says which words the program knows.
+const USAGE: &[u8] = b"usage: ivshm_chart | ivshm_chart FROM TO\n";
+
+/// The most bytes that are read.
+const LIMIT: u64 = 1_073_741_824;
+
+/// What is due to bytes that were read: a status, a text, and the picture that the text shows.
+#[derive(Drop)]
+struct Reply {
+    status: Status,
+    text: Vec<u8>,
+    drawn: Option<Picture>,
+}
+
+/// The reply to the bytes that were read.
+fn reply_to(alloc: Global, span: Span, bytes: &[u8]) -> Result<Reply, NoMemory>
+    requires { 1 ≤ span.first }
+    ensures { IfOk result (λ reply. IsReply span bytes.now reply.status reply.text.items reply.drawn) }
+{
+    match parse(alloc, bytes) {
+        Ok(trace) => {
+            let picture = picture_of(alloc, &trace, span.first, span.last)?;
+            let text = draw(alloc, &trace, span.first, &picture)?;
+            Ok(Reply {
+                status: Status::Done,
+                text,
+                drawn: Some(picture),
+            })
+        }
+        Err(RecordFault::NoMemory) => Err(NoMemory),
+        Err(fault) => {
+            let text = refusal_line(alloc, fault)?;
+            Ok(Reply {
+                status: Status::Refused,
+                text,
+                drawn: None,
+            })
+        }
+    }
+}
+
+/// Writes a text. The status is this one where all of it was written, else WriteFault.
+fn write_text<K: Sink>(sink: &mut K, text: &[u8], status: Status) -> Status
+    ensures cases { (result ≡ status) ⊎ (result ≡ Status.WriteFault) }
+    ensures whole { result ≢ Status.WriteFault → Took (K.output sink.old) text.now (K.output sink.new) }
+    ensures fault { result ≢ status → SinkFailed (K.output sink.old) (K.output sink.new) }
+{
+    match write_whole(sink, text) {
+        Ok(()) => status,
+        Err(_) => Status::WriteFault,
+    }
+}
+
+/// Runs the words of the program, which are its arguments after its name: reads a record to its end, and writes the picture of the
+/// lines asked for. Nothing is written before the text is whole.
+///
+/// `drawn` is empty before the call; after it, it holds what was drawn where the text due is a picture.
+pub fn chart<S: Source, K: Sink>(
+    alloc: Global,
+    words: &[String],
+    source: &mut S,
+    sink: &mut K,
+    drawn: &mut Option<Picture>,
+) -> Status
+    requires { drawn.old ≡ None }
+    ensures cause { HasCause result (form_of (map string_bytes words.now)) (S.input source.old) (S.input source.new)
+        (K.output sink.old) (K.output sink.new) drawn.new }
+    // Words that are no form read nothing, and take no memory.
+    ensures usage { form_of (map string_bytes words.now) ≡ None → (result ≡ Status.Usage) ⊎ (result ≡ Status.WriteFault) }
+    ensures unread { form_of (map string_bytes words.now) ≡ None → source.new ≡ source.old }
+{
+    let Some(span) = read_form(words) else {
+        return write_text(sink, USAGE, Status::Usage);
+    };
+    let bytes = match read_all(alloc, source, LIMIT) {
+        Ok(bytes) => bytes,
+        Err(ReadEnd::ReadFault) => return Status::ReadFault,
+        Err(ReadEnd::NoMemory) => return Status::NoMemory,
+        Err(ReadEnd::TooLong) => return write_text(sink, b"refused 0 TooLong\n", Status::Refused),
+    };
+    let Ok(reply) = reply_to(alloc, span, &bytes) else {
+        return Status::NoMemory;
+    };
+    let Reply {
+        status,
+        text,
+        drawn: picture,
+    } = reply;
+    *drawn = picture;
+    write_text(sink, &text, status)
+}
+
+/// The status of the program on the words that it was given, or on words that can't be had: a word that isn't UTF-8 is no form.
+pub fn status_of_words<S: Source, K: Sink>(
+    alloc: Global,
+    words: Result<Vec<String>, WordsFault>,
+    source: &mut S,
+    sink: &mut K,
+    drawn: &mut Option<Picture>,
+) -> Status
+    requires { drawn.old ≡ None }
+    ensures words { IfOk words (λ w. HasCause result (form_of (map string_bytes w.items)) (S.input source.old) (S.input source.new)
+        (K.output sink.old) (K.output sink.new) drawn.new) }
+    ensures not_text { IsErrOf words WordsFault.NotText → HasCause result None (S.input source.old) (S.input source.new)
+        (K.output sink.old) (K.output sink.new) drawn.new }
+    ensures no_memory { IsErrOf words WordsFault.NoMemory → (result ≡ Status.NoMemory) × (source.new ≡ source.old) × (sink.new ≡ sink.old) }
+{
+    match words {
+        Ok(words) => chart(alloc, words.as_slice(), source, sink, drawn),
+        Err(WordsFault::NotText) => write_text(sink, USAGE, Status::Usage),
+        Err(WordsFault::NoMemory) => Status::NoMemory,
+    }
+}

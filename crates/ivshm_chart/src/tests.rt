@@ -1,0 +1,66 @@
+//! The top call over ends in memory.
+use crate::program::chart;
+use crate::status::Status;
+use ivs_base::{MemorySink, MemorySource};
+use std::alloc::Global;
+use std::test::Fail;
+
+/// A record of two lines.
+const RECORD: &[u8] =
+    b"record 1\nivshm 1\npeers 2\ntable 4096\ncommon 0\nout 16384\nmtu 256\nirq msix 2\npeer 0 honest\npeer 1 honest\nbegin\nend\nidle 0\nidle 1\nend 2\n";
+
+/// The status of a call on these words and this input, and what it wrote.
+fn answer(
+    alloc: Global,
+    words: &[&str],
+    input: &[u8],
+    fails: &[u64],
+) -> Result<(Status, Vec<u8>), Fail> {
+    let mut owned = Vec::new(alloc);
+    for word in words {
+        owned.push(String::from_str(alloc, word)?)?;
+    }
+    let mut source = MemorySource::new(alloc, input, 7, fails)?;
+    let mut sink = MemorySink::new(alloc, 20_000, 100, &[])?;
+    let mut drawn = None;
+    let status = chart(alloc, owned.as_slice(), &mut source, &mut sink, &mut drawn);
+    Ok((status, sink.bytes().to_vec(alloc)?))
+}
+
+#[test]
+fn statuses(rt: HostRuntime) -> Result<(), Fail> {
+    let usage = b"usage: ivshm_chart | ivshm_chart FROM TO\n".as_slice();
+    let cases: [(&[&str], &[u8], Status, &[u8]); 9] = [
+        (&["1"], RECORD, Status::Usage, usage),
+        (&["0", "2"], RECORD, Status::Usage, usage),
+        (&["2", "1"], RECORD, Status::Usage, usage),
+        (&["1", "02"], RECORD, Status::Usage, usage),
+        (&["1", "2", "3"], RECORD, Status::Usage, usage),
+        (&[], b"", Status::Refused, b"refused 0 NoEnd\n"),
+        (&[], b"record 3\n", Status::Refused, b"refused 1 BadLine\n"),
+        (
+            &["1", "1"],
+            b"record 1\nivshm 2\n",
+            Status::Refused,
+            b"refused 2 BadNumber\n",
+        ),
+        (
+            &[],
+            b"record 1\nivshm 1\npeers 2\ntable 4096\ncommon 0\nout 16384\nmtu 256\nirq msix 2\npeer 0 honest\npeer 1 honest\nbegin\nend\nidle 0\nend 2\n",
+            Status::Refused,
+            b"refused 0 BadCount 2 1\n",
+        ),
+    ];
+    for (words, input, status, text) in cases {
+        let (found, written) = answer(rt.alloc(), words, input, &[])?;
+        assert!(rt; found == status, "{found:?}");
+        assert!(rt; written.as_slice() == text, "{found:?}");
+    }
+    let (found, written) = answer(rt.alloc(), &["1", "2"], RECORD, &[])?;
+    assert!(rt; found == Status::Done, "{found:?}");
+    assert!(rt; written.ends_with(b"</svg>\n"), "a whole file");
+    let (found, written) = answer(rt.alloc(), &[], RECORD, &[2])?;
+    assert!(rt; found == Status::ReadFault, "{found:?}");
+    assert!(rt; written.is_empty(), "nothing was written");
+    Ok(())
+}

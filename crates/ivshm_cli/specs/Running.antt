@@ -1,0 +1,37 @@
+-- What `run` promises: the running record of peers in threads of their own, by the accesses that the pass of their words holds.
+use Rattle.std.specs.Prelude.{ℕ, ◌≡◌, List, Option, Some, None}
+use Rattle.ivs_base.specs.Ends.{Input, Output, Gave, HasEnded, Took}
+use Rattle.scenario_text.specs.Scenario.{World}
+use Rattle.scenario_text.specs.Spelling.{IsSpelling}
+use Rattle.scenario_text.specs.Running.{not_running}
+use Rattle.record_text.specs.Parts.{Part}
+use Rattle.record_text.specs.RunSpelling.{IsRunSpelling}
+use Rattle.peer_runner.specs.Passes.{IsWhole}
+use Rattle.peer_runner.specs.RunningRecord.{IsRunOf}
+use Rattle.ivshm_cli.specs.declared.runs.Ran.{Ran}
+
+-- the bytes spell a scenario in running form
+pub record SpellsRunning (bytes : List ℕ) : Type 0 where
+  pub world : World
+  pub spelled : IsSpelling world bytes
+  pub running : not_running world ≡ None
+
+-- The bytes spell a scenario in running form, the words were made for it, the pass is of these words and has all peers, and the text is the
+-- running record in which each peer's part is told by the list that the pass has of it
+pub record IsRunBy (ran : Ran) (bytes text : List ℕ) : Type 0 where
+  pub spells : SpellsRunning bytes
+  pub parts : List Part
+  pub whole : IsWhole spells.world ran.words.shared.table_id ran.words.shared.key ran.pass
+  pub run : IsRunOf spells.world ran.pass parts
+  pub printed : IsRunSpelling (record { world = spells.world; parts = parts }) text
+
+-- Where `run` is done: the source was read to its end, its peers ran, and their running record was written; here are their words and the pass
+pub record RunsPeers (before now : Input) (before' now' : Output) (ran : Option Ran) : Type 0 where
+  pub bytes : List ℕ
+  pub text : List ℕ
+  pub held : Ran
+  pub read : Gave before bytes now
+  pub ended : HasEnded now
+  pub is : ran ≡ Some held
+  pub run : IsRunBy held bytes text
+  pub wrote : Took before' text now'

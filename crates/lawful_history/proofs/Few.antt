@@ -1,0 +1,193 @@
+-- A scenario's sessions are few: each event writes State once at most.
+use Rattle.std.proofs.Common.{◌≡◌, ℕ, ◌+◌, ◌<◌, ◌≤◌, ◌^◌, Bool, true, false, List, [], ◌∷◌, ◌++◌, length, refl, ap, arith}
+use Rattle.std.specs.Prelude.{nat_lt, if◌then◌else◌, Option, Some, None, map, reverse}
+use Rattle.std.proofs.lemmas.List.{reverse-append, length-append, length-replicate}
+use Rattle.std.proofs.lemmas.List.Sums.{sum_by-cons}
+use Rattle.split_ring.specs.declared.steps.Access.{Access}
+use Rattle.split_ring.specs.declared.steps.Access.TheVariants as access
+use Rattle.scenario_text.specs.Scenario.{World, IsWorld}
+use Rattle.scenario_text.specs.Acts.{cost, turns_of}
+use Rattle.scenario_text.specs.declared.acts.Act.{Act}
+use Rattle.scenario_text.specs.declared.acts.Act.TheVariants as act
+use Rattle.doorbell_irq.specs.declared.effect.Delivery.{Delivery}
+use Rattle.doorbell_irq.specs.Events as device
+use Rattle.doorbell_irq.specs.DeviceRules.{effect_of}
+use Rattle.call_grammar.specs.Steps.{Mark, Saw, Reclaim, Full, Accept, Look, Deliver, Return, Done, Down, Refuse, Over, Step}
+use Rattle.lawful_history.specs.declared.line.Line.{Line}
+use Rattle.lawful_history.specs.declared.line.Line.TheVariants as line
+use Rattle.lawful_history.specs.Schedule.{Event, Asked, Automated, Stormed, Turned, Acted, WasReset, Reached, Loses, Repeated, DeviceAccess, ReadsConfig, WritesConfig, ReadsRegister, WritesRegister, ReadsMsix, WritesMsix, events_of, schedule}
+use Rattle.lawful_history.specs.Entries.{mark_line, access_lines, step_lines, turn_lines, denied_lines, acted_lines, lines_by, lines_of}
+use Rattle.lawful_history.specs.Device.{devices_of, device_events, arrival, arrived, arrivals_by, lost_count, told_by, brought_by, step_interrupts, reached_line, device_lines}
+use Rattle.lawful_history.specs.Sessions.{writes_state, opened_in}
+use Rattle.lawful_history.specs.History.{Moment, entry_of, step_of_event, happens, run, beginning}
+
+-- How often lines open a session
+
+one_more : (b : Bool) (n m k : ℕ) → n ≡ m + k → (if b then n + 1 else n) ≡ (if b then m + 1 else m) + k
+one_more true n m k is = omega arith
+one_more false n m k is = is
+
+opened_append : (p : ℕ) (a b : List Line) → opened_in (a ++ b) p ≡ opened_in a p + opened_in b p
+opened_append p [] b = omega arith
+opened_append p (x ∷ a) b = one_more (writes_state p 2 x) (opened_in (a ++ b) p) (opened_in a p) (opened_in b p) (opened_append p a b)
+
+opened_cons : (p : ℕ) (x : Line) (a : List Line) → opened_in (x ∷ a) p ≡ opened_in (x ∷ []) p + opened_in a p
+opened_cons p x a = opened_append p (x ∷ []) a
+
+opened_reverse : (p : ℕ) (a : List Line) → opened_in (reverse a) p ≡ opened_in a p
+opened_reverse p [] = refl
+opened_reverse p (x ∷ a) =
+    let back : opened_in (reverse (x ∷ a)) p ≡ opened_in (reverse a ++ x ∷ []) p = ap (λ ls. opened_in ls p) (reverse-append (x ∷ []) a) in
+    let parts = opened_append p (reverse a) (x ∷ []) in
+    let rest = opened_reverse p a in
+    let here = opened_cons p x a in omega arith
+
+-- Lines that open none
+
+abbrev OpensNone : ℕ → List Line → Type 0
+OpensNone p lines = opened_in lines p ≡ 0
+
+none_append : (p : ℕ) (a b : List Line) → OpensNone p a → OpensNone p b → OpensNone p (a ++ b)
+none_append p a b first rest = let whole = opened_append p a b in omega arith
+
+none_arrival : (p : ℕ) (b : Bool) (q vector : ℕ) (lines : List Line) → OpensNone p lines → OpensNone p ((if b then line.Lost q vector else line.Interrupt q vector) ∷ lines)
+none_arrival p true q vector lines rest = rest
+none_arrival p false q vector lines rest = rest
+
+none_arrived : (p : ℕ) (older : List Line) (losses : ℕ → ℕ) (deliveries : List Delivery) → OpensNone p (arrived older losses deliveries)
+none_arrived p older losses [] = refl
+none_arrived p older losses (delivery ∷ deliveries) =
+    none_arrival p (nat_lt (lost_count older delivery.peer) (losses delivery.peer)) delivery.peer delivery.vector (arrived (arrival older losses delivery ∷ older) losses deliveries)
+    (none_arrived p (arrival older losses delivery ∷ older) losses deliveries)
+
+none_arrivals : (p : ℕ) (world : World) (older : List Line) (losses : ℕ → ℕ) (line : Line) (told : Option device.Event) → OpensNone p (arrivals_by world older losses line told)
+none_arrivals p world older losses line None = refl
+none_arrivals p world older losses line (Some event) = none_arrived p (line ∷ older) losses (effect_of (devices_of world) (device_events older) event).deliveries.items
+
+none_brought : (p : ℕ) (world : World) (older : List Line) (losses : ℕ → ℕ) (lines : List Line) → OpensNone p (brought_by world older losses lines)
+none_brought p world older losses [] = refl
+none_brought p world older losses (line ∷ lines) = none_arrivals p world older losses line (told_by line)
+
+none_interrupts : (p : ℕ) (world : World) (older : List Line) (losses : ℕ → ℕ) (q : ℕ) (went : Option Step) → OpensNone p (step_interrupts world older losses q went)
+none_interrupts p world older losses q None = refl
+none_interrupts p world older losses q (Some step) = none_brought p world older losses (access_lines q step.access step.value)
+
+none_reached : (p : ℕ) (world : World) (older : List Line) (q : ℕ) (a : DeviceAccess) → OpensNone p (reached_line world older q a ∷ [])
+none_reached p world older q (ReadsConfig offset width) = refl
+none_reached p world older q (WritesConfig offset width value) = refl
+none_reached p world older q (ReadsRegister offset) = refl
+none_reached p world older q (WritesRegister offset value) = refl
+none_reached p world older q (ReadsMsix offset) = refl
+none_reached p world older q (WritesMsix offset value) = refl
+
+none_device : (p : ℕ) (world : World) (older : List Line) (losses : ℕ → ℕ) (event : Event) (went : Option Step) → OpensNone p (device_lines world older losses event went)
+none_device p world older losses (Asked q call) went = refl
+none_device p world older losses (Automated q expected) went = refl
+none_device p world older losses (Stormed q seed) went = refl
+none_device p world older losses (Turned q) went = none_interrupts p world older losses q went
+none_device p world older losses (Acted q a) went = none_interrupts p world older losses q went
+none_device p world older losses (WasReset q) went = none_arrivals p world older losses (line.Reset q) (told_by (line.Reset q))
+none_device p world older losses (Reached q a) went = none_reached p world older q a
+none_device p world older losses (Loses q) went = refl
+none_device p world older losses (Repeated q vector) went = refl
+
+none_mark : (p q : ℕ) (mark : Mark) (lines : List Line) → OpensNone p lines → OpensNone p (mark_line q mark ∷ lines)
+none_mark p q (Saw value) lines rest = rest
+none_mark p q (Reclaim count) lines rest = rest
+none_mark p q Full lines rest = rest
+none_mark p q (Accept frame) lines rest = rest
+none_mark p q (Look count) lines rest = rest
+none_mark p q (Deliver frame) lines rest = rest
+none_mark p q Return lines rest = rest
+none_mark p q Done lines rest = rest
+none_mark p q Down lines rest = rest
+none_mark p q (Refuse refused) lines rest = rest
+none_mark p q Over lines rest = rest
+
+none_marks : (p q : ℕ) (marks : List Mark) → OpensNone p (map (mark_line q) marks)
+none_marks p q [] = refl
+none_marks p q (mark ∷ marks) = none_mark p q mark (map (mark_line q) marks) (none_marks p q marks)
+
+-- The lines of an event open one at most
+
+at_most_one : (b : Bool) → (if b then 0 + 1 else 0) ≤ 1
+at_most_one true = omega arith
+at_most_one false = omega arith
+
+one_access : (p q : ℕ) (a : Access) (value : ℕ) → opened_in (access_lines q a value) p ≤ 1
+one_access p q (access.Read word) value = omega arith
+one_access p q (access.Write word written) value = omega arith
+one_access p q (access.State state) value = at_most_one (writes_state p 2 (line.State q state))
+one_access p q (access.Ring target vector) value = omega arith
+one_access p q access.Nothing value = omega arith
+
+one_step : (p q : ℕ) (step : Step) (dev : List Line) → OpensNone p dev → opened_in (step_lines q step dev) p ≤ 1
+one_step p q step dev none =
+    let whole = opened_append p (access_lines q step.access step.value) (dev ++ map (mark_line q) step.marks) in
+    let rest = none_append p dev (map (mark_line q) step.marks) none (none_marks p q step.marks) in
+    let here = one_access p q step.access step.value in omega arith
+
+one_turn : (p q : ℕ) (went : Option Step) (dev : List Line) → OpensNone p dev → opened_in (turn_lines q went dev) p ≤ 1
+one_turn p q None dev none = omega arith
+one_turn p q (Some step) dev none = one_step p q step dev none
+
+none_denied : (p q : ℕ) (a : Access) → OpensNone p (denied_lines q a)
+none_denied p q (access.Read word) = refl
+none_denied p q (access.Write word written) = refl
+none_denied p q (access.State state) = refl
+none_denied p q (access.Ring target vector) = refl
+none_denied p q access.Nothing = refl
+
+one_acted : (p q : ℕ) (a : Access) (went : Option Step) (dev : List Line) → OpensNone p dev → opened_in (acted_lines q a went dev) p ≤ 1
+one_acted p q a None dev none = let whole = none_append p (denied_lines q a) dev (none_denied p q a) none in omega arith
+one_acted p q a (Some step) dev none = one_step p q step dev none
+
+one_by : (p : ℕ) (event : Event) (went : Option Step) (dev : List Line) → OpensNone p dev → opened_in (lines_by event went dev) p ≤ 1
+one_by p (Asked q call) went dev none = omega arith
+one_by p (Automated q expected) went dev none = omega arith
+one_by p (Stormed q seed) went dev none = omega arith
+one_by p (Turned q) went dev none = one_turn p q went dev none
+one_by p (Acted q a) went dev none = one_acted p q a went dev none
+one_by p (WasReset q) went dev none = omega arith
+one_by p (Reached q a) went dev none = omega arith
+one_by p (Loses q) went dev none = omega arith
+one_by p (Repeated q vector) went dev none = omega arith
+
+one_event : (p : ℕ) (world : World) (moment : Moment) (event : Event) → opened_in (happens world moment event).past p ≤ opened_in moment.past p + 1
+one_event p world moment event =
+    let lines = lines_of (entry_of world moment event) in
+    let whole = opened_append p (reverse lines) moment.past in
+    let back = opened_reverse p lines in
+    let one = one_by p event (step_of_event world moment event) (entry_of world moment event).device
+    (none_device p world moment.past moment.losses event (step_of_event world moment event)) in omega arith
+
+-- so many events open no more sessions
+pub opened_run : (p : ℕ) (world : World) (events : List Event) (moment : Moment) → opened_in (run world events moment).past p ≤ opened_in moment.past p + length events
+opened_run p world [] moment = omega arith
+opened_run p world (event ∷ events) moment =
+    let first = one_event p world moment event in
+    let rest = opened_run p world events (happens world moment event) in omega arith
+
+-- The events of a scenario
+
+cost_is : (a : Act) → length (events_of a) ≡ cost a
+cost_is (act.Turn peer steps) = length-replicate steps (Turned peer)
+cost_is (act.MmioWrite peer offset value) = refl
+cost_is _ = refl
+
+count_is : (acts : List Act) → length (schedule acts) ≡ turns_of acts
+count_is [] = refl
+count_is (a ∷ acts) =
+    let whole : length (schedule (a ∷ acts)) ≡ length (events_of a) + length (schedule acts) = length-append (events_of a) (schedule acts) in
+    let sums : turns_of (a ∷ acts) ≡ cost a + turns_of acts = sum_by-cons cost a acts in
+    let here = cost_is a in
+    let rest = count_is acts in omega arith
+
+-- after each beginning of a scenario's schedule the number of a peer's sessions has 32 bits
+pub sessions_few : (world : World) (events more : List Event) → IsWorld world → schedule world.acts ≡ events ++ more → (p : ℕ) → opened_in (run world events (beginning world)).past p < 2 ^ 32
+sessions_few world events more is all p =
+    let opened = opened_run p world events (beginning world) in
+    let whole : length (schedule world.acts) ≡ length (events ++ more) = ap length all in
+    let parts = length-append events more in
+    let count = count_is world.acts in
+    let few = is.turns in omega arith

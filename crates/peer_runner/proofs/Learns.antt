@@ -1,0 +1,183 @@
+-- The rule at the start, and what a seat may learn of it.
+use Rattle.std.proofs.Common.{◌≡◌, ◌≢◌, ℕ, zero, suc, ◌+◌, ◌*◌, ◌-◌, true, false, ◌<◌, ◌≤◌, List, [], ◌∷◌, ◌++◌, length, length-append, append_assoc, append-nil, get_or, replicate, refl, sym, ap, ◌∙◌, subst, arith}
+use mathlib.Core.Logic.{dite}
+use native.Mathlib.Decide.{ℕ_discrete, dec_lt}
+use Rattle.std.specs.Int.{bit_at}
+use Rattle.std.proofs.lemmas.Nat.Bits.{bit_at-zero, bit_at-lt, bit_at_lowest}
+use mathlib.Core.Option.{some, some-injective, some-ne-none}
+use lib.ListN.{get_elem?}
+use Rattle.std.proofs.lemmas.List.{length-replicate, get_or_append_left, get_or-append-add}
+use Rattle.atomic_table.specs.Table.{Me, Allows, opening}
+use Rattle.atomic_table.specs.Table.Act.{keeps}
+use Rattle.atomic_table.proofs.Lists.{set_again}
+use Rattle.section_map.specs.Geometry.{word_count}
+use Rattle.call_grammar.specs.Places.{Refusing}
+use Rattle.ends_pair.specs.Runs.{RunsKeepWhole}
+use Rattle.ends_pair.specs.Whole.{HonestEndsAgree}
+use Rattle.pair_sessions.specs.Once.{CalmRunsDeliver}
+use Rattle.peer_runner.specs.declared.key.Key.{Key}
+use Rattle.peer_runner.specs.declared.view.View.{View}
+use Rattle.peer_runner.specs.Keys.{honest_of, IsFit}
+use Rattle.peer_runner.specs.Standings.{Taken, Stance, standing}
+use Rattle.peer_runner.specs.Made as made
+use Rattle.peer_runner.specs.Actions.{Action, accesses_in}
+use Rattle.peer_runner.specs.Interrupts.{weigh, tally, rings, finds, wins, StandsBehind, interrupt_word, control_word, all_words, interrupts_at_start, words_at_start, Interrupts, AreRung}
+use Rattle.atomic_table.specs.Seated.{TableId}
+use Rattle.peer_runner.specs.Passes.{IsOf, held}
+use Rattle.peer_runner.specs.Rules.{region, accesses_by, Memory, Fits, Kept, view, newcomer, list_of, AreTold, Told}
+use Rattle.peer_runner.proofs.Actions.{accesses_none}
+use Rattle.peer_runner.proofs.Regions.{region_at, region_past}
+use Rattle.peer_runner.proofs.Weights.{weigh_none, tally_zero, tally_same, behind_none}
+use Rattle.peer_runner.proofs.Ringing.{are_rung}
+use Rattle.peer_runner.proofs.Seats.{put_back}
+use Rattle.peer_runner.proofs.Reaching.{are_told}
+use Rattle.peer_runner.proofs.Keys.{is_ground}
+use Rattle.peer_runner.proofs.Making.{reached_by}
+
+at_only : {A : Type 0} (a x : A) (i : ℕ) → get_elem? (a ∷ []) i ≡ some x → (i ≡ 0) × (a ≡ x)
+at_only a x zero e = (refl, some-injective _ _ e)
+at_only a x (suc i) e = absurd (some-ne-none x (sym e))
+
+at_all : {A : Type 0} (n : ℕ) (a x : A) (i : ℕ) → get_elem? (replicate n a) i ≡ some x → a ≡ x
+at_all zero a x i e = absurd (some-ne-none x (sym e))
+at_all (suc n) a x zero e = some-injective _ _ e
+at_all (suc n) a x (suc i) e = at_all n a x i e
+
+zeros : (n w : ℕ) → get_or {A = ℕ} (replicate n 0) w 0 ≡ 0
+zeros zero w = refl
+zeros (suc n) zero = refl
+zeros (suc n) (suc w) = zeros n w
+
+low_bit : (n : ℕ) → n < 2 → bit_at n 0 ≡ n
+low_bit n lt = bit_at_lowest n ∙ omega arith
+
+-- the words behind the region at the start
+length_pairs : (enabled n : ℕ) → length (interrupts_at_start enabled n) ≡ 2 * n
+unfolding interrupts_at_start
+length_pairs enabled zero = refl
+length_pairs enabled (suc n) = length-append (interrupts_at_start enabled n) (0 ∷ bit_at enabled n ∷ []) ∙ (let h : length (interrupts_at_start enabled n) ≡ 2 * n = length_pairs enabled n in omega arith)
+
+pub behind_more : (enabled n : ℕ) (first words more : List ℕ) → words ≡ first ++ interrupts_at_start enabled n → more ≡ words ++ 0 ∷ bit_at enabled n ∷ [] → more ≡ first ++ interrupts_at_start enabled (n + 1)
+unfolding interrupts_at_start
+behind_more enabled n first words more was is = let next : n + 1 ≡ suc n = omega arith in is ∙ (ap (λ l. l ++ 0 ∷ bit_at enabled n ∷ []) was ∙ (append_assoc first (interrupts_at_start enabled n) (0 ∷ bit_at enabled n ∷ []) ∙ sym (ap (λ k. first ++ interrupts_at_start enabled k) next)))
+
+pub behind_start : (enabled : ℕ) (first : List ℕ) → first ≡ first ++ interrupts_at_start enabled 0
+unfolding interrupts_at_start
+behind_start enabled first = sym (append-nil first)
+
+pair_at : (enabled n k : ℕ) → k < n → (get_or (interrupts_at_start enabled n) (2 * k) 0 ≡ 0) × (get_or (interrupts_at_start enabled n) (2 * k + 1) 0 ≡ bit_at enabled k)
+unfolding interrupts_at_start
+pair_at enabled zero k lt = absurd (omega arith)
+pair_at enabled (suc n) k lt = let size : length (interrupts_at_start enabled n) ≡ 2 * n = length_pairs enabled n in dite (ℕ_discrete k n)
+    (λ e. let at : 2 * k ≡ length (interrupts_at_start enabled n) + 0 = omega arith in let next : 2 * k + 1 ≡ length (interrupts_at_start enabled n) + 1 = omega arith in (
+      ap (λ i. get_or (interrupts_at_start enabled n ++ 0 ∷ bit_at enabled n ∷ []) i 0) at ∙ get_or-append-add (interrupts_at_start enabled n) (0 ∷ bit_at enabled n ∷ []) 0 0,
+      ap (λ i. get_or (interrupts_at_start enabled n ++ 0 ∷ bit_at enabled n ∷ []) i 0) next ∙ (get_or-append-add (interrupts_at_start enabled n) (0 ∷ bit_at enabled n ∷ []) 1 0 ∙ ap (bit_at enabled) (sym e)),
+    ))
+    (λ ne. let before = pair_at enabled n k (omega arith) in (
+      get_or_append_left (interrupts_at_start enabled n) (0 ∷ bit_at enabled n ∷ []) 0 (2 * k) (omega arith) ∙ before.0,
+      get_or_append_left (interrupts_at_start enabled n) (0 ∷ bit_at enabled n ∷ []) 0 (2 * k + 1) (omega arith) ∙ before.1,
+    ))
+
+start_size : (key : Key) → length (words_at_start key) ≡ word_count key.geometry + 2 * key.geometry.peers
+start_size key = length-append (replicate (word_count key.geometry) 0) (interrupts_at_start key.enabled key.geometry.peers) ∙ (let a : length (replicate {A = ℕ} (word_count key.geometry) 0) ≡ word_count key.geometry = length-replicate (word_count key.geometry) 0 in let b : length (interrupts_at_start key.enabled key.geometry.peers) ≡ 2 * key.geometry.peers = length_pairs key.enabled key.geometry.peers in omega arith)
+
+start_region : (key : Key) (w : ℕ) → w < word_count key.geometry → get_or (words_at_start key) w 0 ≡ 0
+start_region key w lt = get_or_append_left (replicate (word_count key.geometry) 0) (interrupts_at_start key.enabled key.geometry.peers) 0 w (let h : length (replicate {A = ℕ} (word_count key.geometry) 0) ≡ word_count key.geometry = length-replicate (word_count key.geometry) 0 in omega arith) ∙ zeros (word_count key.geometry) w
+
+behind_at : (key : Key) (i : ℕ) → get_or (words_at_start key) (word_count key.geometry + i) 0 ≡ get_or (interrupts_at_start key.enabled key.geometry.peers) i 0
+behind_at key i = let at : word_count key.geometry + i ≡ length (replicate (word_count key.geometry) 0) + i = (let h : length (replicate {A = ℕ} (word_count key.geometry) 0) ≡ word_count key.geometry = length-replicate (word_count key.geometry) 0 in omega arith) in
+    ap (λ j. get_or (replicate (word_count key.geometry) 0 ++ interrupts_at_start key.enabled key.geometry.peers) j 0) at ∙ get_or-append-add (replicate (word_count key.geometry) 0) (interrupts_at_start key.enabled key.geometry.peers) i 0
+
+start_interrupt : (key : Key) (target : ℕ) → target < key.geometry.peers → get_or (words_at_start key) (interrupt_word key target) 0 ≡ 0
+start_interrupt key target lt = behind_at key (2 * target) ∙ (pair_at key.enabled key.geometry.peers target lt).0
+
+start_control : (key : Key) (target : ℕ) → target < key.geometry.peers → bit_at (get_or (words_at_start key) (control_word key target) 0) 0 ≡ bit_at key.enabled target
+start_control key target lt = let at : control_word key target ≡ word_count key.geometry + (2 * target + 1) = omega arith in let same : get_or (words_at_start key) (control_word key target) 0 ≡ bit_at key.enabled target = ap (λ j. get_or (words_at_start key) j 0) at ∙ (behind_at key (2 * target + 1) ∙ (pair_at key.enabled key.geometry.peers target lt).1) in
+    ap (λ n. bit_at n 0) same ∙ low_bit (bit_at key.enabled target) (bit_at-lt key.enabled target)
+
+start_interrupts : (key : Key) → Interrupts {A = Taken} key (λ w. get_or (words_at_start key) w 0) (λ _. [])
+start_interrupts key = record {
+  rung = λ target bit lt. let a : weigh {A = Taken} (finds bit) [] ≡ 0 = weigh_none {A = Taken} (finds bit) in let b : bit_at (get_or (words_at_start key) (interrupt_word key target) 0) bit ≡ 0 = ap (λ n. bit_at n bit) (start_interrupt key target lt) ∙ bit_at-zero bit in omega arith;
+  control = λ target lt. let b : bit_at (get_or (words_at_start key) (control_word key target) 0) 0 ≡ bit_at key.enabled target = start_control key target lt in
+      let z : tally key.geometry.peers (λ q. weigh {A = Taken} (wins target) []) ≡ 0 = tally_zero key.geometry.peers (λ q. weigh {A = Taken} (wins target) []) (λ q l. weigh_none {A = Taken} (wins target)) in omega arith;
+  leave = λ target p lt p_lt shot. behind_none Taken target;
+}
+
+start_zeros : (key : Key) (w : ℕ) → region key (words_at_start key) w ≡ 0
+start_zeros key w = dite (dec_lt w (word_count key.geometry)) (λ lt. region_at key (words_at_start key) w lt ∙ start_region key w lt) (λ ge. region_past key (words_at_start key) w (omega arith))
+
+pub starts : (key : Key) → IsFit key → Kept key (opening (words_at_start key) [] (newcomer key))
+starts key fit = record {
+  seat = λ _. 0;
+  acc = λ _. [];
+  fits = λ id v e. let t = at_only (newcomer key) v id e in subst (Fits key.geometry.peers (λ _. 0) (λ _. []) id) t.1 record {
+    inside = let nil : List (Action Taken) = [] in omega (arith, length-replicate key.geometry.peers nil);
+    mine = λ k lt. sym t.0;
+    known = λ k l at. at_all key.geometry.peers [] l k at;
+  };
+  fit = fit;
+  memory = record {
+    sized = start_size key;
+    small = λ w lt. subst (λ n. n < 4294967296) (sym (start_region key w lt)) (omega arith);
+    made = made.starts _ _ (start_zeros key) (λ p. accesses_none);
+    interrupts = start_interrupts key;
+  };
+}
+
+-- the pass of the words that were opened
+pub opened_of : (key made : Key) (t u : TableId) (me : Me ℕ View) (items : List ℕ) → IsFit key → items ≡ words_at_start key → t.words ≡ length items → u ≡ t → me ≡ (newcomer key, []) → made ≡ key →
+    IsOf t made (held u me.0.from me.0.lists) × (me.0.from ≡ 0) × (length me.0.lists ≡ made.geometry.peers)
+opened_of key made t u me items fit same words seat me_is made_is = let nil : List (Action Taken) = [] in let size : length (replicate key.geometry.peers nil) ≡ key.geometry.peers = length-replicate key.geometry.peers nil in
+    subst (λ (k : Key). IsOf t k (held u me.0.from me.0.lists) × (me.0.from ≡ 0) × (length me.0.lists ≡ k.geometry.peers)) (sym made_is)
+    (subst (λ (m : Me ℕ View). IsOf t key (held u m.0.from m.0.lists) × (m.0.from ≡ 0) × (length m.0.lists ≡ key.geometry.peers)) (sym me_is)
+    ((seat, words ∙ (ap length same ∙ start_size key), omega arith, fit), refl, size))
+
+-- each list of a pass with all peers is the one that the rule knows
+tells_all : (n : ℕ) (seat : ℕ → ℕ) (acc : ℕ → List (Action Taken)) (id : ℕ) (lists : List (List (Action Taken))) → Fits n seat acc id (view 0 lists) → (p : ℕ) → p < length lists → list_of lists p ≡ acc p
+tells_all n seat acc id lists f p lt = let h : p ≡ 0 + p = omega arith in sym (ap acc h ∙ f.known p (list_of lists p) (at lists p lt))
+  where
+    at : (l : List (List (Action Taken))) (k : ℕ) → k < length l → get_elem? l k ≡ some (list_of l k)
+    at [] k lt = absurd (omega arith)
+    at (x ∷ xs) zero lt = refl
+    at (x ∷ xs) (suc k) lt = at xs k (omega arith)
+
+-- lists that are the same for both peers
+same_two : (key : Key) (acc next : ℕ → List Taken) → ((p : ℕ) → p < 2 → next p ≡ acc p) → AreTold key acc → AreTold key next
+same_two key acc next same t = record {
+  deliver = λ p p2. let q2 : 1 - p < 2 = omega arith in
+      subst (λ l. (rest : List (List ℕ)) × ((standing key (1 - p) l).accepted ≡ (standing key p (next p)).delivered ++ rest)) (sym (same (1 - p) q2))
+      (subst (λ l. (rest : List (List ℕ)) × ((standing key (1 - p) (acc (1 - p))).accepted ≡ (standing key p l).delivered ++ rest)) (sym (same p p2)) (t.deliver p p2));
+  never_refuse = λ p p2. subst (λ l. ((standing key p l).place ≢ Refusing) × ((standing key p l).end.handshake.mark ≡ false)) (sym (same p p2)) (t.never_refuse p p2);
+}
+
+-- lists that are the same for all peers
+same_rung : (key : Key) (acc next : ℕ → List (Action Taken)) → ((p : ℕ) → p < key.geometry.peers → next p ≡ acc p) → AreRung key acc → AreRung key next
+same_rung key acc next same r = record {
+  rung = λ target bit lt. let a : weigh (finds bit) (next target) ≡ weigh (finds bit) (acc target) = ap (weigh (finds bit)) (same target lt) in
+      let b : tally key.geometry.peers (λ p. weigh (rings target bit) (next p)) ≡ tally key.geometry.peers (λ p. weigh (rings target bit) (acc p)) = tally_same key.geometry.peers _ _ (λ p l. ap (weigh (rings target bit)) (same p l)) in
+      let c : weigh (finds bit) (acc target) ≤ tally key.geometry.peers (λ p. weigh (rings target bit) (acc p)) = r.rung target bit lt in omega arith;
+  once = λ target lt shot. subst (λ k. k ≤ 1) (sym (ap (λ l. tally 64 (λ bit. weigh (finds bit) l)) (same target lt))) (r.once target lt shot);
+  behind = λ target p lt l shot. subst (StandsBehind target) (sym (same p l)) (r.behind target p lt l shot);
+}
+
+told_at : RunsKeepWhole → CalmRunsDeliver → HonestEndsAgree → (key : Key) (seat : ℕ → ℕ) (acc : ℕ → List (Action Taken)) (words : List ℕ) (id from : ℕ) (lists : List (List (Action Taken))) → IsFit key → Fits key.geometry.peers seat acc id (view from lists) → Memory key words acc → Told key from lists
+told_at whole calm agree key seat acc words id from lists fit f m start all = let two = fit.shape.two_peers in
+    let same : (p : ℕ) → p < key.geometry.peers → list_of lists p ≡ acc p = λ p lt. tells_all key.geometry.peers seat acc id lists (subst (λ k. Fits key.geometry.peers seat acc id (view k lists)) start f) p (omega arith) in record {
+      pair = λ a b. same_two key (accesses_by acc) (accesses_by (list_of lists)) (λ p p2. ap accesses_in (same p (omega arith))) (are_told whole calm agree key (region key words) (accesses_by acc) (is_ground key fit) a b (reached_by key fit _ _ m.made));
+      rung = same_rung key acc (list_of lists) same (are_rung key (λ w. get_or words w 0) acc m.interrupts);
+    }
+
+pub learn_allowed : RunsKeepWhole → CalmRunsDeliver → HonestEndsAgree → (key : Key) (slots id : ℕ) (me : Me ℕ View) (then : Me ℕ View → ℕ → Me ℕ View → Type 0) → ((n : ℕ) (t : Me ℕ View) → (t ≡ me) × Told key me.0.from me.0.lists → then me n t) → Allows (Kept key) slots id me 0 (λ n. n) (then me)
+learn_allowed whole calm agree key slots id me then tells s k homes at fits = let was = k.fits id _ at in (
+  me.0,
+  keeps,
+  tt,
+  record {
+    seat = k.seat;
+    acc = k.acc;
+    fits = subst (λ vs. (j : ℕ) (v : View) → get_elem? vs j ≡ some v → Fits key.geometry.peers k.seat k.acc j v) (sym (set_again s.views id me.0 at)) k.fits;
+    fit = k.fit;
+    memory = subst (λ ws. Memory key ws k.acc) (sym (put_back s.words 0 _ refl)) k.memory;
+  },
+  tells _ _ (refl, told_at whole calm agree key k.seat k.acc s.words id me.0.from me.0.lists k.fit was k.memory),
+)

@@ -1,0 +1,149 @@
+-- What the open offer of an honest peer has stored.
+use Rattle.std.proofs.Common.{◌≡◌, ℕ, zero, suc, ◌+◌, ◌*◌, ◌/◌, ◌%◌, ◌<◌, ◌≤◌, ◌⊎◌, inl, inr, ⊎_elim, true, List, [], ◌∷◌, ◌++◌, length, refl, sym, ap, ◌∙◌, subst, arith}
+use Rattle.std.specs.Prelude.{Option, Some, None, Contains}
+use Rattle.std.proofs.lemmas.List.Elements.{Contains-append_cases}
+use Rattle.split_ring.specs.declared.steps.Access.{Access}
+use Rattle.split_ring.specs.Layout.{limit_of}
+use Rattle.call_grammar.specs.Ends.{End}
+use Rattle.call_grammar.specs.Calls.{Who, Call}
+use Rattle.call_grammar.specs.Offers.{Job}
+use Rattle.call_grammar.specs.Places.{Place, AtUsedIndex, AtUsedId, Filling, WritingLow, WritingHigh, WritingLength, WritingFlags, WritingEntry, WritingIndex, fill_place, access_at, next_place}
+use Rattle.ends_pair.specs.Ground.{Ground, who_of}
+use Rattle.ends_pair.specs.Alone.{Alone}
+use Rattle.ends_pair.specs.Pair.{freed_at}
+use Rattle.ends_pair.proofs.Fields.{numbers, ring_apart}
+use Rattle.peer_runner.specs.declared.key.Key.{Key}
+use Rattle.peer_runner.specs.Keys.{ground_of, honest_of, IsFit}
+use Rattle.peer_runner.specs.Standings.{Taken, Stance, begun_if, settled_place, standing}
+use Rattle.peer_runner.specs.Made.{Made}
+use Rattle.peer_runner.specs.ListSays.{words_of, unless_begun, call_writes}
+use Rattle.peer_runner.specs.RunningLaws.{end_by, place_by, offered_at, IsOfFrame, OpenOfferStores}
+use Rattle.peer_runner.proofs.Standings.{standing_none}
+use Rattle.peer_runner.proofs.Keys.{same_section, is_ground, honest_below}
+use Rattle.peer_runner.proofs.Along.{alone_at, place_before, Turn, along}
+use Rattle.peer_runner.proofs.ListLaws.{fold_more}
+use Rattle.peer_runner.proofs.Flight.{none_some, goes_on}
+
+-- the frame offered is the next one
+number_is : (ground : Ground) (memory : ℕ → ℕ) (p : ℕ) (end : End) (place : Place) (job : Job) → Alone ground memory p end place → offered_at place ≡ Some job → job.number ≡ length end.accepted
+number_is ground memory p end (AtUsedIndex j freed) job a e = let same : j ≡ job = cc in ap (λ (x : Job). x.number) (sym same) ∙ a.holds.1.number
+number_is ground memory p end (AtUsedId j freed more) job a e = let same : j ≡ job = cc in ap (λ (x : Job). x.number) (sym same) ∙ a.holds.1.number
+number_is ground memory p end (Filling j at more) job a e = let same : j ≡ job = cc in ap (λ (x : Job). x.number) (sym same) ∙ a.holds.1.next.number
+number_is ground memory p end (WritingLow j) job a e = let same : j ≡ job = cc in ap (λ (x : Job). x.number) (sym same) ∙ a.holds.1.next.number
+number_is ground memory p end (WritingHigh j) job a e = let same : j ≡ job = cc in ap (λ (x : Job). x.number) (sym same) ∙ a.holds.1.next.number
+number_is ground memory p end (WritingLength j) job a e = let same : j ≡ job = cc in ap (λ (x : Job). x.number) (sym same) ∙ a.holds.1.next.number
+number_is ground memory p end (WritingFlags j) job a e = let same : j ≡ job = cc in ap (λ (x : Job). x.number) (sym same) ∙ a.holds.1.next.number
+number_is ground memory p end (WritingEntry j) job a e = let same : j ≡ job = cc in ap (λ (x : Job). x.number) (sym same) ∙ a.holds.1.next.number
+number_is ground memory p end (WritingIndex j) job a e = let same : j ≡ job = cc in ap (λ (x : Job). x.number) (sym same) ∙ a.holds.1
+number_is ground memory p end place job a e = absurd (none_some job e)
+
+-- it still reads the used ring, or has room for its frame
+abbrev IsReading : Place → Type 0
+IsReading (AtUsedIndex job freed) = Unit {0}
+IsReading (AtUsedId job freed more) = Unit {0}
+IsReading place = ⊥
+
+room_is : (ground : Ground) (memory : ℕ → ℕ) (p : ℕ) (end : End) (place : Place) (job : Job) → Alone ground memory p end place → offered_at place ≡ Some job → IsReading place ⊎ (length end.accepted < freed_at end.freed place + limit_of ground.sizes)
+room_is ground memory p end (AtUsedIndex j freed) job a e = inl tt
+room_is ground memory p end (AtUsedId j freed more) job a e = inl tt
+room_is ground memory p end (Filling j at more) job a e = let n = a.holds.1.next.number in let r = a.holds.1.room in inr (omega arith)
+room_is ground memory p end (WritingLow j) job a e = let n = a.holds.1.next.number in let r = a.holds.1.room in inr (omega arith)
+room_is ground memory p end (WritingHigh j) job a e = let n = a.holds.1.next.number in let r = a.holds.1.room in inr (omega arith)
+room_is ground memory p end (WritingLength j) job a e = let n = a.holds.1.next.number in let r = a.holds.1.room in inr (omega arith)
+room_is ground memory p end (WritingFlags j) job a e = let n = a.holds.1.next.number in let r = a.holds.1.room in inr (omega arith)
+room_is ground memory p end (WritingEntry j) job a e = let n = a.holds.1.next.number in let r = a.holds.1.room in inr (omega arith)
+room_is ground memory p end (WritingIndex j) job a e = let n = a.holds.1 in let r = a.holds.2 in inr (omega arith)
+room_is ground memory p end place job a e = absurd (none_some job e)
+
+fill_reads : (job : Job) (at count : ℕ) → IsReading (settled_place (fill_place job at count)) → ⊥
+unfolding settled_place
+fill_reads job at zero r = r
+fill_reads job at (suc more) r = r
+
+reading_offers : (place : Place) → IsReading place → (job : Job) × (offered_at place ≡ Some job)
+reading_offers (AtUsedIndex job freed) r = (job, refl)
+reading_offers (AtUsedId job freed more) r = (job, refl)
+reading_offers place r = absurd r
+
+-- it read before, if it still reads
+reading_on : (who : Who) (place : Place) (value : ℕ) → IsReading (settled_place (next_place who place value)) → IsReading place
+unfolding settled_place
+reading_on who (AtUsedIndex job freed) value r = tt
+reading_on who (AtUsedId job freed more) value r = tt
+reading_on who (Filling job at more) value r = fill_reads job (at + 1) more r
+reading_on who (WritingLow job) value r = r
+reading_on who (WritingHigh job) value r = r
+reading_on who (WritingLength job) value r = r
+reading_on who (WritingFlags job) value r = r
+reading_on who (WritingEntry job) value r = r
+reading_on who (WritingIndex job) value r = r
+reading_on who place value r = let o = reading_offers (settled_place (next_place who place value)) r in absurd (none_some o.0 (goes_on who place value o.0 o.1))
+
+reads_words : (who : Who) (place : Place) → IsReading place → words_of (access_at who place) ≡ []
+reads_words who (AtUsedIndex job freed) r = refl
+reads_words who (AtUsedId job freed more) r = refl
+reads_words who place r = absurd r
+
+none_in : (w : ℕ) → Contains [] w → ⊥
+none_in w (k, lt, e) = omega arith
+
+one_in : (word w : ℕ) → Contains (word ∷ []) w → w ≡ word
+one_in word w (zero, lt, e) = sym e
+one_in word w (suc k, lt, e) = absurd (omega arith)
+
+slot_fits : (bytes mtu at : ℕ) → 14 ≤ bytes → bytes ≤ mtu + 18 → at < (bytes + 3) / 4 → at < (18 + mtu + 63) / 64 * 64 / 4
+slot_fits bytes mtu at some most lt = omega arith
+
+module _ (key : Key) (fit : IsFit key) (p : ℕ) (hp : honest_of key p ≡ true) where
+  -- the store of an offer, whose frame isn't accepted by it
+  stored_at : (memory : ℕ → ℕ) (end : End) (place : Place) (value : ℕ) (job : Job) (w : ℕ) → Alone (ground_of key) memory p end place → offered_at (settled_place (next_place (who_of (ground_of key) p) place value)) ≡ Some job →
+      Contains (words_of (access_at (who_of (ground_of key) p) place)) w → IsOfFrame key p job.number w
+  unfolding settled_place
+  stored_at memory end (AtUsedIndex j freed) value job w a e c = absurd (none_in w c)
+  stored_at memory end (AtUsedId j freed more) value job w a e c = absurd (none_in w c)
+  stored_at memory end (Filling j at more) value job w a e c = let is = one_in _ w c in let start = same_section key p (honest_below key p hp) in let going = goes_on (who_of (ground_of key) p) (Filling j at more) value job e in let same : j ≡ job = cc in
+      let n = ap (λ (x : Job). x.number) same in let f = a.holds.1.next.frame in let sum = a.holds.2 in let fits = slot_fits (length j.frame) key.queue.mtu at f.least f.most (omega arith) in
+      subst (λ k. IsOfFrame key p k w) n (inl (omega arith, omega arith))
+  stored_at memory end (WritingLow j) value job w a e c = let is = one_in _ w c in let start = same_section key p (honest_below key p hp) in let same : j ≡ job = cc in let n = ap (λ (x : Job). x.number) same in subst (λ k. IsOfFrame key p k w) n (inr (inl (omega arith, omega arith)))
+  stored_at memory end (WritingHigh j) value job w a e c = let is = one_in _ w c in let start = same_section key p (honest_below key p hp) in let same : j ≡ job = cc in let n = ap (λ (x : Job). x.number) same in subst (λ k. IsOfFrame key p k w) n (inr (inl (omega arith, omega arith)))
+  stored_at memory end (WritingLength j) value job w a e c = let is = one_in _ w c in let start = same_section key p (honest_below key p hp) in let same : j ≡ job = cc in let n = ap (λ (x : Job). x.number) same in subst (λ k. IsOfFrame key p k w) n (inr (inl (omega arith, omega arith)))
+  stored_at memory end (WritingFlags j) value job w a e c = let is = one_in _ w c in let start = same_section key p (honest_below key p hp) in let same : j ≡ job = cc in let n = ap (λ (x : Job). x.number) same in subst (λ k. IsOfFrame key p k w) n (inr (inl (omega arith, omega arith)))
+  stored_at memory end (WritingEntry j) value job w a e c = let is = one_in _ w c in let start = same_section key p (honest_below key p hp) in let same : j ≡ job = cc in let n = ap (λ (x : Job). x.number) same in subst (λ k. IsOfFrame key p k w) n (inr (inr (omega arith)))
+  stored_at memory end (WritingIndex j) value job w a e c = absurd (none_some job e)
+  stored_at memory end place value job w a e c = absurd (none_some job (goes_on (who_of (ground_of key) p) place value job e))
+
+  abbrev Stored : List Taken → Type 0
+  Stored l = (job : Job) → offered_at (standing key p l).place ≡ Some job → ((w : ℕ) → Contains (call_writes l) w → IsOfFrame key p job.number w) × (IsReading (standing key p l).place → call_writes l ≡ [])
+
+  -- what it had stored as it came to the place of the access
+  abbrev Had : List ℕ → Place → Job → Type 0
+  Had writes place job = ((w : ℕ) → Contains writes w → IsOfFrame key p job.number w) × (IsReading place → writes ≡ [])
+
+  before : (s : Stance) (call : Option Call) (writes : List ℕ) (job : Job) → (offered_at s.place ≡ Some job → Had writes s.place job) → offered_at (begun_if (who_of (ground_of key) p) s call).place ≡ Some job →
+      Had (unless_begun writes call) (begun_if (who_of (ground_of key) p) s call).place job
+  before s None writes job was e = was e
+  before s (Some call) writes job was e = (λ w c. absurd (none_in w c), λ r. refl)
+
+  stored_more : (memory after : ℕ → ℕ) (acc next : ℕ → List Taken) (t : Taken) → Made key memory acc → Made key after next → next p ≡ acc p ++ t ∷ [] → Turn key p memory after (acc p) t → Stored (acc p) → Stored (acc p ++ t ∷ [])
+  stored_more memory after acc next t k m here turn was job e = let who = who_of (ground_of key) p in let place = place_before key p (acc p) t in let s = standing key p (acc p ++ t ∷ []) in
+      let e' : offered_at (settled_place (next_place who place t.value)) ≡ Some job = ap offered_at (sym turn.next_place) ∙ e in
+      let had = before (standing key p (acc p)) t.begins (call_writes (acc p)) job (was job) (goes_on who place t.value job e') in
+      let writes : call_writes (acc p ++ t ∷ []) ≡ unless_begun (call_writes (acc p)) t.begins ++ words_of (access_at who place) =
+      fold_more (λ l (x : Taken). unless_begun l x.begins ++ words_of x.access) [] (acc p) t ∙ ap (λ (a : Access). unless_begun (call_writes (acc p)) t.begins ++ words_of a) turn.is in (
+        λ w c. ⊎_elim (λ h. had.0 w h) (λ h. stored_at memory (end_by key acc p) place t.value job w turn.alone e' h)
+            (Contains-append_cases (unless_begun (call_writes (acc p)) t.begins) (words_of (access_at who place)) w (subst (λ l. Contains l w) writes c)),
+        λ r. let reads = reading_on who place t.value (subst IsReading turn.next_place r) in writes ∙ (ap (λ l. l ++ words_of (access_at who place)) (had.1 reads) ∙ reads_words who place reads),
+      )
+
+  stored_is : (memory : ℕ → ℕ) (acc : ℕ → List Taken) → Made key memory acc → Stored (acc p)
+  stored_is = along key fit p hp Stored (λ job e. absurd (none_some job (ap (λ (s : Stance). offered_at s.place) (sym (standing_none key p)) ∙ e))) stored_more
+
+  pub offers_lem : (memory : ℕ → ℕ) (acc : ℕ → List Taken) → Made key memory acc → OpenOfferStores key memory acc p
+  offers_lem memory acc m job e = let ground = ground_of key in let end = end_by key acc p in let place = place_by key acc p in let a = alone_at key fit memory acc m p hp in let st = stored_is memory acc m job e in
+      let number = number_is ground memory p end place job a e in record {
+        number = number;
+        stores = st.0;
+        free = λ k some low high same. ⊎_elim (λ r. some (st.1 r))
+            (λ room. let b = numbers ground (is_ground key fit) in ring_apart (limit_of key.queue) k (length end.accepted) b.limit_least high (omega arith) (ap (λ n. n % limit_of key.queue) (sym number) ∙ sym same))
+            (room_is ground memory p end place job a e);
+      }

@@ -1,0 +1,608 @@
+-- A turn of an automatic peer.
+use Rattle.std.proofs.Common.{◌≡◌, ℕ, zero, suc, ◌+◌, ◌*◌, ◌-◌, ◌<◌, ◌≤◌, inl, inr, All, Bool, true, false, List, [], ◌∷◌, ◌++◌, length, refl, sym, ap, ◌∙◌, subst, arith, append-nil, append_assoc}
+use Rattle.std.specs.Prelude.{Option, Some, None, drop, map, if◌then◌else◌}
+use Rattle.std.proofs.lemmas.Grind.{flat_map-append}
+use Rattle.std.proofs.lemmas.List.Elements.{recursion_from_All, All-from_recursion}
+use Rattle.split_ring.specs.declared.steps.Access.{Access}
+use Rattle.split_ring.specs.declared.steps.Access.TheVariants as access
+use Rattle.split_ring.specs.declared.steps.Note.{Note}
+use Rattle.section_map.specs.Geometry.{section_start, word_count}
+use Rattle.call_grammar.specs.Steps.{Mark, Accept, Step, value_given}
+use Rattle.call_grammar.specs.Ends.{End, end_after}
+use Rattle.call_grammar.specs.Calls.{Who, Call}
+use Rattle.call_grammar.specs.Calls as calls
+use Rattle.call_grammar.specs.Automatic.{choice_of}
+use Rattle.call_grammar.specs.Automatic as automatic
+use Rattle.call_grammar.specs.Reach.{InReach, IsGiven}
+use Rattle.call_grammar.specs.Places.{Place, Closed, Downed, RingingOffer, RingingPoll, AtUsedIndex, AtAvailIndex, first_place, access_at, next_place, step_at, marks_at, is_open}
+use Rattle.link_endpoint.specs.Engine.{Engine, offered, delivered}
+use Rattle.link_endpoint.specs.Stands.{StandsAt, Takes, marks_between}
+use Rattle.link_endpoint.specs.Plan.{Plan, IsChoice}
+use Rattle.link_endpoint.specs.declared.auto.Choice.{Choice}
+use Rattle.link_endpoint.specs.declared.auto.Choice.TheVariants.{Tick, Offer, Poll, Finished}
+use Rattle.lawful_history.specs.Entries.{access_lines, mark_line}
+use Rattle.lawful_history.specs.Peers.{Auto, counted, counted_all}
+use Rattle.ends_pair.specs.Ground.{Ground, IsOffered, IsGivenTo}
+use Rattle.step_lines.specs.Plans.{IsPlanOf}
+use Rattle.step_lines.specs.Places.{HasFrames}
+use Rattle.step_lines.proofs.Framing.{first_frames, next_frames}
+use Rattle.step_lines.proofs.Marks.{busy_next, marks_now}
+use Rattle.peer_runner.specs.declared.key.Key.{Key}
+use Rattle.peer_runner.specs.Held.{Held}
+use Rattle.peer_runner.specs.Keys.{who_in, ground_of, honest_of, IsFit}
+use Rattle.peer_runner.specs.Standings.{Taken, taken, Stance, begun_if, moved, settled_place, settled, after_access, accepted_once, delivered_once, accepted_by, delivered_by, standing, Begins, IsNext}
+use Rattle.peer_runner.specs.Actions.{Action, accessed, looked, accesses_in}
+use Rattle.peer_runner.specs.Passes.{added, held}
+use Rattle.doorbell_irq.specs.declared.route.Route.{Route}
+use Rattle.peer_runner.specs.declared.ways.Way.{Way}
+use Rattle.peer_runner.specs.declared.ways.Way.TheVariants.{Silent, Direct, Guarded}
+use Rattle.peer_runner.specs.declared.ways.Done.{Done}
+use Rattle.peer_runner.specs.declared.ways.Done.TheVariants.{Stepped, Cleared, Rung}
+use Rattle.peer_runner.specs.Ways.{way_to, is_guarded, way_in, rung_by}
+use Rattle.peer_runner.specs.Rules.{front}
+use Rattle.peer_runner.specs.Turns.{Turn, Looks, Makes, Clears, Rings, is_end, is_set, is_quiet, lines_of, cleared_by, marks_of, told_in}
+use Rattle.peer_runner.specs.Runners.{Runner, IsFrame, choice_at, chosen, round_on, call_chosen, finishes, has_finished, place_for, place_in, Matches, tells_end, call_of, call_told, IsBegun, IsBegunIf, touches, taken_of, MayMake, made, value_done, done_of, turn_of, done_lines, IsDone, holds_on, MayRingBy, looked_on, held_on, stepped_on, turned, told_on, marks_in, stance_of, Stands, IsThere, Turns}
+use Rattle.peer_runner.proofs.Standings.{standing_snoc, stand_honest}
+use Rattle.peer_runner.proofs.Actions.{accesses_none, accesses_both, accesses_snoc}
+use Rattle.peer_runner.proofs.Keys.{clash, section_ends}
+
+pub shut : (place : Place) → is_open place ≡ false → place ≡ Closed
+shut Closed is = refl
+shut place is = absurd (cc)
+
+-- the call that is told is the one that was chosen
+called : (answer : Choice) (frames : List (List ℕ)) (c : automatic.Choice) → IsChoice answer frames c → call_of answer frames ≡ call_chosen (Some c)
+called Tick frames c is = sym (ap (λ (x : automatic.Choice). call_chosen (Some x)) is)
+called Offer [] c is = absurd is
+called Offer (frame ∷ frames) c is = sym (ap (λ (x : automatic.Choice). call_chosen (Some x)) is)
+called Poll frames c is = sym (ap (λ (x : automatic.Choice). call_chosen (Some x)) is)
+called Finished frames c is = sym (ap (λ (x : automatic.Choice). call_chosen (Some x)) is)
+
+pub told_call : (answer : Option Choice) (frames : List (List ℕ)) (c : Option automatic.Choice) → Matches answer frames c → call_told answer frames ≡ call_chosen c
+told_call None frames None is = refl
+told_call None frames (Some c) is = absurd is
+told_call (Some answer) frames None is = absurd is
+told_call (Some answer) frames (Some c) is = called answer frames c is
+
+-- a choice is made where no call is open
+chosen_where : (b : Bool) (c : automatic.Choice) (answer : Choice) (frames : List (List ℕ)) → Matches (Some answer) frames (if b then None else Some c) → (b ≡ false) × IsChoice answer frames c
+chosen_where true c answer frames is = absurd is
+chosen_where false c answer frames is = (refl, is)
+
+pub opens_at : (who : Who) (r : Runner) (answer : Choice) (frames : List (List ℕ)) → Matches (Some answer) frames (chosen r) → (r.place ≡ Closed) × (place_for who r.end Closed (call_of answer frames) ≡ place_in who r)
+opens_at who r answer frames is =
+    let both = chosen_where (is_open r.place) _ answer frames is in let closed = shut r.place both.0 in (
+      closed,
+      ap (λ (p : Place). place_for who r.end p (call_of answer frames)) (sym closed) ∙ ap (λ (c : Option Call). place_for who r.end r.place c) (told_call (Some answer) frames (chosen r) is),
+    )
+
+-- an access to a word is made at a place that is not left by a doorbell
+unsettled : (who : Who) (place : Place) → touches (access_at who place) ≡ true → settled_place place ≡ place
+unfolding settled_place
+unsettled who Downed is = absurd (cc)
+unsettled who RingingOffer is = absurd (cc)
+unsettled who RingingPoll is = absurd (cc)
+unsettled who place is = refl
+
+-- the other steps leave the end, and their call is closed; they mark no frame
+pub record Untouching (who : Who) (end : End) (place : Place) (value : ℕ) : Type 0 where
+  pub end_is : end_after end (step_at who place value) ≡ end
+  pub next : next_place who place value ≡ Closed
+  pub settles : settled_place place ≡ Closed
+  pub accepts : accepted_by (marks_at who place value) ≡ []
+  pub delivers : delivered_by (marks_at who place value) ≡ []
+
+untouching : (who : Who) (end : End) (place : Place) (value : ℕ) → is_open place ≡ true → touches (access_at who place) ≡ false → Untouching who end place value
+unfolding settled_place accepted_by delivered_by
+untouching who end Closed value is still = absurd (cc)
+untouching who end Downed value is still = record { end_is = refl; next = refl; settles = refl; accepts = refl; delivers = refl }
+untouching who end RingingOffer value is still = record { end_is = refl; next = refl; settles = refl; accepts = refl; delivers = refl }
+untouching who end RingingPoll value is still = record { end_is = refl; next = refl; settles = refl; accepts = refl; delivers = refl }
+untouching who end place value is still = absurd (cc)
+
+pub settled_closed : settled_place Closed ≡ Closed
+unfolding settled_place
+settled_closed = refl
+
+-- Frames that may be offered
+
+abbrev pub Frames : Key → List (List ℕ) → Type 0
+Frames key frames = All (IsFrame key.queue.mtu) frames
+
+first_frame : (mtu : ℕ) (frame : List ℕ) (frames : List (List ℕ)) → All (IsFrame mtu) (frame ∷ frames) → IsFrame mtu frame
+first_frame mtu frame frames are = (recursion_from_All (IsFrame mtu) (frame ∷ frames) are).0
+
+offered_rest : (mtu : ℕ) (frames : List (List ℕ)) → All (IsFrame mtu) frames → All (IsFrame mtu) (drop 1 frames)
+offered_rest mtu [] are = are
+offered_rest mtu (frame ∷ frames) are = All-from_recursion (IsFrame mtu) frames (recursion_from_All (IsFrame mtu) (frame ∷ frames) are).1
+
+offered_once : (mtu : ℕ) (auto : Auto) (mark : Mark) → All (IsFrame mtu) auto.frames → All (IsFrame mtu) (counted auto mark).frames
+offered_once mtu auto (Accept frame) are = offered_rest mtu auto.frames are
+offered_once mtu auto mark are = are
+
+offered_counted : (mtu : ℕ) (auto : Auto) (marks : List Mark) → All (IsFrame mtu) auto.frames → All (IsFrame mtu) (counted_all auto marks).frames
+offered_counted mtu auto [] are = are
+offered_counted mtu auto (mark ∷ marks) are = offered_counted mtu (counted auto mark) marks (offered_once mtu auto mark are)
+
+pub round_frames : (auto : Auto) (c : Option automatic.Choice) → (round_on auto c).frames ≡ auto.frames
+round_frames auto None = refl
+round_frames auto (Some automatic.ChoosesTick) = refl
+round_frames auto (Some (automatic.ChoosesOffer frame)) = refl
+round_frames auto (Some automatic.ChoosesPoll) = refl
+round_frames auto (Some automatic.IsFinished) = refl
+
+-- an answer that is a choice, and does not finish, begins a call of a frame that may be offered
+begun_fits : (mtu : ℕ) (answer : Choice) (frames : List (List ℕ)) (c : automatic.Choice) → All (IsFrame mtu) frames → IsChoice answer frames c → is_end c ≡ false → IsBegun mtu answer frames
+begun_fits mtu Tick frames c are is goes = tt
+begun_fits mtu Offer [] c are is goes = absurd is
+begun_fits mtu Offer (frame ∷ frames) c are is goes = let f = first_frame mtu frame frames are in (f.0, f.1)
+begun_fits mtu Poll frames c are is goes = tt
+begun_fits mtu Finished frames c are is goes = let h : is_end automatic.IsFinished ≡ false = subst (λ (x : automatic.Choice). is_end x ≡ false) is goes in absurd (cc)
+
+pub begun_if_fits : (mtu : ℕ) (answer : Option Choice) (frames : List (List ℕ)) (c : Option automatic.Choice) → All (IsFrame mtu) frames → Matches answer frames c → finishes c ≡ false → IsBegunIf mtu answer frames
+begun_if_fits mtu None frames c are is goes = tt
+begun_if_fits mtu (Some answer) frames None are is goes = absurd is
+begun_if_fits mtu (Some answer) frames (Some c) are is goes = begun_fits mtu answer frames c are is goes
+
+-- the call that is told begins where none is open, and stops nothing
+may_offer : (key : Key) (frame : List ℕ) → IsFrame key.queue.mtu frame → IsOffered (ground_of key) frame
+may_offer key frame f = record { least = f.0; most = f.1; bytes = f.2 }
+
+begins_told : (key : Key) (s : Stance) (answer : Choice) (frames : List (List ℕ)) → Frames key frames → s.place ≡ Closed → Begins (ground_of key) s (call_of answer frames)
+begins_told key s Tick frames are closed = (closed, λ e. absurd (cc), tt)
+begins_told key s Offer [] are closed = tt
+begins_told key s Offer (frame ∷ frames) are closed = (closed, λ e. absurd (cc), may_offer key frame (first_frame key.queue.mtu frame frames are))
+begins_told key s Poll frames are closed = (closed, λ e. absurd (cc), tt)
+begins_told key s Finished frames are closed = tt
+
+begins_if : (key : Key) (r : Runner) (s : Stance) (answer : Option Choice) (frames : List (List ℕ)) → Frames key frames → Matches answer frames (chosen r) → (r.place ≡ Closed → s.place ≡ Closed) → Begins (ground_of key) s (call_told answer frames)
+begins_if key r s None frames are is closed = tt
+begins_if key r s (Some answer) frames are is closed = begins_told key s answer frames are (closed (shut r.place (chosen_where (is_open r.place) _ answer frames is).0))
+
+-- the place of the access is the same for the stance, where the place is settled
+same_place : (who : Who) (r : Runner) (call : Option Call) → (call ≡ None → settled_place r.place ≡ r.place) → (begun_if who (stance_of r) call).place ≡ place_for who r.end r.place call
+same_place who r None is = is refl
+same_place who r (Some call) is = refl
+
+at_none : (who : Who) (end : End) (place : Place) (call : Option Call) → call ≡ None → place_for who end place call ≡ place
+at_none who end place None is = refl
+at_none who end place (Some call) is = absurd (cc)
+
+-- the place of an access to a word for the stance
+settled_same : (who : Who) (r : Runner) → touches (access_at who (place_in who r)) ≡ true → (begun_if who (stance_of r) (call_chosen (chosen r))).place ≡ place_in who r
+settled_same who r touch = same_place who r (call_chosen (chosen r)) (λ none. let here : place_in who r ≡ r.place = at_none who r.end r.place (call_chosen (chosen r)) none in unsettled who r.place (subst (λ (p : Place). touches (access_at who p) ≡ true) here touch))
+
+-- the access to a word is the next one of the peer
+pub is_next : (key : Key) (me : ℕ) (r : Runner) (answer : Option Choice) (frames : List (List ℕ)) (a : Access) → Frames key frames → Matches answer frames (chosen r) → standing key me (accesses_in r.actions) ≡ stance_of r →
+    is_open (place_in (who_in key me) r) ≡ true → a ≡ access_at (who_in key me) (place_in (who_in key me) r) → touches a ≡ true → IsNext key me (standing key me (accesses_in r.actions)) (call_told answer frames) a
+is_next key me r answer frames a are is stands opens at touching = let who = who_in key me in
+    let call_is : call_told answer frames ≡ call_chosen (chosen r) = told_call answer frames (chosen r) is in
+    let touch : touches (access_at who (place_in who r)) ≡ true = ap touches (sym at) ∙ touching in
+    let same : (begun_if who (stance_of r) (call_told answer frames)).place ≡ place_in who r = ap (λ (c : Option Call). (begun_if who (stance_of r) c).place) call_is ∙ settled_same who r touch in
+    subst (λ (s : Stance). IsNext key me s (call_told answer frames) a) (sym stands) (record {
+      at_call = begins_if key r (stance_of r) answer frames are is (λ closed. ap settled_place closed ∙ settled_closed);
+      goes = subst (λ (p : Place). is_open p ≡ true) (sym same) opens;
+      is = at ∙ ap (access_at who) (sym same);
+    })
+
+-- the call that is chosen offers a frame that may be offered
+abbrev Fits : ℕ → calls.Call → Type 0
+Fits mtu (calls.Offer frame) = IsFrame mtu frame
+Fits mtu call = Unit {0}
+
+abbrev FitsIf : ℕ → Option calls.Call → Type 0
+FitsIf mtu None = Unit {0}
+FitsIf mtu (Some call) = Fits mtu call
+
+-- an access in reach may be made
+pub may_make : (key : Key) (me : ℕ) (e : Engine) (end : End) (place : Place) (a : Access) → IsFit key → me < 2 → StandsAt e (who_in key me) end place → InReach e.who a → MayMake key me a
+may_make key me e end place a fit me2 stands reach = in_reach a (subst (λ (w : Who). InReach w a) (sym stands.made) reach)
+  where
+    two : 2 ≤ key.geometry.peers
+    two = fit.shape.two_peers
+
+    other_ends : (p w : ℕ) → p < 2 → w < section_start key.geometry p + key.geometry.out → w < word_count key.geometry
+    other_ends p w p2 high = let ends = section_ends key.geometry p (let h = two in omega arith) in omega arith
+
+    reads : (p w : ℕ) → p < 2 → InReach (who_in key p) (access.Read w) → w < word_count key.geometry
+    reads zero w p2 (inl is) = let states = fit.shape.states in let t = two in omega arith
+    reads zero w p2 (inr at) = other_ends 1 w (omega arith) at.1
+    reads (suc zero) w p2 (inl is) = let states = fit.shape.states in let t = two in omega arith
+    reads (suc zero) w p2 (inr at) = other_ends 0 w (omega arith) at.1
+    reads (suc (suc p)) w p2 at = absurd (omega arith)
+
+    in_reach : (a : Access) → InReach (who_in key me) a → MayMake key me a
+    in_reach (access.Read word) at = reads me word me2 at
+    in_reach (access.Write word value) at = inl at
+    in_reach (access.State state) at = tt
+    in_reach (access.Ring target vector) at = tt
+    in_reach access.Nothing at = tt
+
+touched : (routes : List Route) (call : Option Call) (a : Access) (value : ℕ) → touches a ≡ true → taken_of routes call a value ≡ accessed (taken call a value) ∷ []
+touched routes call (access.Read word) value is = refl
+touched routes call (access.Write word written) value is = refl
+touched routes call (access.State state) value is = refl
+touched routes call (access.Ring target vector) value is = absurd (cc)
+touched routes call access.Nothing value is = absurd (cc)
+
+-- a doorbell makes no access to the region
+rung_none : (way : Way) (target : ℕ) → accesses_in {A = Taken} (rung_by way target) ≡ []
+unfolding accesses_in
+rung_none Silent target = refl
+rung_none (Direct bit) target = refl
+rung_none (Guarded bit) target = refl
+
+taken_none : (routes : List Route) (call : Option Call) (a : Access) (value : ℕ) → touches a ≡ false → accesses_in (taken_of routes call a value) ≡ []
+taken_none routes call (access.Read word) value is = absurd (cc)
+taken_none routes call (access.Write word written) value is = absurd (cc)
+taken_none routes call (access.State state) value is = absurd (cc)
+taken_none routes call (access.Ring target vector) value is = rung_none (way_to routes target vector) target
+taken_none routes call access.Nothing value is = accesses_none
+
+cleared_none : (a : Access) (found : ℕ) → accesses_in {A = Taken} (cleared_by a found) ≡ []
+unfolding accesses_in
+cleared_none (access.Read word) found = refl
+cleared_none (access.Write word written) found = refl
+cleared_none (access.State state) found = refl
+cleared_none (access.Ring target vector) found = refl
+cleared_none access.Nothing found = refl
+
+not_touched : (routes : List Route) (call : Option Call) (a : Access) (done : Done) → touches a ≡ false → accesses_in (done_of routes call a done) ≡ []
+not_touched routes call a (Stepped value) is = taken_none routes call a value is
+not_touched routes call a (Cleared found) is = cleared_none a found
+not_touched routes call a Rung is = taken_none routes call a 0 is
+
+-- a doorbell alone is done in two turns
+guarded_still : (routes : List Route) (a : Access) → is_guarded (way_in routes a) ≡ true → touches a ≡ false
+guarded_still routes (access.Read word) is = absurd (cc)
+guarded_still routes (access.Write word written) is = absurd (cc)
+guarded_still routes (access.State state) is = absurd (cc)
+guarded_still routes (access.Ring target vector) is = refl
+guarded_still routes access.Nothing is = refl
+
+touch_done : (routes : List Route) (ringing : Bool) (a : Access) (done : Done) → touches a ≡ true → IsDone ringing (is_guarded (way_in routes a)) done → done ≡ Stepped (value_done done)
+touch_done routes ringing a (Stepped value) touch is = refl
+touch_done routes ringing a (Cleared found) touch is = absurd (clash (sym (guarded_still routes a is.1) ∙ touch))
+touch_done routes ringing a Rung touch is = absurd (clash (sym (guarded_still routes a is.1) ∙ touch))
+
+held_guards : (ringing guarded : Bool) (done : Done) → IsDone ringing guarded done → holds_on done ≡ true → guarded ≡ true
+held_guards ringing guarded (Stepped value) is held = absurd (clash held)
+held_guards ringing guarded (Cleared found) is held = is.1
+held_guards ringing guarded Rung is held = absurd (clash held)
+
+-- where the place in a turn is settled as closed, so was the one before
+settled_before : (who : Who) (r : Runner) (b : Bool) → is_open r.place ≡ b → settled_place (place_in who r) ≡ Closed → settled_place r.place ≡ Closed
+settled_before who r false is closed = ap settled_place (shut r.place is) ∙ settled_closed
+settled_before who r true is closed =
+    let none : call_chosen (chosen r) ≡ None = ap (λ (b : Bool). call_chosen (if b then None else Some (choice_of r.end.handshake.phase r.auto.round r.auto.frames r.auto.delivered r.auto.expected))) is in
+    ap settled_place (sym (at_none who r.end r.place (call_chosen (chosen r)) none)) ∙ closed
+
+by_touch : {P : Type 0} → (b : Bool) → (b ≡ true → P) → (b ≡ false → P) → P
+by_touch true f g = f refl
+by_touch false f g = g refl
+
+-- one turn more, and one list of marks more
+pub marks_snoc : (turns : List Turn) (turn : Turn) → marks_in (turns ++ turn ∷ []) ≡ marks_in turns ++ marks_of turn
+unfolding marks_in
+marks_snoc [] turn = append-nil (marks_of turn)
+marks_snoc (t ∷ turns) turn = ap (λ ms. marks_of t ++ ms) (marks_snoc turns turn) ∙ sym (append_assoc (marks_of t) (marks_in turns) (marks_of turn))
+
+-- the marks of a step stand at its end
+turn_marks : (step : Step) (done : Done) → holds_on done ≡ false → marks_of (turn_of step done) ≡ step.marks
+turn_marks step (Stepped value) is = refl
+turn_marks step (Cleared found) is = ap (λ (b : Bool). if b then [] else step.marks) is
+turn_marks step Rung is = refl
+
+held_marks : (step : Step) (done : Done) → holds_on done ≡ true → marks_of (turn_of step done) ≡ []
+held_marks step (Stepped value) is = absurd (clash is)
+held_marks step (Cleared found) is = ap (λ (b : Bool). if b then [] else step.marks) is
+held_marks step Rung is = absurd (clash is)
+
+pub accepted_append : (marks more : List Mark) → accepted_by (marks ++ more) ≡ accepted_by marks ++ accepted_by more
+unfolding accepted_by
+accepted_append marks more = flat_map-append accepted_once marks more
+
+pub delivered_append : (marks more : List Mark) → delivered_by (marks ++ more) ≡ delivered_by marks ++ delivered_by more
+unfolding delivered_by
+delivered_append marks more = flat_map-append delivered_once marks more
+
+abbrev value_in : Who → Runner → Done → Step
+value_in who r done = step_at who (place_in who r) (value_done done)
+
+marks_on : (routes : List Route) (who : Who) (r : Runner) (done : Done) → holds_on done ≡ false → marks_in (stepped_on routes who r done).turns ≡ marks_in r.turns ++ marks_at who (place_in who r) (value_done done)
+marks_on routes who r done goes = marks_snoc r.turns (turn_of (value_in who r done) done) ∙ ap (λ ms. marks_in r.turns ++ ms) (turn_marks (value_in who r done) done goes)
+
+accepted_on : (routes : List Route) (who : Who) (r : Runner) (done : Done) → holds_on done ≡ false → (stance_of (stepped_on routes who r done)).accepted ≡ (stance_of r).accepted ++ accepted_by (marks_at who (place_in who r) (value_done done))
+accepted_on routes who r done goes = ap accepted_by (marks_on routes who r done goes) ∙ accepted_append (marks_in r.turns) (marks_at who (place_in who r) (value_done done))
+
+delivered_on : (routes : List Route) (who : Who) (r : Runner) (done : Done) → holds_on done ≡ false → (stance_of (stepped_on routes who r done)).delivered ≡ (stance_of r).delivered ++ delivered_by (marks_at who (place_in who r) (value_done done))
+delivered_on routes who r done goes = ap delivered_by (marks_on routes who r done goes) ∙ delivered_append (marks_in r.turns) (marks_at who (place_in who r) (value_done done))
+
+abbrev at : End → Place → List (List ℕ) → List (List ℕ) → Stance
+at end place one other = record { end = end; place = place; accepted = one; delivered = other }
+
+-- the stance after the turn
+begun_at : (who : Who) (r : Runner) (call : Option Call) (place : Place) → (begun_if who (stance_of r) call).place ≡ place → begun_if who (stance_of r) call ≡ at r.end place (stance_of r).accepted (stance_of r).delivered
+begun_at who r None place is = ap (λ (p : Place). at r.end p (stance_of r).accepted (stance_of r).delivered) is
+begun_at who r (Some call) place is = ap (λ (p : Place). at r.end p (stance_of r).accepted (stance_of r).delivered) is
+
+after_touch : (routes : List Route) (who : Who) (r : Runner) (value : ℕ) → touches (access_at who (place_in who r)) ≡ true →
+    after_access who (stance_of r) (taken (call_chosen (chosen r)) (access_at who (place_in who r)) value) ≡ stance_of (stepped_on routes who r (Stepped value))
+after_touch routes who r value touch = let place = place_in who r in let here = begun_at who r (call_chosen (chosen r)) place (settled_same who r touch) in
+    ap (λ (s : Stance). settled (moved who s value)) here ∙
+    (λ i. at (end_after r.end (step_at who place value)) (settled_place (next_place who place value)) (sym (accepted_on routes who r (Stepped value) refl) i) (sym (delivered_on routes who r (Stepped value) refl) i))
+
+-- an access to the region leads the peer where the turn does
+stands_touched : (key : Key) (me : ℕ) (routes : List Route) (value : ℕ) (r : Runner) → honest_of key me ≡ true → touches (access_at (who_in key me) (place_in (who_in key me) r)) ≡ true → standing key me (accesses_in r.actions) ≡ stance_of r →
+    standing key me (accesses_in (stepped_on routes (who_in key me) r (Stepped value)).actions) ≡ stance_of (stepped_on routes (who_in key me) r (Stepped value))
+stands_touched key me routes value r hp touch stands = let who = who_in key me in let a = access_at who (place_in who r) in let call = call_chosen (chosen r) in
+    ap (λ l. standing key me (accesses_in (r.actions ++ l))) (touched routes call a value touch) ∙ (ap (standing key me) (accesses_snoc r.actions (accessed (taken call a value))) ∙ (standing_snoc key me (accesses_in r.actions) (taken call a value)
+    ∙ (stand_honest key me (standing key me (accesses_in r.actions)) (taken call a value) hp ∙ (ap (λ (s : Stance). after_access who s (taken call a value)) stands ∙ after_touch routes who r value touch))))
+
+-- what is no access to the region leaves it
+stays_standing : (key : Key) (me : ℕ) (r : Runner) (acts : List (Action Taken)) → accesses_in acts ≡ [] → standing key me (accesses_in r.actions) ≡ stance_of r → standing key me (accesses_in (r.actions ++ acts)) ≡ stance_of r
+stays_standing key me r acts none stands = ap (standing key me) (accesses_both r.actions acts ∙ (ap (λ l. accesses_in r.actions ++ l) none ∙ append-nil (accesses_in r.actions))) ∙ stands
+
+-- the longer list leaves the peer where the turn does
+stands_stepped : (key : Key) (me : ℕ) (routes : List Route) (ringing : Bool) (done : Done) (r : Runner) → honest_of key me ≡ true → is_open (place_in (who_in key me) r) ≡ true → IsDone ringing (is_guarded (way_in routes (access_at (who_in key me) (place_in (who_in key me) r)))) done →
+    holds_on done ≡ false → standing key me (accesses_in r.actions) ≡ stance_of r → standing key me (accesses_in (stepped_on routes (who_in key me) r done).actions) ≡ stance_of (stepped_on routes (who_in key me) r done)
+stands_stepped key me routes ringing done r hp opens is goes stands = let who = who_in key me in let a = access_at who (place_in who r) in let call = call_chosen (chosen r) in let place = place_in who r in
+    let P : Done → Type 0 = λ d. standing key me (accesses_in (stepped_on routes who r d).actions) ≡ stance_of (stepped_on routes who r d) in
+    by_touch (touches a)
+    (λ t. subst P (sym (touch_done routes ringing a done t is)) (stands_touched key me routes (value_done done) r hp t stands))
+    (λ f. let u = untouching who r.end place (value_done done) opens f in
+    let one : (stance_of r).accepted ≡ (stance_of (stepped_on routes who r done)).accepted = sym (accepted_on routes who r done goes ∙ (ap (λ l. (stance_of r).accepted ++ l) u.accepts ∙ append-nil (stance_of r).accepted)) in
+    let other : (stance_of r).delivered ≡ (stance_of (stepped_on routes who r done)).delivered = sym (delivered_on routes who r done goes ∙ (ap (λ l. (stance_of r).delivered ++ l) u.delivers ∙ append-nil (stance_of r).delivered)) in
+    let spot : settled_place r.place ≡ settled_place (next_place who place (value_done done)) = settled_before who r (is_open r.place) refl u.settles ∙ sym (ap settled_place u.next ∙ settled_closed) in
+    stays_standing key me r (done_of routes call a done) (not_touched routes call a done f) stands
+    ∙ (λ i. at (sym u.end_is i) (spot i) (one i) (other i)))
+
+stands_held : (key : Key) (me : ℕ) (routes : List Route) (done : Done) (r : Runner) → touches (access_at (who_in key me) (place_in (who_in key me) r)) ≡ false → holds_on done ≡ true → standing key me (accesses_in r.actions) ≡ stance_of r →
+    standing key me (accesses_in (held_on routes (who_in key me) r done).actions) ≡ stance_of (held_on routes (who_in key me) r done)
+stands_held key me routes done r still held stands = let who = who_in key me in let a = access_at who (place_in who r) in let call = call_chosen (chosen r) in
+    let same : marks_in r.turns ≡ marks_in (held_on routes who r done).turns = sym (marks_snoc r.turns (turn_of (value_in who r done) done) ∙ (ap (λ ms. marks_in r.turns ++ ms) (held_marks (value_in who r done) done held) ∙ append-nil (marks_in r.turns))) in
+    stays_standing key me r (done_of routes call a done) (not_touched routes call a done still) stands ∙ (λ i. at r.end (settled_place r.place) (accepted_by (same i)) (delivered_by (same i)))
+
+stands_looked : (key : Key) (me : ℕ) (r : Runner) (found : ℕ) → standing key me (accesses_in r.actions) ≡ stance_of r → standing key me (accesses_in (looked_on r found).actions) ≡ stance_of (looked_on r found)
+stands_looked key me r found stands = let same : marks_in r.turns ≡ marks_in (looked_on r found).turns = sym (marks_snoc r.turns (Looks found) ∙ append-nil (marks_in r.turns)) in
+    stays_standing key me r (looked found ∷ []) (looked_none found) stands ∙ (λ i. at r.end (settled_place r.place) (accepted_by (same i)) (delivered_by (same i)))
+  where
+    looked_none : (found : ℕ) → accesses_in {A = Taken} (looked found ∷ []) ≡ []
+    looked_none found = accesses_snoc [] (looked found) ∙ ap (λ l. l ++ []) accesses_none
+
+-- The pass after a turn
+
+rung_one : (way : Way) (target : ℕ) → length {A = Action Taken} (rung_by way target) ≤ 1
+rung_one Silent target = omega arith
+rung_one (Direct bit) target = omega arith
+rung_one (Guarded bit) target = omega arith
+
+taken_one : (routes : List Route) (call : Option Call) (a : Access) (value : ℕ) → length (taken_of routes call a value) ≤ 1
+taken_one routes call (access.Read word) value = omega arith
+taken_one routes call (access.Write word written) value = omega arith
+taken_one routes call (access.State state) value = omega arith
+taken_one routes call (access.Ring target vector) value = rung_one (way_to routes target vector) target
+taken_one routes call access.Nothing value = omega arith
+
+pub done_one : (routes : List Route) (call : Option Call) (a : Access) (done : Done) → length (done_of routes call a done) ≤ 1
+done_one routes call a (Stepped value) = taken_one routes call a value
+done_one routes call (access.Read word) (Cleared found) = omega arith
+done_one routes call (access.Write word written) (Cleared found) = omega arith
+done_one routes call (access.State state) (Cleared found) = omega arith
+done_one routes call (access.Ring target vector) (Cleared found) = omega arith
+done_one routes call access.Nothing (Cleared found) = omega arith
+done_one routes call (access.Read word) Rung = omega arith
+done_one routes call (access.Write word written) Rung = omega arith
+done_one routes call (access.State state) Rung = omega arith
+done_one routes call (access.Ring target vector) Rung = rung_one (way_to routes target vector) target
+done_one routes call access.Nothing Rung = omega arith
+
+made_lists : (h : Held) (l acts : List (Action Taken)) → length acts ≤ 1 → h.lists ≡ l ∷ [] → (made h acts).lists ≡ (l ++ acts) ∷ []
+made_lists h l [] one is = is ∙ ap (λ m. m ∷ []) (sym (append-nil l))
+made_lists h l (t ∷ []) one is = ap (λ ls. (added (record h { lists = ls }) t).lists) is
+made_lists h l (t ∷ u ∷ acts) one is = absurd (omega arith)
+
+made_from : (h : Held) (acts : List (Action Taken)) → (made h acts).from ≡ h.from
+made_from h [] = refl
+made_from h (t ∷ acts) = refl
+
+pub made_id : (h : Held) (acts : List (Action Taken)) → (made h acts).table_id ≡ h.table_id
+made_id h [] = refl
+made_id h (t ∷ acts) = refl
+
+pub made_held : (h : Held) (l acts : List (Action Taken)) → length acts ≤ 1 → h.lists ≡ l ∷ [] → made h acts ≡ held h.table_id h.from ((l ++ acts) ∷ [])
+made_held h l acts one is = λ i. record { table_id = made_id h acts i; from = made_from h acts i; lists = made_lists h l acts one is i }
+
+-- the frames of the place in a turn
+call_bytes : (who : Who) (end : End) (call : calls.Call) (mtu : ℕ) → who.sizes.mtu ≡ mtu → Fits mtu call → HasFrames (first_place who end call)
+call_bytes who end calls.Tick mtu same fits = first_frames who end calls.Tick tt
+call_bytes who end calls.Stop mtu same fits = first_frames who end calls.Stop tt
+call_bytes who end (calls.Offer frame) mtu same fits = first_frames who end (calls.Offer frame) (fits.0, let most = fits.1 in omega arith)
+call_bytes who end calls.Poll mtu same fits = first_frames who end calls.Poll tt
+
+fits_of : (mtu : ℕ) (answer : Choice) (frames : List (List ℕ)) → All (IsFrame mtu) frames → FitsIf mtu (call_of answer frames)
+fits_of mtu Tick frames are = tt
+fits_of mtu Offer [] are = tt
+fits_of mtu Offer (frame ∷ frames) are = first_frame mtu frame frames are
+fits_of mtu Poll frames are = tt
+fits_of mtu Finished frames are = tt
+
+fits_told : (mtu : ℕ) (answer : Option Choice) (frames : List (List ℕ)) → All (IsFrame mtu) frames → FitsIf mtu (call_told answer frames)
+fits_told mtu None frames are = tt
+fits_told mtu (Some answer) frames are = fits_of mtu answer frames are
+
+place_bytes : (who : Who) (end : End) (place : Place) (call : Option Call) → FitsIf who.sizes.mtu call → HasFrames place → HasFrames (place_for who end place call)
+place_bytes who end place None fits has = has
+place_bytes who end place (Some call) fits has = call_bytes who end call who.sizes.mtu refl fits
+
+-- the frames of the place in a turn have their bytes
+pub bytes_in : (key : Key) (me : ℕ) (routes : List Route) (r : Runner) (answer : Option Choice) (ringing : Bool) (old : Held) (plan : Plan) (e0 : Engine) → Turns key me routes r answer ringing old plan e0 → HasFrames (place_in (who_in key me) r)
+bytes_in key me routes r answer ringing old plan e0 turns =
+    let frames : Frames key (round_on r.auto (chosen r)).frames = subst (Frames key) (sym (round_frames r.auto (chosen r))) turns.there.stands.frames in
+    let planned : Frames key plan.frames = subst (Frames key) (sym turns.planned.frames) frames in
+    let fits : FitsIf key.queue.mtu (call_chosen (chosen r)) = subst (FitsIf key.queue.mtu) (told_call answer plan.frames (chosen r) turns.matches) (fits_told key.queue.mtu answer plan.frames planned) in
+    place_bytes (who_in key me) r.end r.place (call_chosen (chosen r)) fits turns.there.stands.bytes
+
+-- Where a doorbell is to be done in two turns, its call is open
+
+first_silent : (routes : List Route) (who : Who) (end : End) (call : Call) → is_guarded (way_in routes (access_at who (first_place who end call))) ≡ false
+first_silent routes who end calls.Tick = refl
+first_silent routes who end calls.Stop = refl
+first_silent routes who end (calls.Offer frame) = elim (calls.in_run end.handshake.phase) as (λ b. is_guarded (way_in routes (access_at who (if b then AtUsedIndex (calls.job_of who end frame) end.freed else Downed))) ≡ false) [ true ↦ refl | false ↦ refl ]
+first_silent routes who end calls.Poll = elim (calls.in_run end.handshake.phase) as (λ b. is_guarded (way_in routes (access_at who (if b then AtAvailIndex (length end.delivered) else Downed))) ≡ false) [ true ↦ refl | false ↦ refl ]
+
+begun_silent : (routes : List Route) (who : Who) (end : End) (place : Place) (c : automatic.Choice) → is_end c ≡ false → is_guarded (way_in routes (access_at who (place_for who end place (call_chosen (Some c))))) ≡ false
+begun_silent routes who end place automatic.ChoosesTick goes = first_silent routes who end calls.Tick
+begun_silent routes who end place (automatic.ChoosesOffer frame) goes = first_silent routes who end (calls.Offer frame)
+begun_silent routes who end place automatic.ChoosesPoll goes = first_silent routes who end calls.Poll
+begun_silent routes who end place automatic.IsFinished goes = absurd (clash (sym goes))
+
+chosen_silent : (routes : List Route) (who : Who) (r : Runner) (c : Option automatic.Choice) → finishes c ≡ false → is_guarded (way_in routes (access_at who (place_for who r.end r.place (call_chosen c)))) ≡ true → c ≡ None
+chosen_silent routes who r None goes guarded = refl
+chosen_silent routes who r (Some c) goes guarded = absurd (clash (sym (begun_silent routes who r.end r.place c goes) ∙ guarded))
+
+pub none_chosen : (routes : List Route) (who : Who) (r : Runner) → has_finished r ≡ false → is_guarded (way_in routes (access_at who (place_in who r))) ≡ true → chosen r ≡ None
+none_chosen routes who r goes guarded = chosen_silent routes who r (chosen r) goes guarded
+
+pub same_open : (who : Who) (r : Runner) → chosen r ≡ None → place_in who r ≡ r.place
+same_open who r none = ap (λ (c : Option automatic.Choice). place_for who r.end r.place (call_chosen c)) none
+
+-- a ring that is to come may be made at the place of the turn
+pub may_come : (key : Key) (me : ℕ) (routes : List Route) (ringing : Bool) (r : Runner) (end : Engine) (a : Access) → Stands key me routes r end → r.ringing ≡ ringing → a ≡ access_at (who_in key me) (place_in (who_in key me) r) → ringing ≡ true → MayRingBy routes a r.actions
+may_come key me routes ringing r end a s same at is = let who = who_in key me in let may : MayRingBy routes (access_at who r.place) r.actions = s.rings (same ∙ is) in
+    subst (λ (x : Access). MayRingBy routes x r.actions) (ap (access_at who) (sym (same_open who r (opened_none r (rings_open who r.place r.actions may)))) ∙ sym at) may
+  where
+    rings_open : (who : Who) (place : Place) (list : List (Action Taken)) → MayRingBy routes (access_at who place) list → is_open place ≡ true
+    rings_open who RingingOffer list may = refl
+    rings_open who RingingPoll list may = refl
+    rings_open who place list may = absurd may
+
+    opened_none : (r : Runner) → is_open r.place ≡ true → chosen r ≡ None
+    opened_none r open_is = ap (λ (b : Bool). if b then None else Some (choice_of r.end.handshake.phase r.auto.round r.auto.frames r.auto.delivered r.auto.expected)) open_is
+
+-- the list of the pass after a turn
+list_after : (old pass : Held) (l acts : List (Action Taken)) → length acts ≤ 1 → pass ≡ made old acts → old.lists ≡ l ∷ [] → pass.lists ≡ (l ++ acts) ∷ []
+list_after old pass l acts one is was = ap (λ (h : Held). h.lists) is ∙ made_lists old l acts one was
+
+-- a turn that was taken to the end of its step: its call was opened, the step was done and taken, and its notes were counted
+pub turn_taken : (key : Key) (me : ℕ) (routes : List Route) (ringing : Bool) (done : Done) (r : Runner) (answer : Option Choice) (old pass : Held) (plan new : Plan) (e0 e1 e2 : Engine) (a : Access) (notes : List Note) → honest_of key me ≡ true →
+    Turns key me routes r answer ringing old plan e0 → StandsAt e1 (who_in key me) r.end (place_in (who_in key me) r) → is_open (place_in (who_in key me) r) ≡ true → a ≡ access_at (who_in key me) (place_in (who_in key me) r) →
+    IsDone ringing (is_guarded (way_in routes a)) done → holds_on done ≡ false → pass ≡ made old (done_of routes (call_told answer plan.frames) a done) → Takes e1 (value_done done) notes e2 →
+    ((auto : Auto) (one other : List ℕ) → IsPlanOf plan auto → IsPlanOf new (counted_all auto (marks_between one other notes))) →
+    IsThere key me routes (stepped_on routes (who_in key me) r done) pass e2 × IsPlanOf new (stepped_on routes (who_in key me) r done).auto
+turn_taken key me routes ringing done r answer old pass plan new e0 e1 e2 a notes hp turns stands opens at is_done goes is took counts = let who = who_in key me in let place = place_in who r in let value = value_done done in
+    let list : done_of routes (call_told answer plan.frames) a done ≡ done_of routes (call_chosen (chosen r)) (access_at who place) done = (λ i. done_of routes (told_call answer plan.frames (chosen r) turns.matches i) (at i) done) in
+    let marked : marks_between (offered e1) (delivered e2) notes ≡ marks_at who place value = took.marked who r.end place stands in
+    let frames : Frames key (round_on r.auto (chosen r)).frames = subst (Frames key) (sym (round_frames r.auto (chosen r))) turns.there.stands.frames in (
+      record {
+        stands = record {
+          stands = took.stands who r.end place stands;
+          standing = stands_stepped key me routes ringing done r hp opens (subst (λ (x : Access). IsDone ringing (is_guarded (way_in routes x)) done) at is_done) goes turns.there.stands.standing;
+          bytes = next_frames who place value (bytes_in key me routes r answer ringing old plan e0 turns);
+          frames = offered_counted key.queue.mtu (round_on r.auto (chosen r)) (marks_at who place value) frames;
+          rings = λ e. absurd (clash e);
+        };
+        from = ap (λ (h : Held). h.from) is ∙ (made_from old (done_of routes (call_told answer plan.frames) a done) ∙ turns.there.from);
+        lists = list_after old pass r.actions (done_of routes (call_told answer plan.frames) a done) (done_one routes (call_told answer plan.frames) a done) is turns.there.lists ∙ ap (λ l. (r.actions ++ l) ∷ []) list;
+      },
+      subst (λ ms. IsPlanOf new (counted_all (round_on r.auto (chosen r)) ms)) marked (counts (round_on r.auto (chosen r)) (offered e1) (delivered e2) turns.planned),
+    )
+
+-- a turn in which the clear of a doorbell found the bit
+pub turn_held : (key : Key) (me : ℕ) (routes : List Route) (ringing : Bool) (done : Done) (r : Runner) (answer : Option Choice) (old pass : Held) (plan : Plan) (e0 e1 : Engine) (a : Access) →
+    Turns key me routes r answer ringing old plan e0 → StandsAt e1 (who_in key me) r.end (place_in (who_in key me) r) → a ≡ access_at (who_in key me) (place_in (who_in key me) r) →
+    IsDone ringing (is_guarded (way_in routes a)) done → holds_on done ≡ true → pass ≡ made old (done_of routes (call_told answer plan.frames) a done) → MayRingBy routes a (front pass.lists) →
+    IsThere key me routes (held_on routes (who_in key me) r done) pass e1 × IsPlanOf plan (held_on routes (who_in key me) r done).auto
+turn_held key me routes ringing done r answer old pass plan e0 e1 a turns stands at is_done held is may = let who = who_in key me in let place = place_in who r in
+    let guarded : is_guarded (way_in routes a) ≡ true = held_guards ringing (is_guarded (way_in routes a)) done is_done held in
+    let there : is_guarded (way_in routes (access_at who place)) ≡ true = ap (λ (x : Access). is_guarded (way_in routes x)) (sym at) ∙ guarded in
+    let none : chosen r ≡ None = none_chosen routes who r turns.goes there in let spot : place ≡ r.place = same_open who r none in
+    let list : done_of routes (call_told answer plan.frames) a done ≡ done_of routes (call_chosen (chosen r)) (access_at who place) done = (λ i. done_of routes (told_call answer plan.frames (chosen r) turns.matches i) (at i) done) in
+    let lists : pass.lists ≡ (held_on routes who r done).actions ∷ [] = list_after old pass r.actions (done_of routes (call_told answer plan.frames) a done) (done_one routes (call_told answer plan.frames) a done) is turns.there.lists ∙ ap (λ l. (r.actions ++ l) ∷ []) list in (
+      record {
+        stands = record {
+          stands = subst (λ (p : Place). StandsAt e1 who r.end p) spot stands;
+          standing = stands_held key me routes done r (guarded_still routes (access_at who place) there) held turns.there.stands.standing;
+          bytes = turns.there.stands.bytes;
+          frames = turns.there.stands.frames;
+          rings = λ e. subst (λ (x : Access). MayRingBy routes x (held_on routes who r done).actions) (at ∙ ap (access_at who) spot) (subst (λ ls. MayRingBy routes a (front ls)) lists may);
+        };
+        from = ap (λ (h : Held). h.from) is ∙ (made_from old (done_of routes (call_told answer plan.frames) a done) ∙ turns.there.from);
+        lists = lists;
+      },
+      subst (λ (c : Option automatic.Choice). IsPlanOf plan (round_on r.auto c)) none turns.planned,
+    )
+
+-- a look
+pub turn_looked : (key : Key) (me : ℕ) (routes : List Route) (r : Runner) (old pass : Held) (end : Engine) (found : ℕ) → pass ≡ added old (looked found) → IsThere key me routes r old end → r.ringing ≡ false → IsThere key me routes (looked_on r found) pass end
+turn_looked key me routes r old pass end found is there still = record {
+  stands = record {
+    stands = there.stands.stands;
+    standing = stands_looked key me r found there.stands.standing;
+    bytes = there.stands.bytes;
+    frames = there.stands.frames;
+    rings = λ e. absurd (clash (sym still ∙ e));
+  };
+  from = ap (λ (h : Held). h.from) is ∙ there.from;
+  lists = list_after old pass r.actions (looked found ∷ []) (omega arith) is there.lists;
+}
+
+-- the line of an access takes its value from a read alone
+given_line : (me : ℕ) (a : Access) (value : ℕ) → access_lines me a value ≡ access_lines me a (value_given a value)
+given_line me (access.Read word) value = refl
+given_line me (access.Write word written) value = refl
+given_line me (access.State state) value = refl
+given_line me (access.Ring target vector) value = refl
+given_line me access.Nothing value = refl
+
+-- the lines that were told are those of the turn
+step_lines : (who : Who) (place : Place) (value : ℕ) → lines_of who.me (access_at who place) value (marks_at who place value) ≡ told_in who.me (Makes (step_at who place value))
+step_lines who place value = ap (λ ls. if is_quiet (access_at who place) (marks_at who place value) then [] else ls ++ map (mark_line who.me) (marks_at who place value)) (given_line who.me (access_at who place) value)
+
+done_told : (who : Who) (place : Place) (done : Done) → holds_on done ≡ false → done_lines who.me (access_at who place) done (marks_at who place (value_done done)) ≡ told_in who.me (turn_of (step_at who place (value_done done)) done)
+done_told who place (Stepped value) goes = step_lines who place value
+done_told who place (Cleared found) goes = (λ i. given_line who.me (access_at who place) 0 i ++ map (mark_line who.me) (sym (turn_marks (step_at who place 0) (Cleared found) goes) i))
+done_told who place Rung goes = refl
+
+pub lines_told : (who : Who) (r : Runner) (done : Done) (e1 e2 : Engine) (a : Access) (notes : List Note) → holds_on done ≡ false → Takes e1 (value_done done) notes e2 → StandsAt e1 who r.end (place_in who r) → a ≡ access_at who (place_in who r) →
+    done_lines who.me a done (marks_between (offered e2) (delivered e2) notes) ≡ told_on who r done
+lines_told who r done e1 e2 a notes goes took stands at = let place = place_in who r in let value = value_done done in
+    ap (λ ms. done_lines who.me a done ms) (marks_now e1 e2 value notes who r.end place took stands (busy_next e1 e2 value notes who r.end place took stands))
+    ∙ (ap (λ (x : Access). done_lines who.me x done (marks_at who place value)) at ∙ done_told who place done goes)
+
+held_line : (me : ℕ) (step : Step) (done : Done) → holds_on done ≡ true → told_in me (turn_of step done) ≡ access_lines me step.access step.value
+held_line me step (Stepped value) held = absurd (clash held)
+held_line me step (Cleared found) held = ap (λ ms. access_lines me step.access step.value ++ map (mark_line me) ms) (held_marks step (Cleared found) held) ∙ append-nil (access_lines me step.access step.value)
+held_line me step Rung held = absurd (clash held)
+
+held_value : (done : Done) → holds_on done ≡ true → value_done done ≡ 0
+held_value (Stepped value) held = absurd (clash held)
+held_value (Cleared found) held = refl
+held_value Rung held = absurd (clash held)
+
+pub lines_held : (who : Who) (r : Runner) (done : Done) (a : Access) → holds_on done ≡ true → a ≡ access_at who (place_in who r) → access_lines who.me a 0 ≡ told_on who r done
+lines_held who r done a held at = let place = place_in who r in ap (λ (x : Access). access_lines who.me x 0) at ∙ (given_line who.me (access_at who place) 0
+    ∙ (ap (λ n. access_lines who.me (access_at who place) (value_given (access_at who place) n)) (sym (held_value done held)) ∙ sym (held_line who.me (value_in who r done) done held)))
+
+-- the runner after a turn, as it was held or not
+pub turned_held : (routes : List Route) (who : Who) (r : Runner) (done : Done) → holds_on done ≡ true → turned routes who r done ≡ held_on routes who r done
+turned_held routes who r done is = ap (λ (b : Bool). if b then held_on routes who r done else stepped_on routes who r done) is
+
+pub turned_stepped : (routes : List Route) (who : Who) (r : Runner) (done : Done) → holds_on done ≡ false → turned routes who r done ≡ stepped_on routes who r done
+turned_stepped routes who r done is = ap (λ (b : Bool). if b then held_on routes who r done else stepped_on routes who r done) is
+
+-- the same of the runner as it is turned
+module _ (key : Key) (me : ℕ) (routes : List Route) (ringing : Bool) (done : Done) (r : Runner) (answer : Option Choice) (old pass : Held) (plan : Plan) (e0 e1 : Engine) (a : Access) (turns : Turns key me routes r answer ringing old plan e0)
+    (stands : StandsAt e1 (who_in key me) r.end (place_in (who_in key me) r)) (at_is : a ≡ access_at (who_in key me) (place_in (who_in key me) r)) (is_done : IsDone ringing (is_guarded (way_in routes a)) done) (is : pass ≡ made old (done_of routes (call_told answer plan.frames) a done)) where
+  pub done_there : IsDone ringing (is_guarded (way_in routes (access_at (who_in key me) (place_in (who_in key me) r)))) done
+  done_there = subst (λ (x : Access). IsDone ringing (is_guarded (way_in routes x)) done) at_is is_done
+
+  pub held_turn : holds_on done ≡ true → (holds_on done ≡ true → MayRingBy routes a (front pass.lists)) → IsThere key me routes (turned routes (who_in key me) r done) pass e1 × IsPlanOf plan (turned routes (who_in key me) r done).auto
+  held_turn held may = let both = turn_held key me routes ringing done r answer old pass plan e0 e1 a turns stands at_is is_done held is (may held) in let same = sym (turned_held routes (who_in key me) r done held) in
+      (subst (λ (x : Runner). IsThere key me routes x pass e1) same both.0, subst (λ (x : Runner). IsPlanOf plan x.auto) same both.1)
+
+  pub stepped_turn : (new : Plan) (e2 : Engine) (notes : List Note) → honest_of key me ≡ true → is_open (place_in (who_in key me) r) ≡ true → holds_on done ≡ false → Takes e1 (value_done done) notes e2 →
+      ((auto : Auto) (one other : List ℕ) → IsPlanOf plan auto → IsPlanOf new (counted_all auto (marks_between one other notes))) →
+      IsThere key me routes (turned routes (who_in key me) r done) pass e2 × IsPlanOf new (turned routes (who_in key me) r done).auto
+  stepped_turn new e2 notes hp opens goes took counts = let both = turn_taken key me routes ringing done r answer old pass plan new e0 e1 e2 a notes hp turns stands opens at_is is_done goes is took counts in let same = sym (turned_stepped routes (who_in key me) r done goes) in
+      (subst (λ (x : Runner). IsThere key me routes x pass e2) same both.0, subst (λ (x : Runner). IsPlanOf new x.auto) same both.1)

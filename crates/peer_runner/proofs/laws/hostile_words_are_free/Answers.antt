@@ -1,0 +1,5 @@
+use Rattle.peer_runner.proofs.HostileLaws.{hostile_lem}
+use Rattle.peer_runner.proofs.laws.hostile_words_are_free.Goals as goal
+
+pub returns : goal.returns
+returns c = hostile_lem

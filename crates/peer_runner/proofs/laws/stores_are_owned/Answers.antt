@@ -1,0 +1,5 @@
+use Rattle.peer_runner.proofs.ListLaws.{stores_lem}
+use Rattle.peer_runner.proofs.laws.stores_are_owned.Goals as goal
+
+pub returns : goal.returns
+returns c = stores_lem

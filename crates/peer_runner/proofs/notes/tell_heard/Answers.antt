@@ -1,0 +1,14 @@
+use Rattle.std.proofs.Common.{◌≡◌, sym, ap, ◌∙◌, ◌++◌, List, append-nil, arith}
+use Rattle.lawful_history.specs.declared.line.Line.{Line}
+use Rattle.peer_runner.specs.Turns.{heard}
+use Rattle.peer_runner.proofs.Runs.{heard_none, heard_more}
+use Rattle.peer_runner.proofs.notes.tell_heard.Goals as goal
+
+pub loop-bit-init : goal.loop-bit-init
+loop-bit-init c = sym (ap (λ (l : List Line). c.args.lines.now ++ l) (heard_none c.args.me c.args.found) ∙ append-nil c.args.lines.now)
+
+pub loop-bit-preserved : goal.loop-bit-preserved
+loop-bit-preserved c = heard_more c.loop-bit.bit c.args.me c.args.found c.args.lines.now c.loop-bit.lines c.tell_bit.new.lines c.loop-bit.invariant c.in_ok-tell_bit.ensures
+
+pub returns : goal.returns
+returns c = let all : c.loop-bit.bit ≡ 64 = omega arith in c.loop-bit.invariant ∙ ap (λ n. c.args.lines.now ++ heard n c.args.me c.args.found) all

@@ -1,0 +1,26 @@
+-- What peers do to the words.
+use Rattle.std.specs.Prelude.{ℕ, List, [], ◌∷◌}
+use Rattle.std.specs.List.{flat_map}
+
+-- One action of a peer: an access to a word of the region; a bit that it sets in the interrupt word of a target; a look, by which its own interrupt word
+-- becomes 0; or a clear of bit 0 of a target's Interrupt Control. A look and a clear have the word that they found
+pub data Action (A : Type 0) : Type 0 where
+  accessed : (access : A) → Action A
+  rang : (target bit : ℕ) → Action A
+  looked : (found : ℕ) → Action A
+  cleared : (target found : ℕ) → Action A
+
+-- the same, where accesses are seen otherwise
+abbrev pub seen_by : {A B : Type 0} → (A → B) → Action A → Action B
+seen_by f (accessed a) = accessed (f a)
+seen_by f (rang target bit) = rang target bit
+seen_by f (looked found) = looked found
+seen_by f (cleared target found) = cleared target found
+
+-- the accesses to the region that are among actions
+abbrev pub access_in : {A : Type 0} → Action A → List A
+access_in (accessed a) = a ∷ []
+access_in other = []
+
+unfoldable pub accesses_in : {A : Type 0} → List (Action A) → List A
+accesses_in actions = flat_map access_in actions

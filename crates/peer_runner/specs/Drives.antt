@@ -1,0 +1,149 @@
+-- What drives a peer, and what it did.
+use Rattle.std.specs.Prelude.{ℕ, suc, ◌≡◌, ◌<◌, ◌≤◌, ◌+◌, ◌==◌, Bool, true, false, if◌then◌else◌, Option, Some, None, All, List, [], ◌∷◌, ◌++◌, length, map, Result, Ok, Err, IfOk}
+use Rattle.ivs_base.specs.declared.NoMemory.{NoMemory}
+use Rattle.scenario_text.specs.declared.acts.Act.{Act}
+use Rattle.scenario_text.specs.declared.acts.Act.TheVariants as act
+use Rattle.scenario_text.specs.Scenario.{World}
+use Rattle.scenario_text.specs.Acts.{has_auto, has_storm}
+use Rattle.scenario_text.specs.Running.{has_turn}
+use Rattle.call_grammar.specs.Steps.{Step}
+use Rattle.call_grammar.specs.Ends.{fresh}
+use Rattle.call_grammar.specs.Calls.{Who}
+use Rattle.call_grammar.specs.Places.{Closed}
+use Rattle.link_endpoint.specs.Engine.{Engine}
+use Rattle.link_endpoint.specs.Stands.{StandsAt}
+use Rattle.link_endpoint.specs.Plan.{Plan, fresh_plan}
+use Rattle.lawful_history.specs.Storm.{storm_step, storm_after}
+use Rattle.lawful_history.specs.Peers.{Chooses, Storms, Peer, at_start}
+use Rattle.record_text.specs.declared.own_trace.OwnTrace.{OwnTrace}
+use Rattle.record_text.specs.OwnParts.{part_of}
+use Rattle.peer_runner.specs.declared.key.Key.{Key}
+use Rattle.peer_runner.specs.declared.driving.PeerPlan.{PeerPlan}
+use Rattle.peer_runner.specs.declared.driving.Driver.{Driver}
+use Rattle.peer_runner.specs.declared.driving.Driver.TheVariants.{Auto, Storm}
+use Rattle.peer_runner.specs.Keys.{world_in, who_in, honest_of, IsMadeFor}
+use Rattle.peer_runner.specs.Standings.{Taken, accepted_by, delivered_by, standing}
+use Rattle.peer_runner.specs.Actions.{Action, accesses_in}
+use Rattle.peer_runner.specs.Passes.{shown}
+use Rattle.doorbell_irq.specs.declared.route.Route.{Route}
+use Rattle.peer_runner.specs.declared.ways.Done.{Done}
+use Rattle.peer_runner.specs.Ways.{AreRoutes, AreRoutesOf}
+use Rattle.peer_runner.specs.Turns.{Turn, Running, comes_to, TakesTurns, actions_in}
+use Rattle.peer_runner.specs.OwnRecord.{IsToldBy, told_all, start_of, turns_of}
+use Rattle.peer_runner.specs.Runners.{IsFrame, start_auto, holds_on, marks_in}
+
+-- the steps of a storm in a region of these sizes
+abbrev pub storm_in : Key → ℕ → ℕ → Step
+storm_in key p x = storm_step (world_in key) p x
+
+-- where its generator is after a turn: it stays until the step is done
+abbrev pub storm_on : ℕ → Done → ℕ
+storm_on x done = if holds_on done then x else storm_after x
+
+-- where a peer begins: as an automatic peer with a plan, or as a storm whose generator is at x
+abbrev pub automatic : Plan → Peer
+automatic plan = record at_start { driver = Chooses (start_auto plan.frames plan.expected) }
+
+abbrev pub storming : ℕ → Peer
+storming x = record at_start { driver = Storms x }
+
+abbrev pub starting : Driver → Peer
+starting (Auto plan end) = automatic plan
+starting (Storm seed geometry queue) = storming seed
+
+-- an automatic peer at its start, whose frames may be offered, is driven at an honest end of the link, which is at its start; a storm is driven at a hostile
+-- peer
+pub record MayBeAuto (key : Key) (p : ℕ) (plan : Plan) (end : Engine) : Type 0 where
+  pub link : p < 2
+  pub honest : honest_of key p ≡ true
+  pub stands : StandsAt end (who_in key p) fresh Closed
+  pub begins : plan ≡ record (fresh_plan plan.expected) { frames = plan.frames }
+  pub frames : All (IsFrame key.queue.mtu) plan.frames
+
+abbrev pub MayDrive : Key → ℕ → Driver → Type 0
+MayDrive key p (Auto plan end) = MayBeAuto key p plan end
+MayDrive key p (Storm seed geometry queue) = (p < key.geometry.peers) × (honest_of key p ≡ false) × (geometry ≡ key.geometry) × (queue ≡ key.queue)
+
+-- its list leaves an honest peer where its turns did
+pub record IsLeft (key : Key) (p : ℕ) (list : List (Action Taken)) (taken : List Turn) (after : Peer) : Type 0 where
+  pub end : (standing key p (accesses_in list)).end ≡ after.end
+  pub accepted : (standing key p (accesses_in list)).accepted ≡ accepted_by (marks_in taken)
+  pub delivered : (standing key p (accesses_in list)).delivered ≡ delivered_by (marks_in taken)
+
+-- In a scenario
+
+-- what drives the peer of a scenario, and its turns
+abbrev pub IsDriver : World → ℕ → Driver → Type 0
+IsDriver world p driver = (starting driver ≡ start_of world.acts p) × ((key : Key) → IsMadeFor world key → MayDrive key p driver)
+
+pub record IsPlan (world : World) (p : ℕ) (plan : PeerPlan) : Type 0 where
+  pub runs : has_turn world.acts p ≡ true
+  pub peer : plan.peer ≡ p
+  pub turns : plan.turns ≡ turns_of world.acts p
+  pub driver : IsDriver world p plan.driver
+  pub routed : AreRoutesOf world plan.routes.items
+
+abbrev pub IsPlanFor : World → ℕ → Option PeerPlan → Type 0
+IsPlanFor world p None = has_turn world.acts p ≡ false
+IsPlanFor world p (Some plan) = IsPlan world p plan
+
+-- what an act adds to the plan of peer p, and to the seed of its storm
+abbrev pub gathered : ℕ → Plan → Act → Plan
+gathered p plan (act.Auto q expected) = if q == p then fresh_plan expected else plan
+gathered p plan (act.Offer q frame) = if q == p then record plan { frames = plan.frames ++ frame ∷ [] } else plan
+gathered p plan _ = plan
+
+abbrev pub seeded : ℕ → ℕ → Act → ℕ
+seeded p seed (act.Storm q x) = if q == p then x else seed
+seeded p seed _ = seed
+
+-- the plan of these acts, once they name an automatic peer
+pub record Gathers (mtu p : ℕ) (acts : List Act) (plan : Plan) : Type 0 where
+  pub none : has_auto acts p ≡ false → told_all p at_start acts ≡ at_start
+  pub start : has_auto acts p ≡ true → told_all p at_start acts ≡ automatic plan
+  pub fresh : plan ≡ record (fresh_plan plan.expected) { frames = plan.frames }
+  pub frames : All (IsFrame mtu) plan.frames
+
+-- the seed of these acts, once they name a storm
+pub record Seeds (p : ℕ) (acts : List Act) (seed : ℕ) : Type 0 where
+  pub none : has_storm acts p ≡ false → told_all p at_start acts ≡ at_start
+  pub start : has_storm acts p ≡ true → told_all p at_start acts ≡ storming seed
+
+-- What was done
+
+-- the peer took these turns, and did this to the words
+pub record Did (key : Key) (routes : List Route) (p : ℕ) (start : Peer) (list : List (Action Taken)) : Type 0 where
+  pub turns : List Turn
+  pub after : Running
+  pub takes : TakesTurns (who_in key p) (storm_in key p) routes (comes_to start) turns after
+  pub made : shown list ≡ actions_in routes turns
+  pub left : honest_of key p ≡ true → IsLeft key p list turns after.peer
+
+-- it took at most so many, and tells them where memory was enough
+abbrev pub Drove : Key → List Route → (p turns : ℕ) → Peer → List (Action Taken) → Result OwnTrace NoMemory → Type 0
+Drove key routes p turns start list answer = (did : Did key routes p start list) × (length did.turns ≤ turns)
+    × IfOk answer (λ (t : OwnTrace). IsToldBy p turns did.turns did.after (part_of t))
+
+-- a peer of a scenario did this to the words, and these are the traces of it: one, or none where it has no turns
+abbrev pub HasRun : World → Key → ℕ → List (Action Taken) → List OwnTrace → Type 0
+HasRun world key p list traces =
+    (t : OwnTrace) × (traces ≡ t ∷ []) × (routes : List Route) × AreRoutesOf world routes ×
+    ((did : Did key routes p (start_of world.acts p) list) × IsToldBy p (turns_of world.acts p) did.turns did.after (part_of t))
+
+abbrev pub RanIf : Bool → World → Key → ℕ → List (Action Taken) → List OwnTrace → Type 0
+RanIf true world key p list traces = HasRun world key p list traces
+RanIf false world key p list traces = (list ≡ []) × (traces ≡ [])
+
+abbrev pub RanOne : World → Key → ℕ → List (Action Taken) → List OwnTrace → Type 0
+RanOne world key p list traces = RanIf (has_turn world.acts p) world key p list traces
+
+-- and so the peers from p on
+unfoldable pub RanAll : World → Key → ℕ → List (List (Action Taken)) → List OwnTrace → Type 0
+RanAll world key p [] traces = traces ≡ []
+RanAll world key p (list ∷ lists) traces =
+    (mine rest : List OwnTrace) × (traces ≡ mine ++ rest) × RanOne world key p list mine × RanAll world key (suc p) lists rest
+
+-- both answers are Ok, with such values
+abbrev pub BothOk : {A B E : Type 0} → Result A E → Result B E → (A → B → Type 0) → Type 0
+BothOk (Ok one) (Ok two) P = P one two
+BothOk one two P = ⊥

@@ -1,0 +1,16 @@
+pub mod Keys
+pub mod Actions
+pub mod Interrupts
+pub mod Ways
+pub mod Standings
+pub mod Made
+pub mod Rules
+pub mod Held
+pub mod Passes
+pub mod Turns
+pub mod OwnRecord
+pub mod RunningRecord
+pub mod Runners
+pub mod Drives
+pub mod ListSays
+pub mod RunningLaws

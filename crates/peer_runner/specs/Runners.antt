@@ -1,0 +1,280 @@
+-- An automatic peer between two turns, as the code steps it: its place in the open call, where the own record has what is left of it.
+use Rattle.std.specs.Prelude.{ℕ, ◌≡◌, ◌+◌, ◌<◌, ◌≤◌, ◌&&◌, not, Bool, true, false, if◌then◌else◌, Option, Some, None, All, List, [], ◌∷◌, ◌++◌, length, map, Result, IfOk}
+use Rattle.split_ring.specs.declared.steps.Access.{Access}
+use Rattle.split_ring.specs.declared.steps.Access.TheVariants as access
+use Rattle.section_map.specs.Geometry.{word_count}
+use Rattle.section_map.specs.MayWrite.{MayWrite}
+use Rattle.call_grammar.specs.Steps.{Mark, Step}
+use Rattle.call_grammar.specs.Ends.{End, fresh, end_after}
+use Rattle.call_grammar.specs.Calls.{Who, Call}
+use Rattle.call_grammar.specs.Calls as calls
+use Rattle.call_grammar.specs.Automatic.{Anew, AfterOffer, AfterPoll, choice_of}
+use Rattle.call_grammar.specs.Automatic as automatic
+use Rattle.call_grammar.specs.Places.{Place, Closed, remaining, first_place, access_at, next_place, step_at, marks_at, is_open}
+use Rattle.link_endpoint.specs.Engine.{Engine, is_busy}
+use Rattle.link_endpoint.specs.Stands.{StandsAt}
+use Rattle.link_endpoint.specs.Plan.{Plan, IsChoice}
+use Rattle.link_endpoint.specs.declared.auto.Choice.{Choice}
+use Rattle.link_endpoint.specs.declared.auto.Choice.TheVariants.{Tick, Offer, Poll, Finished}
+use Rattle.lawful_history.specs.declared.line.Line.{Line}
+use Rattle.lawful_history.specs.Entries.{access_lines, mark_line}
+use Rattle.lawful_history.specs.Peers.{Auto, Chooses, Peer, counted_all}
+use Rattle.step_lines.specs.Plans.{IsPlanOf}
+use Rattle.step_lines.specs.Places.{HasFrames}
+use Rattle.peer_runner.specs.declared.key.Key.{Key}
+use Rattle.peer_runner.specs.Held.{Held}
+use Rattle.peer_runner.specs.Keys.{who_in, ground_of, honest_of}
+use Rattle.peer_runner.specs.Standings.{Taken, taken, Stance, settled_place, accepted_by, delivered_by, standing}
+use Rattle.peer_runner.specs.Actions.{Action, accessed, looked, cleared, accesses_in}
+use Rattle.peer_runner.specs.Passes.{added}
+use Rattle.peer_runner.specs.Ways.{route_to, way_to, is_guarded, way_in, rung_by, AreRoutes}
+use Rattle.peer_runner.specs.Interrupts.{MayRing}
+use Rattle.peer_runner.specs.Turns.{Turn, Looks, Makes, Clears, Rings, Running, is_end, is_set, looks_next, cleared_by, lines_of, marks_of, told_in}
+use Rattle.peer_runner.specs.declared.ways.Done.{Done}
+use Rattle.peer_runner.specs.declared.ways.Done.TheVariants.{Stepped, Cleared, Rung}
+use Rattle.doorbell_irq.specs.declared.route.Route.{Route}
+
+-- a frame that may be offered: 14 to MTU + 18 bytes
+abbrev pub IsFrame : ℕ → List ℕ → Type 0
+IsFrame mtu frame = (14 ≤ length frame) × (length frame ≤ mtu + 18) × All (λ byte. byte < 256) frame
+
+-- its end, its place in the open call, what it has to do, whether it has looked since its last step, whether a ring is to come, its list of actions, and the
+-- turns that it took
+pub record Runner : Type 0 where
+  pub end : End
+  pub place : Place
+  pub auto : Auto
+  pub looked : Bool
+  pub ringing : Bool
+  pub actions : List (Action Taken)
+  pub turns : List Turn
+
+abbrev pub start_auto : List (List ℕ) → ℕ → Auto
+start_auto frames expected = record { frames = frames; expected = expected; delivered = 0; round = Anew }
+
+abbrev pub beginning : List (List ℕ) → ℕ → Runner
+beginning frames expected = record { end = fresh; place = Closed; auto = start_auto frames expected; looked = false; ringing = false; actions = []; turns = [] }
+
+-- the peer of the own record
+abbrev pub peer_of : Who → Runner → Peer
+peer_of who r = record { end = r.end; left = remaining who r.place; waiting = []; driver = Chooses r.auto }
+
+abbrev pub running_of : Who → Runner → Running
+running_of who r = record { peer = peer_of who r; looked = r.looked; ringing = r.ringing }
+
+-- What it chooses where no call is open
+
+abbrev pub choice_at : End → Place → Auto → Option automatic.Choice
+choice_at end place auto = if is_open place then None else Some (choice_of end.handshake.phase auto.round auto.frames auto.delivered auto.expected)
+
+abbrev pub chosen : Runner → Option automatic.Choice
+chosen r = choice_at r.end r.place r.auto
+
+abbrev pub round_on : Auto → Option automatic.Choice → Auto
+round_on auto None = auto
+round_on auto (Some automatic.ChoosesTick) = record auto { round = Anew }
+round_on auto (Some (automatic.ChoosesOffer frame)) = record auto { round = AfterOffer }
+round_on auto (Some automatic.ChoosesPoll) = record auto { round = AfterPoll }
+round_on auto (Some automatic.IsFinished) = auto
+
+abbrev pub call_chosen : Option automatic.Choice → Option Call
+call_chosen None = None
+call_chosen (Some automatic.ChoosesTick) = Some calls.Tick
+call_chosen (Some (automatic.ChoosesOffer frame)) = Some (calls.Offer frame)
+call_chosen (Some automatic.ChoosesPoll) = Some calls.Poll
+call_chosen (Some automatic.IsFinished) = None
+
+abbrev pub finishes : Option automatic.Choice → Bool
+finishes None = false
+finishes (Some c) = is_end c
+
+abbrev pub has_finished : Runner → Bool
+has_finished r = finishes (chosen r)
+
+-- the place of its next step
+abbrev pub place_for : Who → End → Place → Option Call → Place
+place_for who end place None = place
+place_for who end place (Some call) = first_place who end call
+
+abbrev pub place_in : Who → Runner → Place
+place_in who r = place_for who r.end r.place (call_chosen (chosen r))
+
+-- What an answer of `choose` says
+
+abbrev pub Matches : Option Choice → List (List ℕ) → Option automatic.Choice → Type 0
+Matches None frames None = Unit {0}
+Matches None frames (Some c) = ⊥
+Matches (Some answer) frames None = ⊥
+Matches (Some answer) frames (Some c) = IsChoice answer frames c
+
+abbrev pub tells_end : Option Choice → Bool
+tells_end (Some Finished) = true
+tells_end _ = false
+
+abbrev pub call_of : Choice → List (List ℕ) → Option Call
+call_of Tick frames = Some calls.Tick
+call_of Offer [] = None
+call_of Offer (frame ∷ frames) = Some (calls.Offer frame)
+call_of Poll frames = Some calls.Poll
+call_of Finished frames = None
+
+abbrev pub call_told : Option Choice → List (List ℕ) → Option Call
+call_told None frames = None
+call_told (Some answer) frames = call_of answer frames
+
+-- a call is begun, of a frame that may be offered
+abbrev pub IsBegun : ℕ → Choice → List (List ℕ) → Type 0
+IsBegun mtu Tick frames = Unit {0}
+IsBegun mtu Offer [] = ⊥
+IsBegun mtu Offer (frame ∷ frames) = (14 ≤ length frame) × (length frame ≤ mtu + 18)
+IsBegun mtu Poll frames = Unit {0}
+IsBegun mtu Finished frames = ⊥
+
+abbrev pub IsBegunIf : ℕ → Option Choice → List (List ℕ) → Type 0
+IsBegunIf mtu None frames = Unit {0}
+IsBegunIf mtu (Some answer) frames = IsBegun mtu answer frames
+
+-- a choice is made where no call is open
+abbrev pub Closes : Option Choice → Bool → Type 0
+Closes None busy = busy ≡ true
+Closes (Some answer) busy = busy ≡ false
+
+-- Its actions
+
+abbrev pub touches : Access → Bool
+touches (access.Read word) = true
+touches (access.Write word value) = true
+touches (access.State state) = true
+touches (access.Ring target vector) = false
+touches access.Nothing = false
+
+abbrev pub taken_of : List Route → Option Call → Access → ℕ → List (Action Taken)
+taken_of routes begins (access.Read word) value = accessed (taken begins (access.Read word) value) ∷ []
+taken_of routes begins (access.Write word written) value = accessed (taken begins (access.Write word written) value) ∷ []
+taken_of routes begins (access.State state) value = accessed (taken begins (access.State state) value) ∷ []
+taken_of routes begins (access.Ring target vector) value = rung_by (way_to routes target vector) target
+taken_of routes begins access.Nothing value = []
+
+-- it reads a word of the region, or writes one of its own
+abbrev pub MayMake : Key → ℕ → Access → Type 0
+MayMake key me (access.Read word) = word < word_count key.geometry
+MayMake key me (access.Write word value) = MayWrite key.geometry me word
+MayMake key me other = Unit {0}
+
+-- the pass with these actions more, of which there is one at most
+abbrev pub made : Held → List (Action Taken) → Held
+made h [] = h
+made h (t ∷ more) = added h t
+
+-- What is done of a step in a turn
+
+-- the value that a read gave
+abbrev pub value_done : Done → ℕ
+value_done (Stepped value) = value
+value_done other = 0
+
+abbrev pub done_of : List Route → Option Call → Access → Done → List (Action Taken)
+done_of routes begins a (Stepped value) = taken_of routes begins a value
+done_of routes begins a (Cleared found) = cleared_by a found
+done_of routes begins a Rung = taken_of routes begins a 0
+
+abbrev pub turn_of : Step → Done → Turn
+turn_of step (Stepped value) = Makes step
+turn_of step (Cleared found) = Clears step found
+turn_of step Rung = Rings step
+
+-- a clear is done first of a doorbell at a peer in one-shot mode, and then, where it found the bit, the ring
+abbrev pub IsDone : (ringing guarded : Bool) → Done → Type 0
+IsDone ringing guarded (Stepped value) = (ringing ≡ false) × (guarded ≡ false)
+IsDone ringing guarded (Cleared found) = (ringing ≡ false) × (guarded ≡ true)
+IsDone ringing guarded Rung = (ringing ≡ true) × (guarded ≡ true)
+
+-- the lines of it, with these marks
+abbrev pub done_lines : ℕ → Access → Done → List Mark → List Line
+done_lines p a (Stepped value) marks = lines_of p a value marks
+done_lines p a (Cleared found) marks = access_lines p a 0 ++ map (mark_line p) marks
+done_lines p a Rung marks = map (mark_line p) marks
+
+-- and of a step without marks, whose access is no read
+abbrev pub drawn_lines : ℕ → Access → Done → List Line
+drawn_lines p a Rung = []
+drawn_lines p a other = access_lines p a 0
+
+-- it was a clear that found the bit, and so the ring is to come
+abbrev pub holds_on : Done → Bool
+holds_on (Cleared found) = is_set found
+holds_on other = false
+
+-- the ring of this doorbell may be made
+abbrev pub MayRingBy : List Route → Access → List (Action Taken) → Type 0
+MayRingBy routes (access.Ring target vector) list = (is_guarded (way_to routes target vector) ≡ true) × MayRing target list
+MayRingBy routes other list = ⊥
+
+-- A turn
+
+-- it looks first
+abbrev pub looks_now : Route → (busy before : Bool) → Bool
+looks_now own busy before = own.enabled && (not before && not busy)
+
+abbrev pub looked_on : Runner → ℕ → Runner
+looked_on r found = record r { looked = true; actions = r.actions ++ looked found ∷ []; turns = r.turns ++ Looks found ∷ [] }
+
+-- the step goes on, or is held for its ring
+abbrev pub held_on : List Route → Who → Runner → Done → Runner
+held_on routes who r done = record r {
+  looked = false;
+  ringing = true;
+  actions = r.actions ++ done_of routes (call_chosen (chosen r)) (access_at who (place_in who r)) done;
+  turns = r.turns ++ turn_of (step_at who (place_in who r) (value_done done)) done ∷ [];
+}
+
+abbrev pub stepped_on : List Route → Who → Runner → Done → Runner
+stepped_on routes who r done = record {
+  end = end_after r.end (step_at who (place_in who r) (value_done done));
+  place = next_place who (place_in who r) (value_done done);
+  auto = counted_all (round_on r.auto (chosen r)) (marks_at who (place_in who r) (value_done done));
+  looked = false;
+  ringing = false;
+  actions = r.actions ++ done_of routes (call_chosen (chosen r)) (access_at who (place_in who r)) done;
+  turns = r.turns ++ turn_of (step_at who (place_in who r) (value_done done)) done ∷ [];
+}
+
+abbrev pub turned : List Route → Who → Runner → Done → Runner
+turned routes who r done = if holds_on done then held_on routes who r done else stepped_on routes who r done
+
+-- the lines that it tells
+abbrev pub told_on : Who → Runner → Done → List Line
+told_on who r done = told_in who.me (turn_of (step_at who (place_in who r) (value_done done)) done)
+
+-- all marks of turns
+unfoldable pub marks_in : List Turn → List Mark
+marks_in [] = []
+marks_in (turn ∷ turns) = marks_of turn ++ marks_in turns
+
+-- where its list leaves the runner
+abbrev pub stance_of : Runner → Stance
+stance_of r = record { end = r.end; place = settled_place r.place; accepted = accepted_by (marks_in r.turns); delivered = delivered_by (marks_in r.turns) }
+
+-- the endpoint stands where the runner is, its list leaves it there, its frames may be offered, and a ring that is to come may be made
+pub record Stands (key : Key) (me : ℕ) (routes : List Route) (r : Runner) (end : Engine) : Type 0 where
+  pub stands : StandsAt end (who_in key me) r.end r.place
+  pub standing : standing key me (accesses_in r.actions) ≡ stance_of r
+  pub bytes : HasFrames r.place
+  pub frames : All (IsFrame key.queue.mtu) r.auto.frames
+  pub rings : r.ringing ≡ true → MayRingBy routes (access_at (who_in key me) r.place) r.actions
+
+-- the pass is that of this peer alone, with its list
+pub record IsThere (key : Key) (me : ℕ) (routes : List Route) (r : Runner) (pass : Held) (end : Engine) : Type 0 where
+  pub stands : Stands key me routes r end
+  pub from : pass.from ≡ me
+  pub lists : pass.lists ≡ r.actions ∷ []
+
+-- a turn is to come that is no look, for which this was chosen
+pub record Turns (key : Key) (me : ℕ) (routes : List Route) (r : Runner) (choice : Option Choice) (ringing : Bool)
+    (pass : Held) (plan : Plan) (end : Engine) : Type 0 where
+  pub there : IsThere key me routes r pass end
+  pub planned : IsPlanOf plan (round_on r.auto (chosen r))
+  pub matches : Matches choice plan.frames (chosen r)
+  pub closes : Closes choice (is_busy end)
+  pub goes : has_finished r ≡ false
+  pub rings : r.ringing ≡ ringing

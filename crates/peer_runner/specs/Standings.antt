@@ -1,0 +1,109 @@
+-- What a peer does to the words, and where its list of accesses leaves it.
+use Rattle.std.specs.Prelude.{ℕ, ◌≡◌, ◌≢◌, Bool, true, Option, Some, None, List, [], ◌∷◌, ◌++◌, if◌then◌else◌}
+use Rattle.std.specs.List.{flat_map}
+use Rattle.split_ring.specs.declared.steps.Access.{Access}
+use Rattle.split_ring.specs.declared.steps.Access.TheVariants as access
+use Rattle.call_grammar.specs.Steps.{Mark, Accept, Deliver, value_given}
+use Rattle.call_grammar.specs.Ends.{End, fresh, end_after}
+use Rattle.call_grammar.specs.Calls.{Who, Call, Stop}
+use Rattle.call_grammar.specs.Places.{Place, Closed, Downed, RingingOffer, RingingPoll, first_place, access_at, next_place, marks_at, step_at, is_open}
+use Rattle.ends_pair.specs.Ground.{Ground, IsGivenTo}
+use Rattle.peer_runner.specs.declared.key.Key.{Key}
+use Rattle.peer_runner.specs.Keys.{who_in, ground_of, honest_of}
+
+-- one access to a word: a read with the value that it gave, or a write of a word or of State, with 0
+pub record Touch : Type 0 where
+  pub access : Access
+  pub value : ℕ
+
+abbrev pub touch : Access → ℕ → Touch
+touch a value = record { access = a; value = value }
+
+-- the same, with the call that the access begins, if it begins one: a read of the used index doesn't tell the frame of its offer
+pub record Taken : Type 0 where
+  pub begins : Option Call
+  pub access : Access
+  pub value : ℕ
+
+abbrev pub taken : Option Call → Access → ℕ → Taken
+taken begins a value = record { begins = begins; access = a; value = value }
+
+abbrev pub touch_of : Taken → Touch
+touch_of t = touch t.access (value_given t.access t.value)
+
+-- the frames that marks accept and deliver
+abbrev pub accepted_once : Mark → List (List ℕ)
+accepted_once (Accept frame) = frame ∷ []
+accepted_once _ = []
+
+abbrev pub delivered_once : Mark → List (List ℕ)
+delivered_once (Deliver frame) = frame ∷ []
+delivered_once _ = []
+
+unfoldable pub accepted_by : List Mark → List (List ℕ)
+accepted_by marks = flat_map accepted_once marks
+
+unfoldable pub delivered_by : List Mark → List (List ℕ)
+delivered_by marks = flat_map delivered_once marks
+
+-- an end, its place in the open call, and all frames that it accepted and delivered, in whichever sessions
+pub record Stance : Type 0 where
+  pub end : End
+  pub place : Place
+  pub accepted : List (List ℕ)
+  pub delivered : List (List ℕ)
+
+abbrev pub outset : Stance
+outset = record { end = fresh; place = Closed; accepted = []; delivered = [] }
+
+-- a call begins, and the step at its place is taken
+abbrev pub begun : Who → Stance → Call → Stance
+begun who s call = record s { place = first_place who s.end call }
+
+abbrev pub moved : Who → Stance → ℕ → Stance
+moved who s value = record {
+  end = end_after s.end (step_at who s.place value);
+  place = next_place who s.place value;
+  accepted = s.accepted ++ accepted_by (marks_at who s.place value);
+  delivered = s.delivered ++ delivered_by (marks_at who s.place value);
+}
+
+-- a doorbell and a call that is down touch no word, and leave the call closed
+unfoldable pub settled_place : Place → Place
+settled_place RingingOffer = Closed
+settled_place RingingPoll = Closed
+settled_place Downed = Closed
+settled_place place = place
+
+abbrev pub settled : Stance → Stance
+settled s = record s { place = settled_place s.place }
+
+abbrev pub begun_if : Who → Stance → Option Call → Stance
+begun_if who s None = s
+begun_if who s (Some call) = begun who s call
+
+-- where an access leaves an honest end, and where it leaves peer p: a hostile peer stands nowhere
+abbrev pub after_access : Who → Stance → Taken → Stance
+after_access who s t = settled (moved who (begun_if who s t.begins) t.value)
+
+unfoldable pub stand : Key → ℕ → Stance → Taken → Stance
+stand key p s t = if honest_of key p then after_access (who_in key p) s t else s
+
+unfoldable pub stood : Key → ℕ → Stance → List Taken → Stance
+stood key p s [] = s
+stood key p s (t ∷ list) = stood key p (stand key p s t) list
+
+-- where its list of accesses leaves a peer
+unfoldable pub standing : Key → ℕ → List Taken → Stance
+standing key p list = stood key p outset list
+
+-- a call begins where none is open: it is no Stop, and offers a frame that may be offered
+abbrev pub Begins : Ground → Stance → Option Call → Type 0
+Begins over s None = Unit {0}
+Begins over s (Some call) = (s.place ≡ Closed) × (call ≢ Stop) × IsGivenTo over call
+
+-- the next access of an honest peer
+pub record IsNext (key : Key) (p : ℕ) (s : Stance) (begins : Option Call) (a : Access) : Type 0 where
+  pub at_call : Begins (ground_of key) s begins
+  pub goes : is_open (begun_if (who_in key p) s begins).place ≡ true
+  pub is : a ≡ access_at (who_in key p) (begun_if (who_in key p) s begins).place

@@ -1,0 +1,159 @@
+-- The turns of a running peer.
+use Rattle.std.specs.Prelude.{ℕ, zero, suc, ◌≡◌, ◌==◌, ◌&&◌, not, Bool, true, false, if◌then◌else◌, List, [], ◌∷◌, ◌++◌, map}
+use Rattle.std.specs.List.{flat_map}
+use Rattle.std.specs.Int.{bit_at}
+use Rattle.split_ring.specs.declared.steps.Access.{Access}
+use Rattle.split_ring.specs.declared.steps.Access.TheVariants as access
+use Rattle.call_grammar.specs.Steps.{Mark, Saw, Reclaim, Full, Look, Done, Over, Step}
+use Rattle.call_grammar.specs.Trees.{CallTree, Ended, Goes}
+use Rattle.call_grammar.specs.Ends.{End}
+use Rattle.call_grammar.specs.Calls.{Who}
+use Rattle.call_grammar.specs.Automatic.{Choice, IsFinished, choice_of}
+use Rattle.lawful_history.specs.declared.line.Line.{Line}
+use Rattle.lawful_history.specs.declared.line.Line.TheVariants as line
+use Rattle.lawful_history.specs.Entries.{access_lines, mark_line}
+use Rattle.lawful_history.specs.Peers.{Driver, Chooses, Storms, Peer, opened, stepped}
+use Rattle.lawful_history.specs.Storm.{storm_after}
+use Rattle.doorbell_irq.specs.declared.route.Route.{Route}
+use Rattle.peer_runner.specs.Standings.{Touch, touch}
+use Rattle.peer_runner.specs.Actions.{Action, accessed, looked, cleared}
+use Rattle.peer_runner.specs.Ways.{route_to, way_to, is_guarded, way_in, rung_by}
+
+-- A turn: a look, which finds this word; a step with all that it does; and of the step of a doorbell at a peer in one-shot mode the clear, which finds this
+-- word, and the ring behind it
+pub data Turn : Type 0 where
+  Looks : (found : ℕ) → Turn
+  Makes : (step : Step) → Turn
+  Clears : (step : Step) → (found : ℕ) → Turn
+  Rings : (step : Step) → Turn
+
+-- A running peer between two turns: its end, its calls and its driver; whether it has looked since its last step; and whether the ring of a doorbell is to
+-- come, whose clear found the bit
+pub record Running : Type 0 where
+  pub peer : Peer
+  pub looked : Bool
+  pub ringing : Bool
+
+abbrev pub comes_to : Peer → Running
+comes_to peer = record { peer = peer; looked = false; ringing = false }
+
+-- Which turn is to come
+
+-- a step is the next one of the open call, else the first one of the call that the automatic peer chooses; or it is the step of the storm
+abbrev pub TakesStep : Who → (ℕ → Step) → Driver → Peer → Step → Peer → Type 0
+TakesStep who storm (Storms x) peer step after = (step ≡ storm x) × (after ≡ record peer { driver = Storms (storm_after x) })
+TakesStep who storm _ peer step after = (left : CallTree) × Goes (opened who peer).left step left × (after ≡ stepped (opened who peer) step left)
+
+-- an automatic peer that takes interrupts looks once before each choice
+abbrev pub is_choosing : CallTree → Driver → Bool
+is_choosing Ended (Chooses auto) = true
+is_choosing _ _ = false
+
+abbrev pub looks_next : Route → Running → Bool
+looks_next own run = own.enabled && (not run.looked && is_choosing run.peer.left run.peer.driver)
+
+-- the next step leads the peer there: no look comes first; and its ring is to come, and its doorbell is at a peer in one-shot mode, or not
+pub record StepsTo (who : Who) (storm : ℕ → Step) (routes : List Route) (run : Running) (ringing guarded : Bool) (step : Step) (after : Peer) : Type 0 where
+  pub first : looks_next (route_to routes who.me) run ≡ false
+  pub rings : run.ringing ≡ ringing
+  pub guards : is_guarded (way_in routes step.access) ≡ guarded
+  pub takes : TakesStep who storm run.peer.driver run.peer step after
+
+-- where a clear found the bit, the step isn't done, and its ring is to come
+abbrev pub is_set : ℕ → Bool
+is_set found = bit_at found 0 == 1
+
+abbrev pub cleared_to : (found : ℕ) → (before after : Peer) → Running
+cleared_to found before after = if is_set found then record { peer = before; looked = false; ringing = true } else comes_to after
+
+abbrev pub TakesTurn : Who → (ℕ → Step) → List Route → Running → Turn → Running → Type 0
+TakesTurn who storm routes run (Looks found) after = (looks_next (route_to routes who.me) run ≡ true) × (after ≡ record run { looked = true })
+TakesTurn who storm routes run (Makes step) after = (next : Peer) × StepsTo who storm routes run false false step next × (after ≡ comes_to next)
+TakesTurn who storm routes run (Clears step found) after =
+    (next : Peer) × StepsTo who storm routes run false true step next × (after ≡ cleared_to found run.peer next)
+TakesTurn who storm routes run (Rings step) after = (next : Peer) × StepsTo who storm routes run true true step next × (after ≡ comes_to next)
+
+unfoldable pub TakesTurns : Who → (ℕ → Step) → List Route → Running → List Turn → Running → Type 0
+TakesTurns who storm routes run [] after = after ≡ run
+TakesTurns who storm routes run (turn ∷ turns) after = (mid : Running) × TakesTurn who storm routes run turn mid × TakesTurns who storm routes mid turns after
+
+-- no call is open, and the automatic peer is finished
+abbrev pub is_end : Choice → Bool
+is_end IsFinished = true
+is_end _ = false
+
+abbrev pub has_ended : CallTree → Bool
+has_ended Ended = true
+has_ended _ = false
+
+abbrev pub rests : End → Driver → Bool
+rests end (Chooses auto) = is_end (choice_of end.handshake.phase auto.round auto.frames auto.delivered auto.expected)
+rests end _ = false
+
+abbrev pub is_finished : Peer → Bool
+is_finished peer = has_ended peer.left && rests peer.end peer.driver
+
+-- What a turn does to the words
+
+-- a step makes its access to the region; a doorbell its ring, if it has one
+abbrev pub acted_by : List Route → Access → ℕ → List (Action Touch)
+acted_by routes (access.Read word) value = accessed (touch (access.Read word) value) ∷ []
+acted_by routes (access.Write word written) value = accessed (touch (access.Write word written) value) ∷ []
+acted_by routes (access.State state) value = accessed (touch (access.State state) value) ∷ []
+acted_by routes (access.Ring target vector) value = rung_by (way_to routes target vector) target
+acted_by routes access.Nothing value = []
+
+abbrev pub cleared_by : {A : Type 0} → Access → ℕ → List (Action A)
+cleared_by (access.Ring target vector) found = cleared target found ∷ []
+cleared_by other found = []
+
+abbrev pub acted_in : List Route → Turn → List (Action Touch)
+acted_in routes (Looks found) = looked found ∷ []
+acted_in routes (Makes step) = acted_by routes step.access step.value
+acted_in routes (Clears step found) = cleared_by step.access found
+acted_in routes (Rings step) = acted_by routes step.access step.value
+
+unfoldable pub actions_in : List Route → List Turn → List (Action Touch)
+actions_in routes turns = flat_map (acted_in routes) turns
+
+-- What is told of it
+
+-- a look tells the bits below n that it found
+abbrev pub heard_bit : ℕ → ℕ → ℕ → List Line
+heard_bit me bit found = if bit_at found bit == 0 then [] else line.Interrupt me bit ∷ []
+
+unfoldable pub heard : ℕ → ℕ → ℕ → List Line
+heard zero me found = []
+heard (suc n) me found = heard n me found ++ heard_bit me n found
+
+-- a call is quiet that finds nothing, all in one step, a read: a Tick that ends without a State step, a Poll that finds no frame, an Offer that reclaims none
+-- and meets a full ring
+abbrev pub finds_nothing : List Mark → Bool
+finds_nothing (Saw value ∷ Over ∷ []) = true
+finds_nothing (Look zero ∷ Done ∷ []) = true
+finds_nothing (Reclaim zero ∷ Full ∷ []) = true
+finds_nothing _ = false
+
+abbrev pub is_quiet : Access → List Mark → Bool
+is_quiet (access.Read word) marks = finds_nothing marks
+is_quiet other marks = false
+
+-- a step is told by its access and its marks, unless its call is quiet
+abbrev pub lines_of : ℕ → Access → ℕ → List Mark → List Line
+lines_of p a value marks = if is_quiet a marks then [] else access_lines p a value ++ map (mark_line p) marks
+
+-- the doorbell's line stands at its clear, and the marks of the step at the end of it
+abbrev pub marks_of : Turn → List Mark
+marks_of (Looks found) = []
+marks_of (Makes step) = step.marks
+marks_of (Clears step found) = if is_set found then [] else step.marks
+marks_of (Rings step) = step.marks
+
+abbrev pub told_in : ℕ → Turn → List Line
+told_in p (Looks found) = heard 64 p found
+told_in p (Makes step) = lines_of p step.access step.value step.marks
+told_in p (Clears step found) = access_lines p step.access step.value ++ map (mark_line p) (marks_of (Clears step found))
+told_in p (Rings step) = map (mark_line p) step.marks
+
+unfoldable pub told_of : ℕ → List Turn → List Line
+told_of p turns = flat_map (told_in p) turns

@@ -1,0 +1,79 @@
+//! What the rule says of the words and of the lists of accesses, between any two accesses of whatever threads (`specs/RunningLaws`). No function here
+//! does anything: each is a law, which its contract states.
+ghost use Rattle.peer_runner.specs.RunningLaws.{WordsAreMade, StoresAreOwned, InterruptsAreRung, OfEachHonest, OfTwoHonest, AccessesAreCalls, WordsAreWritten, PhasesShow, FlightIsSpelled, OpenOfferStores, HeldIsInRange, NeverRefuses, OtherOpensNone, OneSession, WhereEitherAttends, PairKeeps, HeldIsAsSent, HostileWordsAreFree};
+
+/// The words of the region are what the accesses of all lists made of them, one after another in some order.
+pub fn words_are_made()
+    ensures { WordsAreMade }
+{}
+
+/// Each store of a peer is to a word that it may write.
+pub fn stores_are_owned()
+    ensures { StoresAreOwned }
+{}
+
+/// No interrupt is found that wasn't rung, Interrupt Control is cleared once for each time that it was set, and a one-shot peer is rung behind a clear alone.
+pub fn interrupts_are_rung()
+    ensures { InterruptsAreRung }
+{}
+
+/// Each access in the list of an honest link peer is the next one of its calls.
+pub fn accesses_are_calls()
+    ensures { OfEachHonest AccessesAreCalls }
+{}
+
+/// Each word of the section of an honest link peer, and its state word, is what its list of accesses wrote last, or 0.
+pub fn words_are_written()
+    ensures { OfEachHonest WordsAreWritten }
+{}
+
+/// What an honest link peer shows of its phase: nothing is written in RESET, and its section is 0 as far as a tick has cleared it, and in READY.
+pub fn phases_show()
+    ensures { OfEachHonest PhasesShow }
+{}
+
+/// No more frames of an honest link peer are in flight than may be, and its section spells each of them, whatever the other stores.
+pub fn flight_is_spelled()
+    ensures { OfEachHonest FlightIsSpelled }
+{}
+
+/// An open offer has stored in the slot, the descriptor and the entry of its own frame alone, which no frame in flight has.
+pub fn offers_store_apart()
+    ensures { OfEachHonest OpenOfferStores }
+{}
+
+/// What an honest link peer holds of what it has read is within the ranges of its fields, by its checks alone.
+pub fn held_is_in_range()
+    ensures { OfEachHonest HeldIsInRange }
+{}
+
+/// Two honest link peers never refuse each other.
+pub fn honest_peers_never_refuse()
+    ensures { OfTwoHonest NeverRefuses }
+{}
+
+/// While one of two honest link peers attends to the other's session, the other opens none.
+pub fn other_opens_none()
+    ensures { OfTwoHonest OtherOpensNone }
+{}
+
+/// Each of two honest link peers opens at most one session, and stays in it.
+pub fn one_session()
+    ensures { OfTwoHonest OneSession }
+{}
+
+/// What two honest link peers keep between them as soon as one of them attends: the counts of frames in their order, the frames delivered as the first ones
+/// accepted, and those in flight as the words spell them.
+pub fn pair_keeps()
+    ensures { OfTwoHonest (WhereEitherAttends PairKeeps) }
+{}
+
+/// What an open call of one of two honest link peers holds of what it has read is what the other one has written.
+pub fn held_is_as_sent()
+    ensures { OfTwoHonest HeldIsAsSent }
+{}
+
+/// The words of a hostile peer may hold whatever number below 2^32.
+pub fn hostile_words_are_free()
+    ensures { HostileWordsAreFree }
+{}

@@ -1,0 +1,144 @@
+//! The lines of a running peer's steps.
+ghost use Rattle.std.specs.Prelude.{◌≡◌, ◌<◌, ◌++◌, ◌∷◌, [], map, OnOk};
+ghost use Rattle.lawful_history.specs.Entries.{access_lines, mark_line};
+ghost use Rattle.link_endpoint.specs.Engine.{offered, delivered};
+ghost use Rattle.link_endpoint.specs.Stands.{marks_between};
+ghost use Rattle.std.specs.Int.{bit_at};
+ghost use Rattle.peer_runner.specs.Turns.{heard, heard_bit, finds_nothing, is_quiet, lines_of};
+ghost use Rattle.peer_runner.specs.Runners.{done_lines};
+
+use crate::ways::Done;
+use ivs_base::NoMemory;
+use lawful_history::{Line, Lines};
+use link_endpoint::Endpoint;
+use split_ring::steps::{Access, Note};
+use std::alloc::Global;
+use step_lines::line_of;
+
+/// Tells an access.
+pub fn tell_access(me: u32, access: Access, value: u32, lines: &mut Lines) -> Result<(), NoMemory>
+    ensures { OnOk result (lines.new ≡ lines.old ++ access_lines me access value) }
+{
+    let line = match access {
+        Access::Read(word) => Line::Read {
+            peer: me,
+            word,
+            value,
+        },
+        Access::Write(word, value) => Line::Write {
+            peer: me,
+            word,
+            value,
+        },
+        Access::State(value) => Line::State { peer: me, value },
+        Access::Ring { target, vector } => Line::Doorbell {
+            peer: me,
+            target,
+            vector,
+        },
+        Access::Nothing => return Ok(()),
+    };
+    lines.push(line)
+}
+
+/// Tells the notes of a step.
+fn tell_notes(
+    alloc: Global,
+    me: u32,
+    end: &Endpoint,
+    notes: &[Note],
+    lines: &mut Lines,
+) -> Result<(), NoMemory>
+    ensures { OnOk result (lines.new ≡ lines.old ++ map (mark_line me) (marks_between (offered end.now) (delivered end.now) notes.now)) }
+{
+    for note in notes {
+        let line = line_of(alloc, me, end, *note)?;
+        lines.push(line)?;
+    }
+    Ok(())
+}
+
+/// Are these the notes of a call that found nothing, all in one step?
+fn finds_nothing(end: &Endpoint, notes: &[Note]) -> bool
+    ensures { result ≡ finds_nothing (marks_between (offered end.now) (delivered end.now) notes.now) }
+{
+    matches!(
+        notes,
+        [Note::Saw(_), Note::Over] | [Note::Look(0), Note::Done] | [Note::Reclaim(0), Note::Full]
+    )
+}
+
+/// Is this the step of a quiet call?
+fn is_quiet(access: Access, end: &Endpoint, notes: &[Note]) -> bool
+    ensures { result ≡ is_quiet access (marks_between (offered end.now) (delivered end.now) notes.now) }
+{
+    match access {
+        Access::Read(_) => finds_nothing(end, notes),
+        Access::Write(..) | Access::State(_) | Access::Ring { .. } | Access::Nothing => false,
+    }
+}
+
+/// Tells a step of a call, unless the call is quiet.
+fn tell(
+    alloc: Global,
+    me: u32,
+    access: Access,
+    value: u32,
+    end: &Endpoint,
+    notes: &[Note],
+    lines: &mut Lines,
+) -> Result<(), NoMemory>
+    ensures { OnOk result (lines.new ≡ lines.old ++ lines_of me access value (marks_between (offered end.now) (delivered end.now) notes.now)) }
+{
+    if is_quiet(access, end, notes) {
+        return Ok(());
+    }
+    tell_access(me, access, value, lines)?;
+    tell_notes(alloc, me, end, notes, lines)
+}
+
+/// Tells what was done of a step that is done with it.
+pub fn tell_done(
+    alloc: Global,
+    me: u32,
+    access: Access,
+    done: Done,
+    end: &Endpoint,
+    notes: &[Note],
+    lines: &mut Lines,
+) -> Result<(), NoMemory>
+    ensures { OnOk result (lines.new ≡ lines.old ++ done_lines me access done (marks_between (offered end.now) (delivered end.now) notes.now)) }
+{
+    match done {
+        Done::Stepped(value) => tell(alloc, me, access, value, end, notes, lines),
+        Done::Cleared(_) => {
+            tell_access(me, access, 0, lines)?;
+            tell_notes(alloc, me, end, notes, lines)
+        }
+        Done::Rung => tell_notes(alloc, me, end, notes, lines),
+    }
+}
+
+/// Tells one bit of what a look found.
+fn tell_bit(me: u32, bit: u32, found: u64, lines: &mut Lines) -> Result<(), NoMemory>
+    requires { bit < 64 }
+    ensures { OnOk result (lines.new ≡ lines.old ++ heard_bit me bit found) }
+{
+    if (found >> bit) & 1 == 0 {
+        return Ok(());
+    }
+    lines.push(Line::Interrupt {
+        peer: me,
+        vector: bit,
+    })
+}
+
+/// Tells the bits that a look found, ascending.
+pub fn tell_heard(me: u32, found: u64, lines: &mut Lines) -> Result<(), NoMemory>
+    ensures { OnOk result (lines.new ≡ lines.old ++ heard 64 me found) }
+{
+    for bit in 0..64 {
+        tell_bit(me, bit, found, lines)?;
+    }
+    Ok(())
+}

@@ -1,0 +1,155 @@
+//! The peers of a scenario, each in a thread of its own.
+ghost use Rattle.std.specs.Prelude.{◌≡◌, ◌++◌, ◌∷◌, [], ◌<◌, ◌≤◌, ◌+◌, false, None, List, length, replicate, map, IfOk, OnOk};
+ghost use Rattle.std.specs.Thread.{IsSync};
+ghost use Rattle.scenario_text.specs.Running.{not_running};
+ghost use Rattle.scenario_text.specs.Spelling.{world_of};
+ghost use Rattle.record_text.specs.OwnParts.{part_of};
+ghost use Rattle.record_text.specs.Parts.{peers_of, running_peers};
+ghost use Rattle.peer_runner.specs.Keys.{IsMadeFor, is_unbuilt};
+ghost use Rattle.peer_runner.specs.Actions.{Action};
+ghost use Rattle.peer_runner.specs.Standings.{Taken};
+ghost use Rattle.peer_runner.specs.Passes.{IsOf, IsWhole, IsUnused, held};
+ghost use Rattle.peer_runner.specs.Drives.{RanOne, RanAll, BothOk};
+ghost use Rattle.peer_runner.specs.RunningRecord.{IsRunOf};
+
+use crate::driving::drive;
+use crate::gate::Gate;
+use crate::plans::plan_of;
+use crate::words::{Pass, Words, join_pass, learn, split_pass};
+use ivs_base::NoMemory;
+use record_text::{OwnTrace, OwnTraces, RunTrace};
+use scenario_text::Scenario;
+use std::alloc::Global;
+use std::thread::{Threads, join};
+
+/// One peer runs, if it has a turn line: its trace, or none.
+fn run_one<G: Gate>(
+    alloc: Global,
+    words: &Words,
+    pass: &mut Pass,
+    scenario: &Scenario,
+    me: u32,
+    gate: &G,
+) -> Result<Vec<OwnTrace>, NoMemory>
+    requires running { (not_running (world_of scenario.now) ≡ None) × (is_unbuilt scenario.now.geometry ≡ false) }
+    requires made { IsMadeFor (world_of scenario.now) words.now.shared.key }
+    requires of { IsOf words.now.shared.table_id words.now.shared.key pass.old }
+    requires alone { (pass.old.from ≡ me) × (pass.old.lists ≡ [] ∷ []) }
+    ensures { (list : List (Action Taken)) × (pass.new ≡ held pass.old.table_id me (list ∷ []))
+        × IfOk result (λ traces. RanOne (world_of scenario.now) words.now.shared.key me list traces.items) }
+{
+    let Some(plan) = plan_of(alloc, scenario, me)? else {
+        return Ok(Vec::new(alloc));
+    };
+    let trace = drive(alloc, words, pass, plan, gate)?;
+    let mut traces = Vec::new(alloc);
+    traces.push(trace)?;
+    Ok(traces)
+}
+
+/// So many peers from one on run, each in a thread of its own, by joins in halves. The pass comes back.
+fn run_range<R: Threads + Sync, G: Gate + Sync>(
+    rt: &R,
+    alloc: Global,
+    words: &Words,
+    mut pass: Pass,
+    scenario: &Scenario,
+    from: u32,
+    count: u32,
+    gate: &G,
+) -> (Result<Vec<OwnTrace>, NoMemory>, Pass)
+    requires running { (not_running (world_of scenario.now) ≡ None) × (is_unbuilt scenario.now.geometry ≡ false) }
+    requires made { IsMadeFor (world_of scenario.now) words.now.shared.key }
+    requires of { IsOf words.now.shared.table_id words.now.shared.key pass }
+    requires whole { (pass.from ≡ from) × (pass.lists ≡ replicate count []) }
+    ensures { (lists : List (List (Action Taken))) × (result.1 ≡ held pass.table_id from lists) × (length lists ≡ count)
+        × IfOk result.0 (λ traces. RanAll (world_of scenario.now) words.now.shared.key from lists traces.items) }
+{
+    if count == 0 {
+        return (Ok(Vec::new(alloc)), pass);
+    }
+    if count == 1 {
+        let traces = run_one(alloc, words, &mut pass, scenario, from, gate);
+        return (traces, pass);
+    }
+    let half = count / 2;
+    let middle = from + half;
+    let rest = count - half;
+    let upper = split_pass(words, &mut pass, middle);
+    let ((first, mut lower), (second, upper)) = join(
+        rt,
+        move || -> (Result<Vec<OwnTrace>, NoMemory>, Pass)
+            requires sync { IsSync R.row × IsSync G.row }
+            requires running { (not_running (world_of scenario.now) ≡ None) × (is_unbuilt scenario.now.geometry ≡ false) }
+            requires made { IsMadeFor (world_of scenario.now) words.now.shared.key }
+            requires of { IsOf words.now.shared.table_id words.now.shared.key pass }
+            requires whole { (pass.from ≡ from) × (pass.lists ≡ replicate half []) }
+            ensures { (lists : List (List (Action Taken))) × (result.1 ≡ held pass.table_id from lists) × (length lists ≡ half)
+                × IfOk result.0 (λ traces. RanAll (world_of scenario.entry.now) words.entry.now.shared.key from lists traces.items) }
+        { run_range(rt, alloc, words, pass, scenario, from, half, gate) },
+        move || -> (Result<Vec<OwnTrace>, NoMemory>, Pass)
+            requires sync { IsSync R.row × IsSync G.row }
+            requires running { (not_running (world_of scenario.now) ≡ None) × (is_unbuilt scenario.now.geometry ≡ false) }
+            requires made { IsMadeFor (world_of scenario.now) words.now.shared.key }
+            requires of { IsOf words.now.shared.table_id words.now.shared.key upper }
+            requires whole { (upper.from ≡ middle) × (upper.lists ≡ replicate rest []) }
+            ensures { (lists : List (List (Action Taken))) × (result.1 ≡ held upper.table_id middle lists) × (length lists ≡ rest)
+                × IfOk result.0 (λ traces. RanAll (world_of scenario.entry.now) words.entry.now.shared.key middle lists traces.items) }
+        { run_range(rt, alloc, words, upper, scenario, middle, rest, gate) },
+    );
+    join_pass(words, &mut lower, upper);
+    (append(first, second), lower)
+}
+
+/// The traces of both halves.
+fn append(
+    first: Result<Vec<OwnTrace>, NoMemory>,
+    second: Result<Vec<OwnTrace>, NoMemory>,
+) -> Result<Vec<OwnTrace>, NoMemory>
+    ensures { IfOk result (λ all. BothOk first second (λ one two. all.items ≡ one.items ++ two.items)) }
+{
+    let mut all = first?;
+    all.append(&mut second?)?;
+    Ok(all)
+}
+
+/// The traces as a list of their own.
+fn listed(alloc: Global, traces: Vec<OwnTrace>) -> Result<OwnTraces, NoMemory>
+    ensures { IfOk result (λ list. list ≡ map part_of traces.items) }
+{
+    let mut list = OwnTraces::new(alloc);
+    for trace in traces {
+        list.push(trace)?;
+    }
+    Ok(list)
+}
+
+/// Runs the peers of a scenario that have a turn line, each in a thread of its own. The words and the pass were made by `words_for`
+/// for this scenario, and no access was made by the pass. After either answer the pass has all peers again, with the list of the
+/// accesses of each.
+///
+/// NoMemory comes only where memory ran out, in whichever thread; none is left then.
+pub fn run_peers<R: Threads + Sync, G: Gate + Sync>(
+    rt: &R,
+    alloc: Global,
+    words: &Words,
+    pass: &mut Pass,
+    scenario: Scenario,
+    gate: &G,
+) -> Result<RunTrace, NoMemory>
+    requires running { not_running (world_of scenario) ≡ None }
+    requires built { is_unbuilt scenario.geometry ≡ false }
+    requires whole { IsWhole (world_of scenario) words.now.shared.table_id words.now.shared.key pass.old }
+    requires unused { IsUnused words.now.shared.key pass.old }
+    ensures whole { IsWhole (world_of scenario) words.now.shared.table_id words.now.shared.key pass.new }
+    ensures scenario { IfOk result (λ trace. trace.scenario ≡ scenario) }
+    ensures run { IfOk result (λ trace. IsRunOf (world_of scenario) pass.new trace.peers) }
+{
+    let all = split_pass(words, pass, 0);
+    let peers = scenario.geometry.peers();
+    let (traces, mut all) = run_range(rt, alloc, words, all, &scenario, 0, peers, gate);
+    learn(words, &mut all);
+    join_pass(words, pass, all);
+    let peers = listed(alloc, traces?)?;
+    Ok(RunTrace { scenario, peers })
+}

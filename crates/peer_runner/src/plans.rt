@@ -1,0 +1,142 @@
+//! What drives the peers of a scenario in running form.
+ghost use Rattle.std.specs.Prelude.{◌≡◌, ◌<◌, true, false, None, IfOk, OnOk};
+ghost use Rattle.lawful_history.specs.Sides.{traffic_vector};
+ghost use Rattle.scenario_text.specs.Running.{has_turn, not_running};
+ghost use Rattle.scenario_text.specs.Scenario.{is_link};
+ghost use Rattle.scenario_text.specs.Spelling.{world_of};
+ghost use Rattle.peer_runner.specs.OwnRecord.{turn_in, turn_line};
+ghost use Rattle.peer_runner.specs.Drives.{IsDriver, IsPlanFor, gathered, seeded, Gathers, Seeds};
+
+use crate::driving::{Driver, PeerPlan};
+use crate::routes::routes_of;
+use ivs_base::{Frame, NoMemory};
+use link_endpoint::{Auto, Endpoint};
+use pci_space::Wiring;
+use scenario_text::{Act, Scenario};
+use std::alloc::Global;
+
+/// The vector of the doorbells of offers and polls.
+fn traffic_vector(wiring: Wiring) -> u32
+    ensures { result ≡ traffic_vector wiring }
+{
+    match wiring {
+        Wiring::Msix(vectors) if vectors >= 2 => 1,
+        _ => 0,
+    }
+}
+
+/// Is this an honest peer of the link?
+fn is_link(scenario: &Scenario, me: u32) -> bool
+    ensures { result ≡ is_link (world_of scenario.now) me }
+{
+    me < 2 && scenario.honest.items()[me as usize]
+}
+
+/// How many turns an act gives a peer, if it is the peer's turn line.
+fn turns_in(act: &Act, me: u32) -> Option<u64>
+    ensures { result ≡ turn_in me act.now }
+{
+    match act {
+        Act::Turn { peer, steps } if *peer == me => Some(u64::from(*steps)),
+        _ => None,
+    }
+}
+
+/// How many turns the peer has, if it has a turn line.
+fn turns_for(scenario: &Scenario, me: u32) -> Option<u64>
+    ensures { result ≡ turn_line scenario.now.acts me }
+{
+    for act in scenario.acts.items() {
+        if let Some(turns) = turns_in(act, me) {
+            return Some(turns);
+        }
+    }
+    None
+}
+
+/// Takes what an act says of an automatic peer.
+fn gather(alloc: Global, auto: &mut Auto, act: &Act, me: u32) -> Result<(), NoMemory>
+    ensures { OnOk result (auto.new ≡ gathered me auto.old act.now) }
+{
+    match act {
+        Act::Auto { peer, expect } if *peer == me => *auto = Auto::new(alloc, *expect),
+        Act::Offer { peer, frame } if *peer == me => {
+            auto.add(Frame::of(alloc, frame.bytes())?)?;
+        }
+        _ => {}
+    }
+    Ok(())
+}
+
+/// The automatic peer at an honest end, with all its frames.
+fn auto_for(alloc: Global, scenario: &Scenario, me: u32) -> Result<Auto, NoMemory>
+    requires link { is_link (world_of scenario.now) me ≡ true }
+    requires running { not_running (world_of scenario.now) ≡ None }
+    ensures { IfOk result (λ auto. Gathers scenario.now.queue.mtu me scenario.now.acts auto) }
+{
+    let mut auto = Auto::new(alloc, 0);
+    for act in scenario.acts.items() {
+        gather(alloc, &mut auto, act, me)?;
+    }
+    Ok(auto)
+}
+
+/// The seed that an act gives to a storm, if it is the peer's, else the one before.
+fn seed_in(seed: u64, act: &Act, me: u32) -> u64
+    ensures { result ≡ seeded me seed act.now }
+{
+    match act {
+        Act::Storm { peer, seed: given } if *peer == me => *given,
+        _ => seed,
+    }
+}
+
+/// The seed of a hostile peer's storm.
+fn seed_for(scenario: &Scenario, me: u32) -> u64
+    requires hostile { is_link (world_of scenario.now) me ≡ false }
+    ensures { Seeds me scenario.now.acts result }
+{
+    let mut seed = 0;
+    for act in scenario.acts.items() {
+        seed = seed_in(seed, act, me);
+    }
+    seed
+}
+
+/// What drives a peer that has a turn line: the rule of the automatic peer at an honest end of the link, else its storm.
+fn driver_for(alloc: Global, scenario: &Scenario, me: u32) -> Result<Driver, NoMemory>
+    requires there { me < scenario.now.geometry.peers }
+    requires running { not_running (world_of scenario.now) ≡ None }
+    requires turns { has_turn scenario.now.acts me ≡ true }
+    ensures { IfOk result (IsDriver (world_of scenario.now) me) }
+{
+    if !is_link(scenario, me) {
+        return Ok(Driver::Storm {
+            seed: seed_for(scenario, me),
+            geometry: scenario.geometry,
+            queue: scenario.queue,
+        });
+    }
+    let vector = traffic_vector(scenario.wiring);
+    let auto = auto_for(alloc, scenario, me)?;
+    let end = Endpoint::new(alloc, me, &scenario.geometry, &scenario.queue, vector)?;
+    Ok(Driver::Auto(auto, end))
+}
+
+/// What drives a peer of the scenario, its turns and the routes of all peers, if it has a turn line.
+pub fn plan_of(alloc: Global, scenario: &Scenario, me: u32) -> Result<Option<PeerPlan>, NoMemory>
+    requires there { me < scenario.now.geometry.peers }
+    requires running { not_running (world_of scenario.now) ≡ None }
+    ensures { IfOk result (IsPlanFor (world_of scenario.now) me) }
+{
+    let Some(turns) = turns_for(scenario, me) else {
+        return Ok(None);
+    };
+    let driver = driver_for(alloc, scenario, me)?;
+    Ok(Some(PeerPlan {
+        peer: me,
+        turns,
+        driver,
+        routes: routes_of(scenario),
+    }))
+}

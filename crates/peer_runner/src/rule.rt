@@ -1,0 +1,72 @@
+//! The rule of the table, and what its steps tell.
+ghost use Rattle.std.specs.Prelude.{[], Option, None};
+ghost use Rattle.call_grammar.specs.Calls.{Call};
+ghost use Rattle.peer_runner.specs.Rules.{Kept, newcomer, reads, writes, sets, looks, joined};
+
+use crate::key::Key;
+use crate::view::View;
+use atomic_table::{Join, Play, Split, TableRule};
+use std::marker::{Brand, PhantomData};
+
+/// The rule of running peers (`specs/Rules`).
+pub struct Rule;
+
+impl TableRule<u8, View, Key> for Rule {
+    ghost holds = { Kept };
+
+    ghost first = { newcomer };
+}
+
+/// The call that an access begins, if it begins one. Each caller picks it.
+pub(crate) trait Begins {
+    ghost call: { Option Call };
+}
+
+impl Begins for Brand {
+    ghost call = { None };
+}
+
+pub(crate) struct Reads<B: Begins>(PhantomData<B>);
+
+impl<B: Begins> Play<u8, View> for Reads<B> {
+    ghost then = { reads B.call };
+}
+
+pub(crate) struct Writes<B: Begins>(PhantomData<B>);
+
+impl<B: Begins> Play<u8, View> for Writes<B> {
+    ghost then = { writes B.call };
+}
+
+pub(crate) struct Sets<B: Begins>(PhantomData<B>);
+
+impl<B: Begins> Play<u8, View> for Sets<B> {
+    ghost then = { sets B.call };
+}
+
+/// A look.
+pub(crate) struct Looks;
+
+impl Play<u8, View> for Looks {
+    ghost then = { looks };
+}
+
+/// A call picks where the view is cut.
+impl Split<View> for Brand {
+    ghost left = { λ v. v };
+
+    ghost right = { λ v. v };
+}
+
+pub(crate) struct Both;
+
+impl Join<View> for Both {
+    ghost both = { joined };
+
+    ghost spent = { record { from = 0; lists = [] } };
+}
+
+/// A call picks what it tells.
+impl Play<u8, View> for Brand {
+    ghost then = { λ _ _ _ _. Unit {0} };
+}

@@ -1,0 +1,204 @@
+//! The turns of an automatic peer.
+ghost use Rattle.std.specs.Prelude.{◌≡◌, ℕ, ◌++◌, ◌<◌, true, false, length, OnOk};
+ghost use Rattle.call_grammar.specs.Calls.{Who};
+ghost use Rattle.call_grammar.specs.Ends.{End};
+ghost use Rattle.call_grammar.specs.Places as places;
+ghost use Rattle.call_grammar.specs.Places.{access_at};
+ghost use Rattle.lawful_history.specs.Peers as peers;
+ghost use Rattle.link_endpoint.specs.Engine.{is_busy};
+ghost use Rattle.link_endpoint.specs.Stands.{StandsAt};
+ghost use Rattle.step_lines.specs.Plans.{IsPlanOf};
+ghost use Rattle.peer_runner.specs.Keys.{who_in, honest_of};
+ghost use Rattle.peer_runner.specs.Standings.{standing, IsNext};
+ghost use Rattle.peer_runner.specs.Actions.{accesses_in, looked};
+ghost use Rattle.peer_runner.specs.Rules.{front};
+ghost use Rattle.peer_runner.specs.Passes.{IsOf, added};
+ghost use Rattle.peer_runner.specs.Ways.{AreRoutes, is_guarded, way_in};
+ghost use Rattle.peer_runner.specs.Turns.{heard};
+ghost use Rattle.peer_runner.specs.Runners.{Runner, round_on, choice_at, chosen, place_in, place_for, Matches, tells_end, call_of, call_told, IsBegun, IsBegunIf, Closes, touches, MayMake, made, done_of, IsDone, holds_on, MayRingBy, looks_now, turned, told_on, IsThere, Turns};
+
+use crate::accesses::{load, set_state, store};
+use crate::bells::ring_turn;
+use crate::interrupts::look;
+use crate::notes::{tell_access, tell_done, tell_heard};
+use crate::rule::Begins;
+use crate::ways::Done;
+use crate::words::{Pass, Words};
+use doorbell_irq::Route;
+use ivs_base::NoMemory;
+use lawful_history::Lines;
+use link_endpoint::{Auto, Call, Choice, Endpoint};
+use split_ring::steps::Access;
+use std::alloc::Global;
+use std::marker::Brand;
+use step_lines::count_notes;
+
+/// What the peer chooses where no call is open.
+pub fn choose(auto: &mut Auto, end: &Endpoint) -> Option<Choice>
+    ensures chosen { (who : Who) (at : End) (place : places.Place) (plan : peers.Auto) → StandsAt end.now who at place → IsPlanOf auto.old plan → Matches result auto.new.frames (choice_at at place plan) }
+    ensures closes { Closes result (is_busy end.now) }
+    ensures plan { (who : Who) (at : End) (place : places.Place) (plan : peers.Auto) → StandsAt end.now who at place → IsPlanOf auto.old plan → IsPlanOf auto.new (round_on plan (choice_at at place plan)) }
+{
+    if end.busy() {
+        return None;
+    }
+    Some(auto.choose(end.phase()))
+}
+
+/// Is nothing left to do?
+pub fn is_finished(choice: Option<Choice>) -> bool
+    ensures { result ≡ tells_end choice }
+{
+    matches!(choice, Some(Choice::Finished))
+}
+
+/// Opens the call that was chosen.
+fn begin(auto: &Auto, end: &mut Endpoint, choice: Choice)
+    requires closed { is_busy end.old ≡ false }
+    requires chosen { IsBegun end.old.who.sizes.mtu choice auto.now.frames }
+    ensures stands { (who : Who) (at : End) → StandsAt end.old who at places.Closed → StandsAt end.new who at (place_for who at places.Closed (call_of choice auto.now.frames)) }
+    ensures open { is_busy end.new ≡ true }
+    ensures who { end.new.who ≡ end.old.who }
+{
+    match choice {
+        Choice::Tick => end.begin(Call::Tick),
+        Choice::Poll => end.begin(Call::Poll),
+        Choice::Offer => match auto.head() {
+            Some(frame) => end.offer(frame),
+            None => unreachable!(),
+        },
+        Choice::Finished => unreachable!(),
+    }
+}
+
+/// Opens the call that was chosen, if one was.
+fn open_call(auto: &Auto, end: &mut Endpoint, choice: Option<Choice>)
+    requires closed { Closes choice (is_busy end.old) }
+    requires chosen { IsBegunIf end.old.who.sizes.mtu choice auto.now.frames }
+    ensures stands { (who : Who) (r : Runner) → StandsAt end.old who r.end r.place → Matches choice auto.now.frames (chosen r) → StandsAt end.new who r.end (place_in who r) }
+    ensures open { is_busy end.new ≡ true }
+    ensures who { end.new.who ≡ end.old.who }
+{
+    if let Some(choice) = choice {
+        begin(auto, end, choice);
+    }
+}
+
+/// Does a look come next? One stands before each choice of a peer that takes interrupts.
+pub fn is_look_next(own: Route, busy: bool, looked: bool) -> bool
+    ensures { result ≡ looks_now own busy looked }
+{
+    own.enabled && !looked && !busy
+}
+
+/// A turn that is a look. After NoMemory the look was made, and its lines may be missing.
+pub fn look_turn(
+    words: &Words,
+    pass: &mut Pass,
+    peers: u32,
+    me: u32,
+    lines: &mut Lines,
+) -> Result<(), NoMemory>
+    requires of { IsOf words.now.shared.table_id words.now.shared.key pass.old × (peers ≡ words.now.shared.key.geometry.peers) × (0 < length pass.old.lists) }
+    requires own { pass.old.from ≡ me }
+    ensures { (found : ℕ) × (pass.new ≡ added pass.old (looked found)) × OnOk result (lines.new ≡ lines.old ++ heard 64 me found) }
+{
+    let found = look(words, pass, peers, me);
+    tell_heard(me, found, lines)
+}
+
+/// Does what a turn does of the step with this access. `_auto` and `_choice` tell the proof which call the access begins.
+fn take<B: Begins>(
+    words: &Words,
+    pass: &mut Pass,
+    me: u32,
+    routes: &[Route],
+    access: Access,
+    ringing: bool,
+    _auto: &Auto,
+    _choice: Option<Choice>,
+) -> Done
+    requires next { touches access ≡ true → IsNext words.now.shared.key me (standing words.now.shared.key me (accesses_in (front pass.old.lists))) B.call access }
+    requires of { IsOf words.now.shared.table_id words.now.shared.key pass.old × (pass.old.from ≡ me) × (0 < length pass.old.lists) }
+    requires routes { AreRoutes words.now.shared.key routes.now }
+    requires may { MayMake words.now.shared.key me access }
+    requires rings { ringing ≡ true → MayRingBy routes.now access (front pass.old.lists) }
+    ensures done { IsDone ringing (is_guarded (way_in routes.now access)) result }
+    ensures pass { pass.new ≡ made pass.old (done_of routes.now B.call access result) }
+    ensures rings { holds_on result ≡ true → MayRingBy routes.now access (front pass.new.lists) }
+{
+    match access {
+        Access::Read(word) => Done::Stepped(load::<B>(words, pass, word)),
+        Access::Write(word, value) => {
+            store::<B>(words, pass, word, value);
+            Done::Stepped(0)
+        }
+        Access::State(state) => {
+            set_state::<B>(words, pass, me, state);
+            Done::Stepped(0)
+        }
+        Access::Ring { target, vector } => {
+            ring_turn(words, pass, routes, target, vector, ringing)
+        }
+        Access::Nothing => Done::Stepped(0),
+    }
+}
+
+/// The same for the access that begins the call of this choice, or goes on with the open one.
+fn take_for(
+    words: &Words,
+    pass: &mut Pass,
+    me: u32,
+    routes: &[Route],
+    access: Access,
+    ringing: bool,
+    auto: &Auto,
+    choice: Option<Choice>,
+) -> Done
+    requires next { touches access ≡ true → IsNext words.now.shared.key me (standing words.now.shared.key me (accesses_in (front pass.old.lists))) (call_told choice auto.now.frames) access }
+    requires of { IsOf words.now.shared.table_id words.now.shared.key pass.old × (pass.old.from ≡ me) × (0 < length pass.old.lists) }
+    requires routes { AreRoutes words.now.shared.key routes.now }
+    requires may { MayMake words.now.shared.key me access }
+    requires rings { ringing ≡ true → MayRingBy routes.now access (front pass.old.lists) }
+    ensures done { IsDone ringing (is_guarded (way_in routes.now access)) result }
+    ensures pass { pass.new ≡ made pass.old (done_of routes.now (call_told choice auto.now.frames) access result) }
+    ensures rings { holds_on result ≡ true → MayRingBy routes.now access (front pass.new.lists) }
+{
+    take::<Brand>(words, pass, me, routes, access, ringing, auto, choice)
+}
+
+/// A turn that is no look: the next step of the open call, else the first one of the call that was chosen, or the part of a doorbell
+/// that is to come. `ringing` says whether the ring of a doorbell is to come, before the turn and after it. After NoMemory it was
+/// done, and its lines may be missing.
+pub fn take_turn(
+    alloc: Global,
+    words: &Words,
+    pass: &mut Pass,
+    me: u32,
+    routes: &[Route],
+    auto: &mut Auto,
+    end: &mut Endpoint,
+    choice: Option<Choice>,
+    ringing: &mut bool,
+    lines: &mut Lines,
+) -> Result<(), NoMemory>
+    requires of { IsOf words.now.shared.table_id words.now.shared.key pass.old × (me < 2) × (honest_of words.now.shared.key me ≡ true) }
+    requires routes { AreRoutes words.now.shared.key routes.now }
+    requires turns { (r : Runner) × Turns words.now.shared.key me routes.now r choice ringing.old pass.old auto.old end.old }
+    ensures turned { (r : Runner) → Turns words.now.shared.key me routes.now r choice ringing.old pass.old auto.old end.old →
+        (done : Done) × IsDone ringing.old (is_guarded (way_in routes.now (access_at (who_in words.now.shared.key me) (place_in (who_in words.now.shared.key me) r)))) done
+        × IsThere words.now.shared.key me routes.now (turned routes.now (who_in words.now.shared.key me) r done) pass.new end.new × IsPlanOf auto.new (turned routes.now (who_in words.now.shared.key me) r done).auto
+        × (ringing.new ≡ holds_on done) × OnOk result (lines.new ≡ lines.old ++ told_on (who_in words.now.shared.key me) r done) }
+    ensures id { pass.new.table_id ≡ pass.old.table_id }
+{
+    open_call(auto, end, choice);
+    let access = end.next();
+    let done = take_for(words, pass, me, routes, access, *ringing, auto, choice);
+    *ringing = done.holds_on();
+    if done.holds_on() {
+        return tell_access(me, access, 0, lines);
+    }
+    let notes = end.took(done.value());
+    count_notes(auto, notes.as_slice());
+    tell_done(alloc, me, access, done, end, notes.as_slice(), lines)
+}

@@ -1,0 +1,17 @@
+//! What a seat knows.
+ghost use Rattle.std.specs.Prelude.{List, ℕ};
+ghost use Rattle.std.specs.Borrow.{ftrue};
+ghost use Rattle.peer_runner.specs.Actions.{Action};
+ghost use Rattle.peer_runner.specs.Standings.{Taken};
+
+use std::marker::Model;
+
+/// The actions of each peer of a range that begins with `from`. No value of it is made.
+pub struct View {
+    pub ghost from: { ℕ },
+    pub ghost lists: { List (List (Action Taken)) },
+}
+
+impl Model for View {
+    ghost also_owns = { λ _. ftrue };
+}

@@ -1,0 +1,134 @@
+//! The words, and the passes by which threads step through them.
+ghost use Rattle.std.specs.Prelude.{◌≡◌, ◌<◌, ◌≤◌, ◌+◌, ◌++◌, ◌∷◌, [], None, false, IfOk, OnOk, length};
+ghost use Rattle.std.specs.Int.{bit_at};
+ghost use Rattle.scenario_text.specs.Running.{not_running};
+ghost use Rattle.scenario_text.specs.Spelling.{world_of};
+ghost use Rattle.peer_runner.specs.Keys.{IsFit, is_unbuilt};
+ghost use Rattle.peer_runner.specs.Interrupts.{words_at_start};
+ghost use Rattle.peer_runner.specs.Rules.{lower, upper, learns, Tells, Told};
+ghost use Rattle.peer_runner.specs.Passes.{IsOf, IsWhole, IsUnused, lower_pass, upper_pass, join_passes};
+
+use crate::key::Key;
+use crate::routes::routes_of;
+use crate::rule::{Both, Rule};
+use crate::view::View;
+use atomic_table::{Play, Seat, Split, Table};
+use ends_pair::{honest_ends_agree, runs_keep_the_whole};
+use ivs_base::NoMemory;
+use pair_sessions::calm_runs_deliver;
+use scenario_text::Scenario;
+use std::alloc::Global;
+use std::marker::{Brand, Model};
+
+/// The words of a region and those for interrupts behind them, which threads share, under the rule of running peers.
+pub type Words = Table<u8, View, Key, Rule, Global>;
+
+/// A seat at the words. It is seen as its range of peers, and the list of the actions of each.
+#[derive(Drop)]
+pub struct Pass {
+    pub(crate) seat: Seat<u8, View>,
+}
+
+impl Model for Pass {
+    ghost use Rattle.std.specs.Prelude.{◌≡◌, []};
+    ghost use Rattle.peer_runner.specs.Held.{Held};
+
+    ghost Value = { Held };
+
+    ghost view = { λ p. record { table_id = p.seat.table_id; from = p.seat.me.0.from; lists = p.seat.me.0.lists } };
+
+    ghost invariant = { λ p. p.seat.me.1 ≡ [] };
+}
+
+/// Adds the words of one peer more behind those of the region.
+fn push_words(words: &mut Vec<u64>, enabled: u32, peer: u32) -> Result<(), NoMemory>
+    requires { peer < 32 }
+    ensures { OnOk result (words.new.items ≡ words.old.items ++ 0 ∷ bit_at enabled peer ∷ []) }
+{
+    words.push(0)?;
+    words.push(u64::from((enabled >> peer) & 1))?;
+    Ok(())
+}
+
+/// The words of the region, and behind them those of each peer.
+fn first_words(alloc: Global, key: &Key) -> Result<Vec<u64>, NoMemory>
+    requires { IsFit key.now }
+    ensures { IfOk result (λ v. v.items ≡ words_at_start key.now) }
+{
+    let mut words = Vec::from_elem(alloc, 0u64, key.geometry.words() as usize)?;
+    for peer in 0..key.geometry.peers() {
+        push_words(&mut words, key.enabled, peer)?;
+    }
+    Ok(words)
+}
+
+/// The words at their start, and one pass with all peers and empty lists. All words are 0 but those of Interrupt Control.
+///
+/// NoMemory comes only where memory ran out.
+pub fn words_for(alloc: Global, scenario: &Scenario) -> Result<(Words, Pass), NoMemory>
+    requires running { not_running (world_of scenario.now) ≡ None }
+    requires built { is_unbuilt (world_of scenario.now).geometry ≡ false }
+    ensures whole { IfOk result (λ r. IsWhole (world_of scenario.now) r.0.shared.table_id r.0.shared.key r.1) }
+    ensures unused { IfOk result (λ r. IsUnused r.0.shared.key r.1) }
+{
+    let routes = routes_of(scenario);
+    let key = Key::of(scenario, routes.as_slice());
+    let first = first_words(alloc, &key)?;
+    let (table, seat): (Words, Seat<u8, View>) = Table::of_words(alloc, first.as_slice(), &key)?;
+    Ok((table, Pass { seat }))
+}
+
+/// Splits at the place that the caller picks by the cut.
+fn split_at<M: Split<View>>(words: &Words, pass: &mut Pass, from: u32) -> Pass
+    requires cut { (M.left ≡ lower from) × (M.right ≡ upper from) }
+    requires of { IsOf words.now.shared.table_id words.now.shared.key pass.old }
+    requires inside { (pass.old.from ≤ from) × (from ≤ pass.old.from + length pass.old.lists) }
+    ensures left { pass.new ≡ lower_pass from pass.old }
+    ensures right { result ≡ upper_pass from pass.old }
+{
+    Pass {
+        seat: words.shared.split_seat::<M>(&mut pass.seat),
+    }
+}
+
+/// Gives a pass with the peers of the range from `from` on, and their lists, and leaves the others in `pass`. It takes no memory.
+pub fn split_pass(words: &Words, pass: &mut Pass, from: u32) -> Pass
+    requires of { IsOf words.now.shared.table_id words.now.shared.key pass.old }
+    requires inside { (pass.old.from ≤ from) × (from ≤ pass.old.from + length pass.old.lists) }
+    ensures left { pass.new ≡ lower_pass from pass.old }
+    ensures right { result ≡ upper_pass from pass.old }
+{
+    split_at::<Brand>(words, pass, from)
+}
+
+/// Takes the other's peers and lists. It takes no memory.
+pub fn join_pass(words: &Words, pass: &mut Pass, other: Pass)
+    requires own { IsOf words.now.shared.table_id words.now.shared.key pass.old }
+    requires of { IsOf words.now.shared.table_id words.now.shared.key other × (other.from ≡ pass.old.from + length pass.old.lists) }
+    ensures { pass.new ≡ join_passes pass.old other }
+{
+    let Pass { seat } = other;
+    words.shared.join_seat::<Both>(&mut pass.seat, seat);
+}
+
+/// A load that adds no action, by which the pass tells what the rule says of its lists.
+fn learn_by<M: Play<u8, View>>(words: &Words, pass: &mut Pass)
+    requires tells { Tells M.then (learns words.now.shared.key) }
+    requires of { IsOf words.now.shared.table_id words.now.shared.key pass.old }
+    ensures same { pass.new ≡ pass.old }
+    ensures told { Told words.now.shared.key pass.old.from pass.old.lists }
+{
+    runs_keep_the_whole();
+    calm_runs_deliver();
+    honest_ends_agree();
+    words.shared.load::<M>(&mut pass.seat, 0);
+}
+
+/// What the rule says of the lists, where the pass has all of them.
+pub(crate) fn learn(words: &Words, pass: &mut Pass)
+    requires of { IsOf words.now.shared.table_id words.now.shared.key pass.old }
+    ensures same { pass.new ≡ pass.old }
+    ensures told { Told words.now.shared.key pass.old.from pass.old.lists }
+{
+    learn_by::<Brand>(words, pass);
+}

@@ -1,0 +1,72 @@
+-- Rows of acts: each act form's row is an act's, and an act is allowed exactly where its row can follow.
+use Rattle.std.proofs.Common.{◌≡◌, ℕ, ◌+◌, ◌≤◌, true, false, List, [], get_or, Some, None, Option, refl, sym, ap}
+use Rattle.std.specs.Option.{option_map_or}
+use Rattle.line_text.specs.Forms.{Fit, FitBytes}
+use Rattle.line_text.specs.Rows.{row, fields_of_row}
+use Rattle.line_text.proofs.FitLaws.{counted, list_1, list_2, list_3}
+use Rattle.port_text.specs.declared.acts.Act.{Act}
+use Rattle.port_text.specs.declared.acts.Act.TheVariants as acts
+use Rattle.port_text.specs.declared.forms.Form.{Form}
+use Rattle.port_text.specs.declared.forms.Form.TheVariants.{Publish, Sample, Turn, Poke}
+use Rattle.port_text.specs.declared.positions.Position.TheVariants.{AtActs}
+use Rattle.port_text.specs.Acts.{cost, turns_of}
+use Rattle.port_text.specs.Table.{pieces_of}
+use Rattle.port_text.specs.ActRows.{row_of_act}
+use Rattle.port_text.specs.Scenario.{IsAllowed}
+use Rattle.port_text.specs.Judge.{SoFar, world_so_far, is_out_of_order, act_of, is_act, fits_sizes}
+use Rattle.port_text.proofs.Follows.{CanFollow}
+
+pub same_row : (form : Form) (ns ms bytes : List ℕ) → ns ≡ ms → [] ≡ bytes → row form ns [] ≡ row form ms bytes
+same_row form ns ms bytes e f = rw (e, f) refl
+
+-- ---- the act of a row
+
+pub record ActRow (form : Form) (ns bytes : List ℕ) : Type 0 where
+  pub act : Act
+  pub is_act_of : act_of form ns bytes ≡ Some act
+  pub row_is : row_of_act act ≡ row form ns bytes
+
+pub act_row : (form : Form) (ns bytes : List ℕ) → is_act form ≡ true → Fit (pieces_of form) ns → FitBytes (pieces_of form) bytes → ActRow form ns bytes
+act_row Publish ns bytes is fit none = record { act = acts.Publish (get_or ns 0 0) bytes; is_act_of = refl; row_is = ap (λ (ms : List ℕ). row Publish ms bytes) (list_1 ns (counted (pieces_of Publish) ns fit)) }
+act_row Sample ns bytes is fit none = record { act = acts.Sample (get_or ns 0 0) (get_or ns 1 0); is_act_of = refl; row_is = same_row Sample _ ns bytes (list_2 ns (counted (pieces_of Sample) ns fit)) (sym none) }
+act_row Turn ns bytes is fit none = record { act = acts.Turn (get_or ns 0 0) (get_or ns 1 0); is_act_of = refl; row_is = same_row Turn _ ns bytes (list_2 ns (counted (pieces_of Turn) ns fit)) (sym none) }
+act_row Poke ns bytes is fit none = record { act = acts.Poke (get_or ns 0 0) (get_or ns 1 0) (get_or ns 2 0); is_act_of = refl; row_is = same_row Poke _ ns bytes (list_3 ns (counted (pieces_of Poke) ns fit)) (sym none) }
+act_row _ ns bytes is fit none = absurd cc
+
+pub act_of-row : (a : Act) → act_of (row_of_act a).form (row_of_act a).numbers (row_of_act a).frame ≡ Some a
+act_of-row (acts.Publish p message) = refl
+act_of-row (acts.Sample p from) = refl
+act_of-row (acts.Turn p k) = refl
+act_of-row (acts.Poke p word value) = refl
+
+sizes_fit : (d : SoFar) (a : Act) → fits_sizes d (row_of_act a).form (row_of_act a).numbers ≡ true
+sizes_fit d (acts.Publish p message) = refl
+sizes_fit d (acts.Sample p from) = refl
+sizes_fit d (acts.Turn p k) = refl
+sizes_fit d (acts.Poke p word value) = refl
+
+never : (o : Option ℕ) → option_map_or (λ p. false) o false ≡ false
+never (Some n) = refl
+never None = refl
+
+-- at the acts each act is in order
+order_is : (d : SoFar) (a : Act) → d.position ≡ AtActs → is_out_of_order d (row_of_act a).form (fields_of_row pieces_of (row_of_act a)) ≡ false
+order_is d (acts.Publish p message) at = rw at (never _)
+order_is d (acts.Sample p from) at = rw at (never _)
+order_is d (acts.Turn p k) at = rw at (never _)
+order_is d (acts.Poke p word value) at = rw at (never _)
+
+pub allowed_act : (d : SoFar) (a : Act) → CanFollow d (row_of_act a) → IsAllowed (world_so_far d) a
+allowed_act d a can = record { values = can.values; bytes = can.bytes; range = can.range; peer = can.peer; message = can.message }
+
+pub follows_act : (d : SoFar) (a : Act) → d.position ≡ AtActs → IsAllowed (world_so_far d) a → turns_of d.acts + cost a ≤ 4000000 → CanFollow d (row_of_act a)
+follows_act d a at is few = record {
+  values = is.values;
+  bytes = is.bytes;
+  order = order_is d a at;
+  range = is.range;
+  peer = is.peer;
+  message = is.message;
+  sizes = sizes_fit d a;
+  turns = rw (act_of-row a) few;
+}

@@ -1,0 +1,236 @@
+-- The spelling of a schedule is read as the schedule.
+use Rattle.std.proofs.Common.{mul-le-mul_right, ◌≡◌, ℕ, ◌+◌, ◌*◌, ◌/◌, ◌%◌, ◌^◌, ◌<◌, ◌≤◌, Bool, true, false, cond, eqb, not, List, [], ◌∷◌, ◌++◌, length, map, Option, Some, None, Ok, refl, sym, ap, subst, ◌∙◌, append_assoc, arith, eq-eqb}
+use Rattle.std.specs.Prelude.{decimal}
+use Rattle.std.specs.List.{AllByRecursion}
+use Rattle.std.specs.Option.{option_map_or}
+use Rattle.std.proofs.lemmas.Bool.{ne_eqb}
+use Rattle.std.proofs.lemmas.List.{append-nil, length-append}
+use Rattle.std.proofs.lemmas.List.Elements.{recursion_from_All}
+use Rattle.std.proofs.lemmas.List.Sums.{sum_by_push, sum_by-append}
+use Rattle.line_text.specs.Numbers.{number_of}
+use Rattle.line_text.specs.Rows.{Row, row}
+use Rattle.line_text.specs.Machine.{Leads, HasNoNewline, text_of_lines}
+use Rattle.line_text.proofs.NumberLaws.{number_of-decimal}
+use Rattle.line_text.proofs.MachineLaws.{reads}
+use Rattle.line_text.proofs.RowLaws.{bare, row_plain, text_is_lines}
+use Rattle.section_map.specs.Geometry.{Shape, IsShape}
+use Rattle.scenario_text.specs.Sizes.{is_geometry}
+use Rattle.scenario_text.proofs.SizeLaws.{HasRegion, is_geometry-true}
+use Rattle.port_text.specs.declared.acts.Act.{Act}
+use Rattle.port_text.specs.declared.forms.Form.{Form}
+use Rattle.port_text.specs.declared.forms.Form.TheVariants.{Version, Peers, Out, Longest, Begin, End}
+use Rattle.port_text.specs.declared.positions.Position.TheVariants.{AtPeer, AtBegin, AtActs, Ended}
+use Rattle.port_text.specs.Sizes.{has_port}
+use Rattle.port_text.specs.Acts.{cost, turns_of}
+use Rattle.port_text.specs.Table.{pieces_of, all_forms}
+use Rattle.port_text.specs.ActRows.{row_of_act}
+use Rattle.port_text.specs.Scenario.{World, IsWorld, IsAllowed}
+use Rattle.port_text.specs.Spelling.{row_of_peer, rows_of_peers, rows_of, spelling, IsSpelling}
+use Rattle.port_text.specs.Judge.{SoFar, world_so_far, ordinal_of, at_start, has_ended, machine, reading, faulted, world_in, answer}
+use Rattle.port_text.proofs.TableLaws.{is_table}
+use Rattle.port_text.proofs.SizeLaws.{has_port-true}
+use Rattle.port_text.proofs.Follows.{CanFollow, with_row, step-row, row_of_follows}
+use Rattle.port_text.proofs.ActRowLaws.{act_of-row, follows_act}
+
+-- ---- rows that follow one another
+
+-- each row can follow, and none is the end
+abbrev Along : SoFar → List (Row Form) → SoFar → Type 0
+Along d [] e = d ≡ e
+Along d (r ∷ rs) e = CanFollow d r × (has_ended (with_row r d) ≡ false) × Along (with_row r d) rs e
+
+along-append : (d : SoFar) (rs ss : List (Row Form)) (e f : SoFar) → Along d rs e → Along e ss f → Along d (rs ++ ss) f
+along-append d [] ss e f here later = subst (λ (x : SoFar). Along x ss f) (sym here) later
+along-append d (r ∷ rs) ss e f here later = (here.0, here.1, along-append (with_row r d) rs ss e f here.2 later)
+
+leads-cons : (d now : SoFar) (line : List ℕ) (lines : List (List ℕ)) (e : SoFar) → HasNoNewline line → machine.step d line ≡ Ok now → has_ended now ≡ false → Leads machine now lines e → Leads machine d (line ∷ lines) e
+leads-cons d now line [] e plain is on leads = absurd leads
+leads-cons d now line (next ∷ more) e plain is on leads = (now, plain, is, on, leads)
+
+-- rows up to the last are lines that lead to the end
+leads : (d : SoFar) (rs : List (Row Form)) (e : SoFar) (r : Row Form) (f : SoFar) → Along d rs e → CanFollow e r → with_row r e ≡ f → has_ended f ≡ true → Leads machine d (map (bare pieces_of) (rs ++ r ∷ [])) f
+leads d [] e r f along can gives ended =
+    let can' = subst (λ (x : SoFar). CanFollow x r) (sym along) can in
+    let gives' = ap (with_row r) along ∙ gives in
+    (row_plain pieces_of all_forms is_table r (row_of_follows d r can'), step-row d r can' ∙ ap (λ (x : SoFar). Ok x) gives', ended)
+leads d (s ∷ rs) e r f along can gives ended =
+    leads-cons d (with_row s d) (bare pieces_of s) (map (bare pieces_of) (rs ++ r ∷ [])) f (row_plain pieces_of all_forms is_table s (row_of_follows d s along.0)) (step-row d s along.0) along.1 (leads (with_row s d) rs e r f along.2 can gives ended)
+
+-- ---- the head
+
+quiet : (o : Option ℕ) → option_map_or (λ p. false) o false ≡ false
+quiet (Some n) = refl
+quiet None = refl
+
+-- with these first flags; where there is one for each peer, `begin` comes next
+abbrev at_peers : (peers out most : ℕ) → List Bool → SoFar
+at_peers peers out most front = record { position = cond (eqb (length front) peers) AtBegin AtPeer; peers = peers; out = out; most = most; honest = front; acts = [] }
+
+abbrev sizes_rows : (peers out most : ℕ) → List (Row Form)
+sizes_rows peers out most = row Version (1 ∷ []) [] ∷ row Peers (peers ∷ []) [] ∷ row Out (out ∷ []) [] ∷ row Longest (most ∷ []) [] ∷ []
+
+sizes_along : (peers out most : ℕ) → (2 ≤ peers) × (peers ≤ 8) → out < 2 ^ 64 → most < 2 ^ 32 → is_geometry peers 4096 0 out ≡ true → has_port most out ≡ true
+    → Along at_start (sizes_rows peers out most) (at_peers peers out most [])
+sizes_along peers out most few o m geometry port =
+    let open_ : eqb 0 peers ≡ false = ne_eqb 0 peers (λ none. omega arith) in (
+      record { values = (omega arith, omega arith, tt); bytes = refl; order = quiet _; range = refl; peer = refl; message = refl; sizes = refl; turns = omega arith },
+      refl,
+      (
+        record { values = (few.0, few.1, tt); bytes = refl; order = quiet _; range = refl; peer = refl; message = refl; sizes = refl; turns = omega arith },
+        refl,
+        (
+          record { values = (omega arith, omega arith, tt); bytes = refl; order = quiet _; range = refl; peer = refl; message = refl; sizes = geometry; turns = omega arith },
+          refl,
+          (
+            record { values = (omega arith, omega arith, tt); bytes = refl; order = quiet _; range = refl; peer = refl; message = refl; sizes = port; turns = omega arith },
+            refl,
+            rw open_ refl,
+          ),
+        ),
+      ),
+    )
+
+not_ended : (full : Bool) → eqb (ordinal_of (cond full AtBegin AtPeer)) 7 ≡ false
+not_ended true = refl
+not_ended false = refl
+
+same_number : (p n : ℕ) → p ≡ n → p < 2 ^ 64 → option_map_or (λ q. not (eqb q n)) (number_of (decimal p)) false ≡ false
+same_number p n same small = rw (number_of-decimal p small, same, eq-eqb n n refl) refl
+
+peer_follows : (peers out most : ℕ) (front : List Bool) (p : ℕ) (b : Bool) → p ≡ length front → length front < peers → peers ≤ 8 → CanFollow (at_peers peers out most front) (row_of_peer p b)
+peer_follows peers out most front p true same less few =
+    let open_ : eqb (length front) peers ≡ false = ne_eqb (length front) peers (λ full. omega arith) in
+    record { values = (omega arith, omega arith, tt); bytes = refl; order = rw open_ (same_number p (length front) same (omega arith)); range = refl; peer = refl; message = refl; sizes = refl; turns = omega arith }
+peer_follows peers out most front p false same less few =
+    let open_ : eqb (length front) peers ≡ false = ne_eqb (length front) peers (λ full. omega arith) in
+    record { values = (omega arith, omega arith, tt); bytes = refl; order = rw open_ (same_number p (length front) same (omega arith)); range = refl; peer = refl; message = refl; sizes = refl; turns = omega arith }
+
+peer_gives : (peers out most : ℕ) (front : List Bool) (p : ℕ) (b : Bool) → with_row (row_of_peer p b) (at_peers peers out most front) ≡ at_peers peers out most (front ++ b ∷ [])
+peer_gives peers out most front p true = refl
+peer_gives peers out most front p false = refl
+
+peers_along : (peers out most : ℕ) (front rest : List Bool) (p : ℕ) → p ≡ length front → length front + length rest ≡ peers → peers ≤ 8
+    → Along (at_peers peers out most front) (rows_of_peers p rest) (at_peers peers out most (front ++ rest))
+peers_along peers out most front [] p same all few = ap (at_peers peers out most) (sym (append-nil front))
+peers_along peers out most front (b ∷ rest) p same all few =
+    let one : length (front ++ b ∷ []) ≡ length front + 1 = length-append front (b ∷ []) in
+    let P : SoFar → Type 0 = λ x. (has_ended x ≡ false) × Along x (rows_of_peers (p + 1) rest) (at_peers peers out most (front ++ b ∷ rest)) in
+    let whole : (front ++ b ∷ []) ++ rest ≡ front ++ b ∷ rest = append_assoc front (b ∷ []) rest in
+    let later = subst (λ (bs : List Bool). Along (at_peers peers out most (front ++ b ∷ [])) (rows_of_peers (p + 1) rest) (at_peers peers out most bs)) whole
+    (peers_along peers out most (front ++ b ∷ []) rest (p + 1) (omega arith) (omega arith) few) in
+    let t = subst P (sym (peer_gives peers out most front p b)) (not_ended _, later) in
+    (peer_follows peers out most front p b same (omega arith) few, t.0, t.1)
+
+-- ---- the acts
+
+-- at the acts of this world, after these
+abbrev pub at_acts : World → List Act → SoFar
+at_acts w front = record { position = AtActs; peers = w.geometry.peers; out = 4 * w.geometry.out; most = w.most; honest = w.honest; acts = front }
+
+quarter : (n : ℕ) → 4 * n / 4 ≡ n
+quarter n = omega arith
+
+-- the sizes in bytes are those in words
+pub world_is : (w : World) (front : List Act) → IsWorld w → world_so_far (at_acts w front) ≡ record w { acts = front }
+world_is w front is = rw (quarter w.geometry.out, is.table, is.common) refl
+
+act_gives : (d : SoFar) (a : Act) → with_row (row_of_act a) d ≡ record d { acts = d.acts ++ a ∷ [] }
+act_gives d a = rw (act_of-row a) refl
+
+acts_along : (w : World) (front rest : List Act) → IsWorld w → AllByRecursion (IsAllowed w) rest → w.acts ≡ front ++ rest
+    → Along (at_acts w front) (map row_of_act rest) (at_acts w (front ++ rest))
+acts_along w front [] is allowed all = ap (at_acts w) (sym (append-nil front))
+acts_along w front (a ∷ rest) is allowed all =
+    let here = allowed.0 in
+    let now : IsAllowed (record w { acts = front }) a = record { values = here.values; bytes = here.bytes; range = here.range; peer = here.peer; message = here.message } in
+    let then_ : IsAllowed (world_so_far (at_acts w front)) a = subst (λ (x : World). IsAllowed x a) (sym (world_is w front is)) now in
+    let whole : (front ++ a ∷ []) ++ rest ≡ front ++ a ∷ rest = append_assoc front (a ∷ []) rest in
+    let up_to : turns_of (front ++ a ∷ []) ≡ turns_of front + cost a = sum_by_push cost front a in
+    let turns : turns_of (front ++ a ∷ []) + turns_of rest ≡ turns_of w.acts = sym (sum_by-append cost (front ++ a ∷ []) rest) ∙ ap turns_of (whole ∙ sym all) in
+    let most = is.turns in
+    let few : turns_of front + cost a ≤ 4000000 = omega arith in
+    let later = subst (λ (acts : List Act). Along (at_acts w (front ++ a ∷ [])) (map row_of_act rest) (at_acts w acts)) whole (acts_along w (front ++ a ∷ []) rest is allowed.1 (all ∙ sym whole)) in
+    let P : SoFar → Type 0 = λ x. (has_ended x ≡ false) × Along x (map row_of_act rest) (at_acts w (front ++ a ∷ rest)) in
+    let t = subst P (sym (act_gives (at_acts w front) a)) (refl, later) in
+    (follows_act (at_acts w front) a refl then_ few, t.0, t.1)
+
+-- ---- the whole text
+
+whole_pages : (n : ℕ) → n % 1024 ≡ 0 → (4 * n) % 4096 ≡ 0
+whole_pages n is = omega arith
+
+region_of : (g : Shape) → IsShape g → g.table ≡ 1024 → g.common ≡ 0 → HasRegion g.peers 4096 0 (4 * g.out)
+region_of g is table common =
+    let outs = is.out_pages in
+    let o_some = is.out_page in
+    let states = is.states in
+    let room = is.room in
+    let sections : g.peers * (4 * g.out) ≡ 4 * (g.peers * g.out) = swap g.peers g.out in
+    record {
+      count = (is.two_peers, is.most_peers);
+      table_pages = (omega arith, refl);
+      common_pages = refl;
+      out_pages = (omega arith, whole_pages g.out outs);
+      states = omega arith;
+      room = omega arith;
+    }
+  where
+    swap : (p n : ℕ) → p * (4 * n) ≡ 4 * (p * n)
+    swap p n = omega arith
+
+abbrev pub at_end : World → SoFar
+at_end w = record { position = Ended; peers = w.geometry.peers; out = 4 * w.geometry.out; most = w.most; honest = w.honest; acts = w.acts }
+
+abbrev measured : World → List (Row Form)
+measured w = sizes_rows w.geometry.peers (4 * w.geometry.out) w.most
+
+abbrev flagged : World → List (Row Form)
+flagged w = measured w ++ rows_of_peers 0 w.honest
+
+abbrev begun : World → List (Row Form)
+begun w = flagged w ++ row Begin [] [] ∷ []
+
+abbrev acted : World → List (Row Form)
+acted w = begun w ++ map row_of_act w.acts
+
+-- up to `begin`
+head_along : (w : World) → IsWorld w → Along at_start (begun w) (at_acts w [])
+head_along w is =
+    let g = w.geometry in
+    let region = region_of g is.geometry is.table is.common in
+    let two = is.geometry.two_peers in
+    let few = is.few in
+    let room = is.geometry.room in
+    let section : g.out ≤ g.peers * g.out = grows g.peers g.out (omega arith) in
+    let o : 4 * g.out < 2 ^ 64 = omega arith in
+    let m : w.most < 2 ^ 32 = omega (arith, is.size.2) in
+    let ported : has_port w.most (4 * g.out) ≡ true = has_port-true _ _ (record { size = is.size; room = omega (arith, is.room) }) in
+    let sized : SoFar = at_peers g.peers (4 * g.out) w.most [] in
+    let sizes = sizes_along g.peers (4 * g.out) w.most (two, few) o m (is_geometry-true _ _ _ _ region) ported in
+    let flags = is.flags in
+    let peers = peers_along g.peers (4 * g.out) w.most [] w.honest 0 refl (omega arith) few in
+    let full : eqb (length w.honest) g.peers ≡ true = eq-eqb _ _ flags in
+    let full_state : SoFar = at_peers g.peers (4 * g.out) w.most w.honest in
+    let begin : CanFollow full_state (row Begin [] []) = record { values = tt; bytes = refl; order = rw full refl; range = refl; peer = refl; message = refl; sizes = refl; turns = omega arith } in
+    let last : Along full_state (row Begin [] [] ∷ []) (at_acts w []) = (begin, refl, refl) in
+    along-append at_start (flagged w) (row Begin [] [] ∷ []) full_state (at_acts w [])
+    (along-append at_start (measured w) (rows_of_peers 0 w.honest) sized full_state sizes peers) last
+  where
+    grows : (p n : ℕ) → 1 ≤ p → n ≤ p * n
+    grows p n le = let one : 1 * n ≤ p * n = mul-le-mul_right n le in omega arith
+
+-- the lines of a schedule's rows lead to its end
+pub spelled_leads : (w : World) → IsWorld w → Leads machine at_start (map (bare pieces_of) (rows_of w)) (at_end w)
+spelled_leads w world =
+    let acts = acts_along w [] w.acts world (recursion_from_All (IsAllowed w) w.acts world.allowed) refl in
+    let all = along-append at_start (begun w) (map row_of_act w.acts) (at_acts w []) (at_acts w w.acts) (head_along w world) acts in
+    let end : CanFollow (at_acts w w.acts) (row End [] []) = record { values = tt; bytes = refl; order = refl; range = refl; peer = refl; message = refl; sizes = refl; turns = omega arith } in
+    leads at_start (acted w) (at_acts w w.acts) (row End [] []) (at_end w) all end refl refl
+
+pub text_is : (w : World) → spelling w ≡ text_of_lines (map (bare pieces_of) (rows_of w))
+text_is w = text_is_lines pieces_of (rows_of w)
+
+pub is_answered : (w : World) (bytes : List ℕ) → IsSpelling w bytes → answer bytes ≡ Ok w
+is_answered w bytes is =
+    let read : reading (text_of_lines (map (bare pieces_of) (rows_of w))) ≡ Ok (at_end w) = reads machine at_start 0 (map (bare pieces_of) (rows_of w)) (at_end w) (spelled_leads w is.0) in
+    ap (λ (t : List ℕ). world_in (faulted (reading t))) (is.1 ∙ text_is w) ∙ ap (λ x. world_in (faulted x)) read ∙ ap (λ (x : World). Ok x) (world_is w w.acts is.0)

@@ -1,0 +1,11 @@
+pub mod SizeLaws
+pub mod TableLaws
+pub mod Follows
+pub mod ActRowLaws
+pub mod PositionLaws
+pub mod BackLaws
+pub mod ReadLaws
+pub mod WholeLaws
+pub mod ForwardLaws
+pub mod PrintLaws
+pub mod LawLaws

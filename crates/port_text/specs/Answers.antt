@@ -1,0 +1,31 @@
+-- What a call answers, against what the definitions say. Want of memory is the one free answer.
+use Rattle.std.specs.Prelude.{◌≡◌, Result, Ok, Err}
+use Rattle.line_text.specs.declared.reading.TextFault.{TextFault}
+use Rattle.line_text.specs.declared.reading.TextFault.TheVariants as texts
+use Rattle.port_text.specs.declared.faults.Cause.{Cause}
+use Rattle.port_text.specs.declared.faults.PortsFault.{PortsFault}
+use Rattle.port_text.specs.declared.faults.PortsFault.TheVariants as faults
+use Rattle.port_text.specs.declared.scenarios.Scenario.{Scenario}
+use Rattle.port_text.specs.Scenario.{World}
+use Rattle.port_text.specs.Spelling.{world_of}
+use Rattle.port_text.specs.Judge.{fault_at}
+
+abbrev pub Refuses : {Y : Type 0} → PortsFault → Result Y PortsFault → Type 0
+Refuses faults.NoMemory said = Unit {0}
+Refuses fault said = said ≡ Err fault
+
+-- what a whole text gives, seen by view, is what the definition says, unless memory ran out
+abbrev pub Reads : {X Y : Type 0} → (X → Y) → Result X PortsFault → Result Y PortsFault → Type 0
+Reads view (Ok x) said = said ≡ Ok (view x)
+Reads view (Err e) said = Refuses e said
+
+-- the schedule is the one, or the fault is the one, unless memory ran out
+abbrev pub Answers : Result Scenario PortsFault → Result World PortsFault → Type 0
+Answers result said = Reads world_of result said
+
+-- bytes after the end are a line that is bad
+abbrev pub fault_of_text : TextFault Cause → PortsFault
+fault_of_text texts.NoMemory = faults.NoMemory
+fault_of_text (texts.At cause n) = fault_at cause n
+fault_of_text (texts.After n) = faults.BadLine n
+fault_of_text texts.NoEnd = faults.NoEnd

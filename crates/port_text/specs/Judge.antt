@@ -1,0 +1,204 @@
+-- Reading line by line: what a good line adds, and what is wrong with a bad one.
+use Rattle.std.specs.Prelude.{ℕ, ◌+◌, ◌==◌, ◌||◌, not, nat_lt, if◌then◌else◌, Bool, true, false, List, [], ◌∷◌, ◌++◌, length, slice_index, slice_get, Option, Some, None, Result, Ok, Err, option_and_then}
+use Rattle.std.specs.List.{list_all}
+use Rattle.std.specs.Option.{option_map_or}
+use Rattle.line_text.specs.Numbers.{number_of}
+use Rattle.line_text.specs.Forms.{fields_of, numbers_of, hex_of, hex_bytes, is_printable}
+use Rattle.line_text.specs.Rows.{find_form}
+use Rattle.line_text.specs.Steps.{◌>>=◌, some_or}
+use Rattle.line_text.specs.Machine.{Machine, Wrong, At, After, NoEnd, read}
+use Rattle.scenario_text.specs.Sizes.{is_geometry}
+use Rattle.port_text.specs.declared.acts.Act.{Act}
+use Rattle.port_text.specs.declared.acts.Act.TheVariants as acts
+use Rattle.port_text.specs.declared.forms.Form.{Form}
+use Rattle.port_text.specs.declared.forms.Form.TheVariants.{Version, Peers, Out, Longest, Honest, Hostile, Begin, Publish, Sample, Turn, Poke, End}
+use Rattle.port_text.specs.declared.positions.Position.{Position}
+use Rattle.port_text.specs.declared.positions.Position.TheVariants.{AtVersion, AtPeers, AtOut, AtLongest, AtPeer, AtBegin, AtActs, Ended}
+use Rattle.port_text.specs.declared.faults.Cause.{Cause}
+use Rattle.port_text.specs.declared.faults.Cause.TheVariants.{BadLine, BadOrder, BadNumber, BadPeer, BadMessage, BadGeometry, TooManyTurns}
+use Rattle.port_text.specs.declared.faults.PortsFault.{PortsFault}
+use Rattle.port_text.specs.declared.faults.PortsFault.TheVariants as faults
+use Rattle.port_text.specs.Sizes.{ports_shape, has_port}
+use Rattle.port_text.specs.Table.{pieces_of, all_forms}
+use Rattle.port_text.specs.Acts.{cost, turns_of}
+use Rattle.port_text.specs.Scenario.{World, is_in_range, is_its_peer, is_message_length}
+
+-- what the lines so far say, with sizes in bytes; what no line has said yet is 0 or empty
+pub record SoFar : Type 0 where
+  pub position : Position
+  pub peers : ℕ
+  pub out : ℕ
+  pub most : ℕ
+  pub honest : List Bool
+  pub acts : List Act
+
+-- the world that they describe
+abbrev pub world_so_far : SoFar → World
+world_so_far d = record { geometry = ports_shape d.peers d.out; most = d.most; honest = d.honest; acts = d.acts }
+
+-- BadOrder
+
+abbrev pub ordinal_of : Position → ℕ
+ordinal_of AtVersion = 0
+ordinal_of AtPeers = 1
+ordinal_of AtOut = 2
+ordinal_of AtLongest = 3
+ordinal_of AtPeer = 4
+ordinal_of AtBegin = 5
+ordinal_of AtActs = 6
+ordinal_of Ended = 7
+
+-- where a form can stand
+abbrev pub position_of : Form → Position
+position_of Version = AtVersion
+position_of Peers = AtPeers
+position_of Out = AtOut
+position_of Longest = AtLongest
+position_of Honest = AtPeer
+position_of Hostile = AtPeer
+position_of Begin = AtBegin
+position_of _ = AtActs
+
+-- the rule of order that speaks of P: the head's peers come in order
+abbrev pub is_out_of_turn : SoFar → Form → ℕ → Bool
+is_out_of_turn d Honest p = not (p == length d.honest)
+is_out_of_turn d Hostile p = not (p == length d.honest)
+is_out_of_turn d _ p = false
+
+-- it is tested here only where P's field is a number
+abbrev pub is_out_of_order : SoFar → Form → List (List ℕ) → Bool
+is_out_of_order d form fields =
+    not (ordinal_of (position_of form) == ordinal_of d.position)
+    || option_map_or (is_out_of_turn d form) (option_and_then number_of (slice_get fields 1)) false
+
+-- BadNumber
+
+abbrev pub numbers_in : SoFar → Form → List (List ℕ) → Option (List ℕ)
+numbers_in d form fields =
+    option_and_then (λ ns. if is_in_range (world_so_far d) form ns then Some ns else None) (numbers_of (pieces_of form) fields)
+
+-- BadMessage
+
+abbrev pub message_in : SoFar → Form → List (List ℕ) → Option (List ℕ)
+message_in d form fields =
+    option_and_then (λ bytes. if is_message_length (world_so_far d) form (length bytes) then Some bytes else None)
+    (hex_bytes (hex_of (pieces_of form) fields))
+
+-- BadGeometry
+
+-- the region is judged on the `out` line, and the ports on the `message` line
+abbrev pub fits_sizes : SoFar → Form → List ℕ → Bool
+fits_sizes d Out ns = is_geometry d.peers 4096 0 (slice_index ns 0)
+fits_sizes d Longest ns = has_port (slice_index ns 0) d.out
+fits_sizes d _ ns = true
+
+-- What a line adds
+
+-- the form is that of an act
+abbrev pub is_act : Form → Bool
+is_act Publish = true
+is_act Sample = true
+is_act Turn = true
+is_act Poke = true
+is_act _ = false
+
+abbrev pub is_sample : Form → Bool
+is_sample Sample = true
+is_sample _ = false
+
+abbrev pub with_peer : Bool → SoFar → SoFar
+with_peer b d =
+    let honest = d.honest ++ b ∷ [] in
+    record d { position = if length honest == d.peers then AtBegin else AtPeer; honest = honest }
+
+abbrev pub with_act : Act → SoFar → SoFar
+with_act act d = record d { acts = d.acts ++ act ∷ [] }
+
+-- the act of a row, where the form is that of an act
+abbrev pub act_of : Form → List ℕ → List ℕ → Option Act
+act_of Publish ns bytes = Some (acts.Publish (slice_index ns 0) bytes)
+act_of Sample ns bytes = Some (acts.Sample (slice_index ns 0) (slice_index ns 1))
+act_of Turn ns bytes = Some (acts.Turn (slice_index ns 0) (slice_index ns 1))
+act_of Poke ns bytes = Some (acts.Poke (slice_index ns 0) (slice_index ns 1) (slice_index ns 2))
+act_of _ ns bytes = None
+
+abbrev pub add_head : Form → List ℕ → SoFar → SoFar
+add_head Version ns d = record d { position = AtPeers }
+add_head Peers ns d = record d { position = AtOut; peers = slice_index ns 0 }
+add_head Out ns d = record d { position = AtLongest; out = slice_index ns 0 }
+add_head Longest ns d = record d { position = AtPeer; most = slice_index ns 0 }
+add_head Honest ns d = with_peer true d
+add_head Hostile ns d = with_peer false d
+add_head Begin ns d = record d { position = AtActs }
+add_head End ns d = record d { position = Ended }
+add_head _ ns d = d
+
+abbrev pub turns_with : SoFar → Option Act → ℕ
+turns_with d (Some act) = turns_of d.acts + cost act
+turns_with d None = 0
+
+abbrev pub add : Form → List ℕ → Option Act → SoFar → SoFar
+add form ns (Some act) d = with_act act d
+add form ns None d = add_head form ns d
+
+-- A line: the tests in their order
+
+unfoldable pub judge : SoFar → Form → List (List ℕ) → Result SoFar Cause
+judge d form fields =
+    if is_out_of_order d form fields then Err BadOrder else do
+      ns ← some_or BadNumber (numbers_in d form fields)
+      if not (is_its_peer (world_so_far d) form ns) then Err BadPeer else do
+        bytes ← some_or BadMessage (message_in d form fields)
+        if not (fits_sizes d form ns) then Err BadGeometry else
+            if nat_lt 4000000 (turns_with d (act_of form ns bytes)) then Err TooManyTurns else Ok (add form ns (act_of form ns bytes) d)
+
+unfoldable pub step : SoFar → List ℕ → Result SoFar Cause
+step d line =
+    if list_all is_printable line then (do
+      form ← some_or BadLine (find_form pieces_of all_forms (fields_of line))
+      judge d form (fields_of line)) else Err BadLine
+
+-- The text
+
+abbrev pub at_start : SoFar
+at_start = record { position = AtVersion; peers = 0; out = 0; most = 0; honest = []; acts = [] }
+
+abbrev pub has_ended : SoFar → Bool
+has_ended d = ordinal_of d.position == 7
+
+abbrev pub machine : Machine SoFar Cause
+machine = record { step = step; ended = has_ended }
+
+-- what a text says, or what is wrong with it first
+abbrev pub reading : List ℕ → Result SoFar (Wrong Cause)
+reading bytes = read machine at_start bytes
+
+-- Answers
+
+abbrev pub fault_at : Cause → ℕ → PortsFault
+fault_at BadLine n = faults.BadLine n
+fault_at BadOrder n = faults.BadOrder n
+fault_at BadNumber n = faults.BadNumber n
+fault_at BadPeer n = faults.BadPeer n
+fault_at BadMessage n = faults.BadMessage n
+fault_at BadGeometry n = faults.BadGeometry n
+fault_at TooManyTurns n = faults.TooManyTurns n
+
+-- bytes after the end are a line that is bad
+abbrev pub fault_of : Wrong Cause → PortsFault
+fault_of (At cause n) = fault_at cause n
+fault_of (After n) = faults.BadLine n
+fault_of NoEnd = faults.NoEnd
+
+-- the same with the fault that is answered
+abbrev pub faulted : Result SoFar (Wrong Cause) → Result SoFar PortsFault
+faulted (Ok d) = Ok d
+faulted (Err wrong) = Err (fault_of wrong)
+
+abbrev pub world_in : Result SoFar PortsFault → Result World PortsFault
+world_in (Ok d) = Ok (world_so_far d)
+world_in (Err fault) = Err fault
+
+-- the schedule that a text spells, or its first fault
+abbrev pub answer : List ℕ → Result World PortsFault
+answer bytes = world_in (faulted (reading bytes))

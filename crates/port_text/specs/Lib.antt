@@ -1,0 +1,11 @@
+pub mod Sizes
+pub mod Table
+pub mod Acts
+pub mod ActRows
+pub mod Scenario
+pub mod Props
+pub mod Spelling
+pub mod Judge
+pub mod Answers
+pub mod Drafts
+pub mod Laws

@@ -1,0 +1,8 @@
+-- That something is a schedule of ports has one proof at most.
+use Rattle.std.proofs.Props.{props}
+use mathlib.Core.List.{is_set}
+use Rattle.scenario_text.specs.Props.{Fit-prop, FitBytes-prop}
+use Rattle.port_text.specs.Scenario.{World, IsWorld}
+
+pub IsWorld-prop : (w : World) → IsProp (IsWorld w)
+IsWorld-prop w = hlevel (props, is_set, Fit-prop, FitBytes-prop)

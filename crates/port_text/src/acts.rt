@@ -1,0 +1,106 @@
+//! What the lines after `begin` ask for.
+ghost use Rattle.std.specs.Prelude.{◌≡◌, ◌++◌, [], ◌∷◌, OnOk, OnErr};
+ghost use Rattle.port_text.specs.Acts.{cost};
+
+use ivs_base::NoMemory;
+use std::alloc::Global;
+use std::marker::Model;
+
+/// A message of a port: any list of bytes.
+#[derive(Debug, Drop)]
+pub struct Message {
+    bytes: Vec<u8>,
+}
+
+impl Model for Message {
+    ghost use Rattle.std.specs.Prelude.{List, ℕ};
+
+    ghost Value = { List ℕ };
+
+    ghost view = { λ message. message.bytes.items };
+}
+
+impl Message {
+    /// A message of these bytes, which takes no further memory.
+    pub fn of(bytes: Vec<u8>) -> Message
+        ensures { result ≡ bytes.items }
+    {
+        Message { bytes }
+    }
+
+    /// The bytes of the message, from its first.
+    pub fn bytes(&self) -> &[u8]
+        ensures { result.now ≡ self.now }
+    {
+        self.bytes.as_slice()
+    }
+}
+
+/// One line after `begin`: what happens next. `peer` is the peer that the line names.
+#[derive(Debug, Drop)]
+pub enum Act {
+    /// Queues the publish of this message. The peer is an honest one.
+    Publish { peer: u32, message: Message },
+    /// Queues a sample of the peer `from`, which may be the same one. The peer is an honest one.
+    Sample { peer: u32, from: u32 },
+    /// This many steps of the peer, at most 4,000,000.
+    Turn { peer: u32, steps: u32 },
+    /// The peer, a hostile one, writes a word of the region, or is denied.
+    Poke { peer: u32, word: u32, value: u32 },
+}
+
+impl Act {
+    /// How many acts the line counts for: `turn P K` for K, any other for 1.
+    pub fn cost(&self) -> u64
+        ensures { result ≡ cost self.now }
+    {
+        match self {
+            Act::Turn { steps, .. } => u64::from(*steps),
+            _ => 1,
+        }
+    }
+}
+
+/// Acts in their order.
+#[derive(Debug, Drop)]
+pub struct Acts {
+    items: Vec<Act>,
+}
+
+impl Model for Acts {
+    ghost use Rattle.std.specs.Prelude.{List};
+    ghost use Rattle.port_text.specs.declared.acts.Act.{Act};
+
+    ghost Value = { List Act };
+
+    ghost view = { λ acts. acts.items.items };
+}
+
+impl Acts {
+    /// The empty list. It takes no memory.
+    pub fn new(alloc: Global) -> Self
+        ensures { result ≡ [] }
+    {
+        Acts {
+            items: Vec::new(alloc),
+        }
+    }
+
+    /// Puts the act last. After NoMemory, which comes only where memory ran out, the list is unchanged and the act is dropped.
+    pub fn push(&mut self, item: Act) -> Result<(), NoMemory>
+        ensures ok { OnOk result (self.new ≡ self.old ++ item ∷ []) }
+        ensures err { OnErr result (self.new ≡ self.old) }
+    {
+        match self.items.push(item) {
+            Ok(()) => Ok(()),
+            Err(_) => Err(NoMemory),
+        }
+    }
+
+    /// The whole list.
+    pub fn items(&self) -> &[Act]
+        ensures { result.now ≡ self.now }
+    {
+        self.items.as_slice()
+    }
+}

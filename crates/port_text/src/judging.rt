@@ -1,0 +1,172 @@
+//! The tests of a line, in their order.
+ghost use Rattle.std.specs.Prelude.{◌≡◌, ◌<◌, ◌≤◌, ◌^◌, length, slice_index, slice_index_or, false, IsTrue};
+ghost use Rattle.line_text.specs.Forms.{texts, AreInRange};
+ghost use Rattle.section_map.specs.Geometry.{word_count};
+ghost use Rattle.scenario_text.specs.Sizes.{is_geometry};
+ghost use Rattle.port_text.specs.Sizes.{ports_shape, has_port};
+ghost use Rattle.port_text.specs.Table.{pieces_of};
+ghost use Rattle.port_text.specs.Scenario.{is_in_range, is_its_peer, is_message_length, is_honest, is_peer, is_hostile};
+ghost use Rattle.port_text.specs.Judge.{world_so_far, is_out_of_turn, is_out_of_order, fits_sizes, act_of, is_act, is_sample};
+ghost use Rattle.port_text.specs.Drafts.{so_far};
+
+use crate::acts::{Act, Message};
+use crate::drafts::Draft;
+use crate::forms::Form;
+use crate::positions::Position;
+use line_text::{number, number_at};
+use section_map::Geometry;
+
+/// The bytes of the State Table of the region.
+pub const TABLE: u32 = 4_096;
+
+/// The most bytes of the longest message.
+const LONGEST: u32 = 65_536;
+
+/// The flag of this peer, where it has one.
+fn flag(flags: &[bool], p: u64) -> bool
+    ensures { result ≡ slice_index_or flags.now p false }
+{
+    flags.get(p as usize).copied().unwrap_or(false)
+}
+
+/// Do the rules of order that speak of the peer forbid the line here?
+fn is_out_of_turn(draft: &Draft, form: Form, p: u64) -> bool
+    ensures { result ≡ is_out_of_turn (so_far draft.now) form p }
+{
+    match form {
+        Form::Honest | Form::Hostile => p != draft.honest.items().len() as u64,
+        _ => false,
+    }
+}
+
+/// Isn't the line allowed at this place?
+pub fn is_out_of_order(draft: &Draft, form: Form, fields: &[&[u8]]) -> bool
+    ensures { result ≡ is_out_of_order (so_far draft.now) form (texts fields.now) }
+{
+    if Position::of(form).ordinal() != draft.position.ordinal() {
+        return true;
+    }
+    match fields.get(1) {
+        None => false,
+        Some(field) => match number(field) {
+            None => false,
+            Some(p) => is_out_of_turn(draft, form, p),
+        },
+    }
+}
+
+/// The words of the region.
+fn words(draft: &Draft) -> u64
+    ensures { result ≡ word_count (ports_shape draft.now.peers draft.now.out) }
+{
+    u64::from(TABLE / 4) + u64::from(draft.peers) * (draft.out / 4)
+}
+
+/// Are the numbers in the ranges that depend on the head?
+pub fn is_in_range(draft: &Draft, form: Form, numbers: &[u64]) -> bool
+    ensures small { IsTrue result → IsTrue (is_sample form) → slice_index numbers.now 1 < 8 }
+    ensures value { result ≡ is_in_range (world_so_far (so_far draft.now)) form numbers.now }
+{
+    match form {
+        Form::Sample => number_at(numbers, 1) < u64::from(draft.peers),
+        Form::Poke => number_at(numbers, 1) < words(draft),
+        _ => true,
+    }
+}
+
+fn is_peer(draft: &Draft, p: u64) -> bool
+    ensures { result ≡ is_peer (world_so_far (so_far draft.now)) p }
+{
+    p < u64::from(draft.peers)
+}
+
+fn is_honest(draft: &Draft, p: u64) -> bool
+    ensures { result ≡ is_honest (world_so_far (so_far draft.now)) p }
+{
+    is_peer(draft, p) && flag(draft.honest.items(), p)
+}
+
+fn is_hostile(draft: &Draft, p: u64) -> bool
+    ensures { result ≡ is_hostile (world_so_far (so_far draft.now)) p }
+{
+    is_peer(draft, p) && !flag(draft.honest.items(), p)
+}
+
+/// Is the peer there, and of the kind that the form asks for?
+pub fn is_its_peer(draft: &Draft, form: Form, numbers: &[u64]) -> bool
+    ensures small { IsTrue result → IsTrue (is_act form) → slice_index numbers.now 0 < 8 }
+    ensures value { result ≡ is_its_peer (world_so_far (so_far draft.now)) form numbers.now }
+{
+    let p = number_at(numbers, 0);
+    match form {
+        Form::Publish | Form::Sample => is_honest(draft, p),
+        Form::Turn => is_peer(draft, p),
+        Form::Poke => is_hostile(draft, p),
+        _ => true,
+    }
+}
+
+/// Has the message of a publish 1 byte to the most bytes?
+pub fn is_message_length(draft: &Draft, form: Form, size: u64) -> bool
+    ensures { result ≡ is_message_length (world_so_far (so_far draft.now)) form size }
+{
+    match form {
+        Form::Publish => 1 <= size && size <= u64::from(draft.most),
+        _ => true,
+    }
+}
+
+/// Do these sizes have a region?
+fn is_geometry(peers: u32, out: u64) -> bool
+    ensures { result ≡ is_geometry peers 4096 0 out }
+{
+    Geometry::new(peers, TABLE, 0, out).is_ok()
+}
+
+/// Has a section of so many bytes room for a port with messages of this size?
+fn has_port(most: u32, out: u64) -> bool
+    ensures { result ≡ has_port most out }
+{
+    most % 4 == 0 && 4 <= most && most <= LONGEST && 4 * (3 + u64::from(most) / 2) <= out
+}
+
+/// On the lines `out` and `message`: do the sizes fit?
+pub fn fits_sizes(draft: &Draft, form: Form, numbers: &[u64]) -> bool
+    requires { AreInRange (pieces_of form) numbers.now }
+    ensures { result ≡ fits_sizes (so_far draft.now) form numbers.now }
+{
+    match form {
+        Form::Out => is_geometry(draft.peers, number_at(numbers, 0)),
+        Form::Longest => has_port(number_at(numbers, 0) as u32, draft.out),
+        _ => true,
+    }
+}
+
+/// The act of a line, where its form is that of an act.
+pub fn act_of(form: Form, numbers: &[u64], message: Message) -> Option<Act>
+    requires limits { AreInRange (pieces_of form) numbers.now }
+    requires peer { IsTrue (is_act form) → slice_index numbers.now 0 < 8 }
+    requires from { IsTrue (is_sample form) → slice_index numbers.now 1 < 8 }
+    ensures value { result ≡ act_of form numbers.now message }
+{
+    match form {
+        Form::Publish => Some(Act::Publish {
+            peer: number_at(numbers, 0) as u32,
+            message,
+        }),
+        Form::Sample => Some(Act::Sample {
+            peer: number_at(numbers, 0) as u32,
+            from: number_at(numbers, 1) as u32,
+        }),
+        Form::Turn => Some(Act::Turn {
+            peer: number_at(numbers, 0) as u32,
+            steps: number_at(numbers, 1) as u32,
+        }),
+        Form::Poke => Some(Act::Poke {
+            peer: number_at(numbers, 0) as u32,
+            word: number_at(numbers, 1) as u32,
+            value: number_at(numbers, 2) as u32,
+        }),
+        _ => None,
+    }
+}

@@ -1,0 +1,51 @@
+//! Where in a text of ports the next line stands.
+ghost use Rattle.std.specs.Prelude.{◌≡◌};
+ghost use Rattle.port_text.specs.Judge.{ordinal_of, position_of};
+
+use crate::forms::Form;
+
+/// The place of the next line.
+#[derive(Clone, Copy, Debug, PartialEq, Eq)]
+pub enum Position {
+    AtVersion,
+    AtPeers,
+    AtOut,
+    AtLongest,
+    AtPeer,
+    AtBegin,
+    AtActs,
+    Ended,
+}
+
+impl Position {
+    /// The number of the place, from 0.
+    pub fn ordinal(self) -> u8
+        ensures { result ≡ ordinal_of self }
+    {
+        match self {
+            Position::AtVersion => 0,
+            Position::AtPeers => 1,
+            Position::AtOut => 2,
+            Position::AtLongest => 3,
+            Position::AtPeer => 4,
+            Position::AtBegin => 5,
+            Position::AtActs => 6,
+            Position::Ended => 7,
+        }
+    }
+
+    /// Where lines of the form can stand.
+    pub fn of(form: Form) -> Position
+        ensures { result ≡ position_of form }
+    {
+        match form {
+            Form::Version => Position::AtVersion,
+            Form::Peers => Position::AtPeers,
+            Form::Out => Position::AtOut,
+            Form::Longest => Position::AtLongest,
+            Form::Honest | Form::Hostile => Position::AtPeer,
+            Form::Begin => Position::AtBegin,
+            _ => Position::AtActs,
+        }
+    }
+}

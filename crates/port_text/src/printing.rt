@@ -1,0 +1,99 @@
+//! Writing a text of ports.
+ghost use Rattle.std.specs.Prelude.{◌≡◌, ◌++◌, OnOk, map};
+ghost use Rattle.line_text.specs.Rows.{row, line_of_row, text_of};
+ghost use Rattle.port_text.specs.Table.{pieces_of};
+ghost use Rattle.port_text.specs.ActRows.{row_of_act};
+ghost use Rattle.port_text.specs.Spelling.{world_of, row_of_peer, rows_of_peers, sizes_rows, spelling};
+
+use crate::acts::Act;
+use crate::forms::Form;
+use crate::scenarios::Scenario;
+use line_text::put_line;
+use std::alloc::AllocError;
+
+/// Puts the line of a form last.
+#[tactic(auto, unfolding(line_text::specs::Rows::line_of_row))]
+fn put(out: &mut Vec<u8>, form: Form, numbers: &[u64], bytes: &[u8]) -> Result<(), AllocError>
+    ensures { OnOk result (out.new.items ≡ out.old.items ++ line_of_row pieces_of (row form numbers.now bytes.now)) }
+{
+    put_line(out, form.slots(), numbers, bytes)
+}
+
+fn put_peer(out: &mut Vec<u8>, p: u64, is_honest: bool) -> Result<(), AllocError>
+    ensures { OnOk result (out.new.items ≡ out.old.items ++ line_of_row pieces_of (row_of_peer p is_honest)) }
+{
+    if is_honest {
+        put(out, Form::Honest, &[p], &[])
+    } else {
+        put(out, Form::Hostile, &[p], &[])
+    }
+}
+
+fn put_peers(out: &mut Vec<u8>, honest: &[bool]) -> Result<(), AllocError>
+    ensures { OnOk result (out.new.items ≡ out.old.items ++ text_of pieces_of (rows_of_peers 0 honest.now)) }
+{
+    for (p, is_honest) in honest.iter().enumerate() {
+        put_peer(out, p as u64, *is_honest)?;
+    }
+    Ok(())
+}
+
+fn put_act(out: &mut Vec<u8>, act: &Act) -> Result<(), AllocError>
+    ensures { OnOk result (out.new.items ≡ out.old.items ++ line_of_row pieces_of (row_of_act act.now)) }
+{
+    match act {
+        Act::Publish { peer, message } => {
+            put(out, Form::Publish, &[u64::from(*peer)], message.bytes())
+        }
+        Act::Sample { peer, from } => put(
+            out,
+            Form::Sample,
+            &[u64::from(*peer), u64::from(*from)],
+            &[],
+        ),
+        Act::Turn { peer, steps } => put(
+            out,
+            Form::Turn,
+            &[u64::from(*peer), u64::from(*steps)],
+            &[],
+        ),
+        Act::Poke { peer, word, value } => put(
+            out,
+            Form::Poke,
+            &[u64::from(*peer), u64::from(*word), u64::from(*value)],
+            &[],
+        ),
+    }
+}
+
+fn put_acts(out: &mut Vec<u8>, acts: &[Act]) -> Result<(), AllocError>
+    ensures { OnOk result (out.new.items ≡ out.old.items ++ text_of pieces_of (map row_of_act acts.now)) }
+{
+    for act in acts {
+        put_act(out, act)?;
+    }
+    Ok(())
+}
+
+/// The lines up to the sizes.
+fn put_sizes(out: &mut Vec<u8>, scenario: &Scenario) -> Result<(), AllocError>
+    ensures { OnOk result (out.new.items ≡ out.old.items ++ text_of pieces_of (sizes_rows (world_of scenario.now))) }
+{
+    let geometry = &scenario.geometry;
+    put(out, Form::Version, &[1], &[])?;
+    put(out, Form::Peers, &[u64::from(geometry.peers())], &[])?;
+    put(out, Form::Out, &[4 * u64::from(geometry.out_words())], &[])?;
+    put(out, Form::Longest, &[u64::from(scenario.most)], &[])
+}
+
+/// Puts the text of the schedule, which is its one spelling, last.
+pub fn put_scenario(out: &mut Vec<u8>, scenario: &Scenario) -> Result<(), AllocError>
+    ensures { OnOk result (out.new.items ≡ out.old.items ++ spelling (world_of scenario.now)) }
+{
+    put_sizes(out, scenario)?;
+    put_peers(out, scenario.honest.items())?;
+    put(out, Form::Begin, &[], &[])?;
+    put_acts(out, scenario.acts.items())?;
+    put(out, Form::End, &[], &[])?;
+    Ok(())
+}

@@ -1,0 +1,4 @@
+mod RowLaws
+mod ArrowLaws
+mod UnfoldLaws
+mod OwnLaws

@@ -1,0 +1,5 @@
+pub mod Rows
+pub mod Arrows
+pub mod Laws
+pub mod Pictures
+pub mod Own

@@ -1,0 +1,14 @@
+-- Each frame that an honest pair delivers has the arrow from its own acceptance.
+use Rattle.std.specs.Prelude.{ℕ, ◌≡◌, ◌+◌, ◌-◌, ◌<◌, true, List, ◌∷◌, ◌++◌, reverse, slice_get, Some}
+use Rattle.scenario_text.specs.Scenario.{World, IsWorld, is_link}
+use Rattle.lawful_history.specs.declared.line.Line.{Line}
+use Rattle.lawful_history.specs.declared.line.Line.TheVariants.{Accept, Deliver}
+use Rattle.lawful_history.specs.Lawful.{IsLawful}
+use Rattle.record_chart.specs.Arrows.{source_of}
+
+-- where a peer of an honest pair delivers a frame in a lawful history, the source of its arrow is a line before it, at which the other accepted this very frame
+abbrev pub DeliveriesHaveTheirArrows : Type 0
+DeliveriesHaveTheirArrows = (world : World) (before after : List Line) (p : ℕ) (frame : List ℕ) → IsWorld world →
+    IsLawful world (before ++ Deliver p frame ∷ after) →
+    is_link world 0 ≡ true → is_link world 1 ≡ true → p < 2 →
+    (place : ℕ) × (source_of p (reverse before) ≡ Some (place + 1)) × (slice_get before place ≡ Some (Accept (1 - p) frame))

@@ -1,0 +1,356 @@
+//! The SVG file of a picture.
+
+use crate::arrows::Arrow;
+use crate::labels::{Folded, folded_of, grouped, label_of, state_name};
+use crate::lines::{line_at, peer_of};
+use crate::pictures::{Picture, is_link};
+use crate::places::{COLUMN, GUTTER, ROW, TOP, column_x, row_y};
+use crate::rows::Row;
+use crate::sheets::Sheet;
+use crate::tracks::{put_bands, put_calls, state_class};
+use ivs_base::NoMemory;
+use lawful_history::Line;
+use record_text::Trace;
+use scenario_text::Scenario;
+use std::alloc::{AllocError, Global};
+
+/// The colours, for light paper and for dark.
+const STYLE: &str = "<style>
+text{font:11px system-ui,sans-serif;fill:#1f2328}
+.title{font-size:14px;font-weight:600}
+.peer,.state{font-weight:600}
+.number{text-anchor:end;fill:#59636e}
+.soft{fill:#59636e}
+.warn{fill:#cf222e;font-weight:600}
+.frame{fill:#8250df;font-weight:600}
+.call{font-size:10px;fill:#59636e}
+.band{font-size:8px;fill:#fff}
+.paper{fill:#fff}
+.s0{fill:#6e7781}.s1{fill:#9a6700}.s2{fill:#0969da}.s3{fill:#1a7f37}
+.read{fill:none;stroke:#1f2328;stroke-width:1.2}
+.write{fill:#1f2328}
+.bar{fill:#afb8c1;opacity:.5}
+.stripe{fill:#818b98;opacity:.12}
+.bracket{fill:none;stroke:#59636e;stroke-width:1.2}
+.cut{stroke-dasharray:3 2}
+.bell{fill:none;stroke:#0969da;stroke-width:1.2}
+.bellhead{fill:#0969da}
+.lost{fill:none;stroke:#cf222e;stroke-width:1.4;stroke-dasharray:3 2}
+.reset{fill:none;stroke:#cf222e;stroke-width:1.4}
+.way{fill:none;stroke:#8250df;stroke-width:4;opacity:.45;stroke-linejoin:round}
+.wayhead{fill:#8250df}
+@media (prefers-color-scheme:dark){
+text{fill:#e6edf3}
+.number,.soft,.call{fill:#9198a1}
+.warn{fill:#ff7b72}.frame{fill:#d2a8ff}
+.paper{fill:#0d1117}
+.read{stroke:#e6edf3}.write{fill:#e6edf3}
+.bar{fill:#6e7681}
+.bracket{stroke:#9198a1}
+.bell{stroke:#58a6ff}.bellhead{fill:#58a6ff}
+.lost,.reset{stroke:#ff7b72}
+.way{stroke:#d2a8ff}.wayhead{fill:#d2a8ff}
+}
+</style>
+";
+
+/// What a row is drawn as.
+#[derive(Clone, Copy, Debug, PartialEq, Eq)]
+enum Shape {
+    Read,
+    Write,
+    Bar,
+    Warning,
+    State,
+    Bell(u32),
+    Comes,
+    Lost,
+    Reset,
+    Frame,
+    Mark,
+}
+
+/// What a row is drawn as, whose first line this is.
+fn shape_of(storms: &[u32], line: &Line, row: &Row) -> Shape {
+    match line {
+        Line::Read { .. }
+        | Line::ConfigRead { .. }
+        | Line::RegisterRead { .. }
+        | Line::MsixRead { .. } => Shape::Read,
+        Line::Write { peer, .. } if folded_of(storms, *peer, row) != Folded::One => Shape::Bar,
+        Line::Write { .. }
+        | Line::ConfigWrite { .. }
+        | Line::RegisterWrite { .. }
+        | Line::MsixWrite { .. } => Shape::Write,
+        Line::Denied { .. } | Line::Refuse { .. } => Shape::Warning,
+        Line::State { .. } | Line::Session { .. } => Shape::State,
+        Line::Doorbell { target, .. } => Shape::Bell(*target),
+        Line::Interrupt { .. } => Shape::Comes,
+        Line::Lost { .. } => Shape::Lost,
+        Line::Reset { .. } => Shape::Reset,
+        Line::Accept { .. } | Line::Deliver { .. } => Shape::Frame,
+        _ => Shape::Mark,
+    }
+}
+
+/// The class of a row's words.
+fn words_class(shape: Shape) -> &'static str {
+    match shape {
+        Shape::Warning | Shape::Lost | Shape::Reset => "warn",
+        Shape::State => "state",
+        Shape::Frame => "frame",
+        Shape::Mark => "soft",
+        _ => "plain",
+    }
+}
+
+/// Draws a doorbell as an arrow to the column of its target.
+fn put_bell(sheet: &mut Sheet, peers: u32, peer: u32, target: u32, y: u64) -> Result<(), NoMemory> {
+    if target >= peers || target == peer {
+        return Ok(());
+    }
+    let x = column_x(peer);
+    let end = column_x(target);
+    if peer < target {
+        sheet.level("bell", x + 150, end.saturating_sub(10), y)?;
+        sheet.head("bellhead", end.saturating_sub(4), y, true)
+    } else {
+        sheet.level("bell", x.saturating_sub(4), end + COLUMN + 6, y)?;
+        sheet.head("bellhead", end + COLUMN, y, false)
+    }
+}
+
+/// Draws the mark of a row.
+fn put_mark(
+    sheet: &mut Sheet,
+    peers: u32,
+    peer: u32,
+    shape: Shape,
+    row: usize,
+) -> Result<(), NoMemory> {
+    let x = column_x(peer);
+    let y = row_y(row) + ROW / 2;
+    match shape {
+        Shape::Read => sheet.circle("read", x + 38, y),
+        Shape::Write => sheet.circle("write", x + 38, y),
+        Shape::Bar => sheet.rect("bar", x + 34, y - 7, COLUMN - 40, 14),
+        Shape::Bell(target) => put_bell(sheet, peers, peer, target, y),
+        Shape::Comes => {
+            sheet.level("bell", x + 18, x + 38, y)?;
+            sheet.head("bellhead", x + 12, y, false)
+        }
+        Shape::Lost => {
+            sheet.level("lost", x + 25, x + 38, y)?;
+            sheet.words("warn", x + 17, y + 4, "x")
+        }
+        Shape::Reset => sheet.level("reset", x, x + COLUMN, y - 8),
+        _ => Ok(()),
+    }
+}
+
+/// Draws a row: its number, its mark and its words.
+fn put_row(
+    alloc: Global,
+    sheet: &mut Sheet,
+    trace: &Trace,
+    storms: &[u32],
+    at: usize,
+    row: &Row,
+) -> Result<(), NoMemory> {
+    let Some(line) = line_at(trace.lines.items(), row.first) else {
+        return Ok(());
+    };
+    let peers = trace.scenario.geometry.peers();
+    let peer = peer_of(line);
+    let shape = shape_of(storms, line, row);
+    let base = row_y(at) + 12;
+    let number = row.first;
+    let number = format!(in alloc; "{number}")?;
+    sheet.words("number", 48, base, number.as_str())?;
+    let label = label_of(alloc, &trace.scenario, storms, line, row)?;
+    if peer >= peers {
+        let label = format!(in alloc; "peer {peer}: {label}")?;
+        return sheet.words("warn", column_x(0) + 46, base, label.as_str());
+    }
+    put_mark(sheet, peers, peer, shape, at)?;
+    sheet.words(
+        words_class(shape),
+        column_x(peer) + 46,
+        base,
+        label.as_str(),
+    )
+}
+
+/// The row of the line of this number, or the first or the last row.
+fn row_of(rows: &[Row], number: u64) -> usize {
+    let mut found = 0;
+    for (at, row) in rows.iter().enumerate() {
+        if row.first <= number {
+            found = at;
+        }
+    }
+    found
+}
+
+/// Draws the arrow of a frame from its acceptance to its delivery.
+fn put_arrow(
+    sheet: &mut Sheet,
+    lines: &[Line],
+    rows: &[Row],
+    arrow: &Arrow,
+    lane: u64,
+) -> Result<(), NoMemory> {
+    let Some(line) = line_at(lines, arrow.to) else {
+        return Ok(());
+    };
+    let is_right = peer_of(line) == 1;
+    let left = column_x(0) + COLUMN - 4;
+    let right = column_x(1) - 4;
+    let lane = left + 10 + 7 * lane.min(3);
+    let end = row_y(row_of(rows, arrow.to)) + ROW / 2;
+    let is_seen = match rows.first() {
+        Some(row) => row.first <= arrow.from,
+        None => false,
+    };
+    let start = if is_seen {
+        row_y(row_of(rows, arrow.from)) + ROW / 2
+    } else {
+        TOP - 4
+    };
+    if is_right {
+        sheet.step("way", (left, start), lane, (right - 6, end))?;
+        sheet.head("wayhead", right, end, true)
+    } else {
+        sheet.step("way", (right, start), lane, (left + 6, end))?;
+        sheet.head("wayhead", left, end, false)
+    }
+}
+
+/// Draws what the colour of a state, 0 to 3, is.
+fn put_state(sheet: &mut Sheet, state: u32) -> Result<(), NoMemory> {
+    let x = 16 + 66 * u64::from(state.min(3));
+    sheet.rect(state_class(state), x, 38, 10, 10)?;
+    sheet.words("soft", x + 14, 47, state_name(state))
+}
+
+/// Draws what stands over the rows: what the colours and marks are, and the columns' heads.
+fn put_heads(alloc: Global, sheet: &mut Sheet, scenario: &Scenario) -> Result<(), NoMemory> {
+    sheet.words("number", 48, TOP - 14, "line")?;
+    for state in 0..4 {
+        put_state(sheet, state)?;
+    }
+    sheet.circle("read", 294, 43)?;
+    sheet.words("soft", 302, 47, "reads")?;
+    sheet.circle("write", 346, 43)?;
+    sheet.words("soft", 354, 47, "writes")?;
+    sheet.level("bell", 404, 420, 43)?;
+    sheet.head("bellhead", 426, 43, true)?;
+    sheet.words("soft", 432, 47, "doorbell, interrupt")?;
+    sheet.level("way", 538, 552, 43)?;
+    sheet.head("wayhead", 558, 43, true)?;
+    sheet.words("soft", 564, 47, "frame")?;
+    for (at, honest) in scenario.honest.items().iter().enumerate() {
+        let kind = if *honest { "honest" } else { "hostile" };
+        let peer = at.min(8) as u32;
+        let words = format!(in alloc; "peer {peer}, {kind}")?;
+        sheet.words("peer", column_x(peer), TOP - 14, words.as_str())?;
+    }
+    Ok(())
+}
+
+/// Which lines of a history of so many are shown: so many, from this one on.
+fn title_of(alloc: Global, first: u64, shown: u64, total: usize) -> Result<String, AllocError> {
+    if shown == 0 {
+        return format!(in alloc; "No history lines from {first} on: there are {total}");
+    }
+    let last = first.saturating_add(shown - 1);
+    format!(in alloc; "History lines {first} to {last} of {total}")
+}
+
+/// Writes the head of the file: its size, its title and what it shows.
+fn put_start(
+    alloc: Global,
+    sheet: &mut Sheet,
+    trace: &Trace,
+    picture: &Picture,
+    first: u64,
+    shown: u64,
+) -> Result<(), NoMemory> {
+    let peers = trace.scenario.geometry.peers();
+    let width = (column_x(peers) - GUTTER).max(620) + 44;
+    let height = row_y(picture.rows.len()) + 40;
+    let rows = picture.rows.len();
+    let arrows = picture.arrows.len();
+    let title = title_of(alloc, first, shown, trace.lines.items().len())?;
+    let start = format!(in alloc;
+        "<svg xmlns='http://www.w3.org/2000/svg' width='{width}' height='{height}' viewBox='0 0 {width} {height}' "
+    )?;
+    sheet.raw(start.as_str())?;
+    let start = format!(in alloc;
+        "role='img' aria-labelledby='title desc'>\n<title id='title'>{title}</title>\n"
+    )?;
+    sheet.raw(start.as_str())?;
+    let text = format!(in alloc;
+        "<desc id='desc'>A record of {peers} peers, a column for each, from the upper edge down: {rows} rows. Arrows from the acceptance of a frame to its delivery: {arrows}.</desc>\n"
+    )?;
+    sheet.raw(text.as_str())?;
+    sheet.raw(STYLE)?;
+    sheet.rect("paper", 0, 0, width, height)?;
+    sheet.words("title", 16, 24, title.as_str())
+}
+
+/// Draws faint stripes, by which the eye keeps to a row.
+fn put_stripes(sheet: &mut Sheet, peers: u32, rows: usize) -> Result<(), NoMemory> {
+    let width = column_x(peers) - GUTTER;
+    for at in 0..rows.min(4000) {
+        if at % 2 == 1 {
+            sheet.rect("stripe", 0, row_y(at), width, ROW)?;
+        }
+    }
+    Ok(())
+}
+
+/// Draws what stands under the rows.
+fn put_end(alloc: Global, sheet: &mut Sheet, picture: &Picture) -> Result<(), NoMemory> {
+    let base = row_y(picture.rows.len()) + 20;
+    if picture.left_out > 0 {
+        let left_out = grouped(alloc, picture.left_out)?;
+        let words = format!(in alloc; "{left_out} more lines are left out here")?;
+        sheet.words("warn", 16, base, words.as_str())?;
+    }
+    sheet.raw("</svg>\n")
+}
+
+/// The SVG file of a picture of the lines of a record from this number on.
+pub fn draw(
+    alloc: Global,
+    trace: &Trace,
+    first: u64,
+    picture: &Picture,
+) -> Result<Vec<u8>, NoMemory> {
+    let lines = trace.lines.items();
+    let rows = picture.rows.as_slice();
+    let peers = trace.scenario.geometry.peers();
+    let mut shown: u64 = 0;
+    for row in rows {
+        shown = shown.saturating_add(row.count);
+    }
+    let mut sheet = Sheet::new(alloc);
+    put_start(alloc, &mut sheet, trace, picture, first, shown)?;
+    put_stripes(&mut sheet, peers, rows.len())?;
+    put_heads(alloc, &mut sheet, &trace.scenario)?;
+    for peer in 0..peers.min(8) {
+        put_bands(&mut sheet, lines, first, rows, peer)?;
+        if is_link(&trace.scenario, peer) {
+            put_calls(&mut sheet, lines, rows, peer)?;
+        }
+    }
+    for (at, arrow) in picture.arrows.iter().enumerate() {
+        put_arrow(&mut sheet, lines, rows, arrow, (at % 4) as u64)?;
+    }
+    for (at, row) in rows.iter().enumerate() {
+        put_row(alloc, &mut sheet, trace, &picture.storms, at, row)?;
+    }
+    put_end(alloc, &mut sheet, picture)?;
+    Ok(sheet.into_bytes())
+}

@@ -1,0 +1,255 @@
+//! What stands beside the mark of a row.
+
+use crate::rows::Row;
+use crate::words::{value_text, word_name};
+use ivs_base::Frame;
+use lawful_history::Line;
+use scenario_text::Scenario;
+use split_ring::{FieldName, Refused};
+use std::alloc::{AllocError, Global};
+
+/// How many bytes of a frame are shown.
+const FIRST_BYTES: usize = 6;
+
+/// The name of a state. Every state above 3 counts as RUN.
+pub fn state_name(state: u32) -> &'static str {
+    match state {
+        0 => "RESET",
+        1 => "INIT",
+        2 => "READY",
+        3 => "RUN",
+        _ => "as RUN",
+    }
+}
+
+/// A count with a comma before each three digits.
+pub fn grouped(alloc: Global, count: u64) -> Result<String, AllocError> {
+    let thousands = count / 1000;
+    let rest = count % 1000;
+    if thousands == 0 {
+        format!(in alloc; "{rest}")
+    } else if thousands < 1000 {
+        format!(in alloc; "{thousands},{rest:03}")
+    } else {
+        let millions = thousands / 1000;
+        let middle = thousands % 1000;
+        format!(in alloc; "{millions},{middle:03},{rest:03}")
+    }
+}
+
+/// `3 turns`, or `1 turn`.
+fn counted(alloc: Global, count: u64, one: &str, many: &str) -> Result<String, AllocError> {
+    if count == 1 {
+        return format!(in alloc; "1 {one}");
+    }
+    let count = grouped(alloc, count)?;
+    format!(in alloc; "{count} {many}")
+}
+
+/// The length of a frame and its first bytes.
+fn frame_text(alloc: Global, verb: &str, frame: &Frame) -> Result<String, AllocError> {
+    let bytes = frame.bytes();
+    let size = bytes.len();
+    let mut text = format!(in alloc; "{verb} {size} bytes ")?;
+    for byte in bytes.iter().take(FIRST_BYTES) {
+        write!(text, "{byte:02x}")?;
+    }
+    if size > FIRST_BYTES {
+        text.push_str("..")?;
+    }
+    Ok(text)
+}
+
+/// The field of a refusal, as the record names it.
+fn field_text(field: FieldName) -> &'static str {
+    match field {
+        FieldName::AvailIndex => "AvailIndex",
+        FieldName::AvailEntry => "AvailEntry",
+        FieldName::DescAddress => "DescAddress",
+        FieldName::DescLength => "DescLength",
+        FieldName::DescFlags => "DescFlags",
+        FieldName::UsedIndex => "UsedIndex",
+        FieldName::UsedId => "UsedId",
+    }
+}
+
+/// A field and the value that was refused.
+fn refusal_text(alloc: Global, refused: &Refused) -> Result<String, AllocError> {
+    let field = field_text(refused.field);
+    let value = refused.value;
+    format!(in alloc; "refuses {field} {value}")
+}
+
+/// A write.
+fn one_write_text(
+    alloc: Global,
+    scenario: &Scenario,
+    peer: u32,
+    word: u32,
+    value: u32,
+) -> Result<String, AllocError> {
+    let name = word_name(alloc, scenario, peer, word)?;
+    let value = value_text(alloc, scenario, word, value)?;
+    format!(in alloc; "{name} = {value}")
+}
+
+/// What the lines of a row are together.
+#[derive(Clone, Copy, Debug, PartialEq, Eq)]
+pub enum Folded {
+    One,
+    Storm(u64),
+    Clear(u64),
+}
+
+/// What the writes of a row are together, in which this peer stands first.
+pub fn folded_of(storms: &[u32], peer: u32, row: &Row) -> Folded {
+    if row.count == 1 {
+        Folded::One
+    } else if storms.contains(&peer) {
+        Folded::Storm(row.count)
+    } else {
+        Folded::Clear(row.count)
+    }
+}
+
+/// A write, or the writes that share a row.
+fn write_text(
+    alloc: Global,
+    scenario: &Scenario,
+    peer: u32,
+    word: u32,
+    value: u32,
+    folded: Folded,
+) -> Result<String, AllocError> {
+    match folded {
+        Folded::Storm(count) => {
+            let writes = counted(alloc, count, "write", "writes")?;
+            format!(in alloc; "storm, {writes}")
+        }
+        Folded::Clear(count) => {
+            let count = grouped(alloc, count)?;
+            format!(in alloc; "{count} words cleared")
+        }
+        Folded::One => one_write_text(alloc, scenario, peer, word, value),
+    }
+}
+/// What a step on the device is called.
+fn device_text(alloc: Global, line: &Line) -> Result<String, AllocError> {
+    match line {
+        Line::ConfigRead {
+            offset,
+            width,
+            value,
+            ..
+        } => {
+            let bytes = counted(alloc, u64::from(*width), "byte", "bytes")?;
+            format!(in alloc; "config {offset}, {bytes}: {value}")
+        }
+        Line::ConfigWrite {
+            offset,
+            width,
+            value,
+            ..
+        } => {
+            let bytes = counted(alloc, u64::from(*width), "byte", "bytes")?;
+            format!(in alloc; "config {offset}, {bytes} = {value}")
+        }
+        Line::RegisterRead { offset, value, .. } => {
+            let name = register_name(*offset);
+            format!(in alloc; "register {offset}{name}: {value}")
+        }
+        Line::RegisterWrite { offset, value, .. } => {
+            let name = register_name(*offset);
+            format!(in alloc; "register {offset}{name} = {value}")
+        }
+        Line::MsixRead { offset, value, .. } => format!(in alloc; "MSI-X {offset}: {value}"),
+        Line::MsixWrite { offset, value, .. } => format!(in alloc; "MSI-X {offset} = {value}"),
+        _ => format!(in alloc; "?"),
+    }
+}
+
+/// The name of a register, by its byte.
+fn register_name(offset: u32) -> &'static str {
+    match offset {
+        0 => " ID",
+        4 => " Maximum Peers",
+        8 => " Interrupt Control",
+        12 => " Doorbell",
+        16 => " State",
+        _ => "",
+    }
+}
+
+/// What a mark says.
+fn mark_text(alloc: Global, line: &Line) -> Result<String, AllocError> {
+    match line {
+        Line::Saw { value, .. } => {
+            let name = state_name(*value);
+            format!(in alloc; "saw {value} {name}")
+        }
+        Line::Reclaim { count, .. } => format!(in alloc; "finds {count} returned"),
+        Line::Look { count, .. } => format!(in alloc; "finds {count} new"),
+        Line::Full { .. } => format!(in alloc; "full"),
+        Line::Done { .. } => format!(in alloc; "done"),
+        Line::Over { .. } => format!(in alloc; "over"),
+        Line::Down { .. } => format!(in alloc; "not in RUN"),
+        Line::Accept { frame, .. } => frame_text(alloc, "accepts", frame),
+        Line::Deliver { frame, .. } => frame_text(alloc, "delivers", frame),
+        Line::Return { .. } => format!(in alloc; "returned one"),
+        Line::Refuse { refused, .. } => refusal_text(alloc, refused),
+        Line::Session { opened, other, .. } => {
+            format!(in alloc; "session {opened} with {other}")
+        }
+        _ => device_text(alloc, line),
+    }
+}
+
+/// A write of the Doorbell register.
+fn bell_text(alloc: Global, peer: u32, target: u32, vector: u32) -> Result<String, AllocError> {
+    if target == peer {
+        return format!(in alloc; "rings itself, vector {vector}");
+    }
+    format!(in alloc; "rings {target}, vector {vector}")
+}
+
+/// What stands beside the mark of a row, whose first line this is.
+pub fn label_of(
+    alloc: Global,
+    scenario: &Scenario,
+    storms: &[u32],
+    line: &Line,
+    row: &Row,
+) -> Result<String, AllocError> {
+    match line {
+        Line::Read { peer, word, value } => {
+            let name = word_name(alloc, scenario, *peer, *word)?;
+            let value = value_text(alloc, scenario, *word, *value)?;
+            format!(in alloc; "{name}: {value}")
+        }
+        Line::Write { peer, word, value } => {
+            let folded = folded_of(storms, *peer, row);
+            write_text(alloc, scenario, *peer, *word, *value, folded)
+        }
+        Line::Denied { peer, word } => {
+            let name = word_name(alloc, scenario, *peer, *word)?;
+            format!(in alloc; "denied: {name}")
+        }
+        Line::State { value, .. } => {
+            let name = state_name(*value);
+            format!(in alloc; "State = {value} {name}")
+        }
+        Line::Doorbell {
+            peer,
+            target,
+            vector,
+        } => bell_text(alloc, *peer, *target, *vector),
+        Line::Interrupt { vector, .. } => format!(in alloc; "interrupt, vector {vector}"),
+        Line::Lost { vector, .. } => format!(in alloc; "lost interrupt, vector {vector}"),
+        Line::Reset { .. } => format!(in alloc; "device reset"),
+        Line::Idle { .. } => {
+            let turns = counted(alloc, row.count, "turn", "turns")?;
+            format!(in alloc; "idle, {turns}")
+        }
+        _ => mark_text(alloc, line),
+    }
+}

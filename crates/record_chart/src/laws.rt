@@ -1,0 +1,19 @@
+//! What holds of all pictures. Each function does nothing: its contract is the law.
+ghost use Rattle.record_chart.specs.Laws.{RowsAreTheLines};
+ghost use Rattle.record_chart.specs.Own.{DeliveriesHaveTheirArrows};
+
+use history_laws::histories_run_the_machine;
+
+/// The rows, unfolded, are the lines, each once and in order; in a row each line goes on from the one before it.
+#[tactic(auto, using(crate::proofs::UnfoldLaws::unfold_rows))]
+pub fn rows_are_the_lines()
+    ensures { RowsAreTheLines }
+{}
+
+/// In a lawful history each frame that a peer of an honest pair delivers has the arrow from its own acceptance: the line at which the other
+/// accepted this very frame.
+pub fn deliveries_have_their_arrows()
+    ensures { DeliveriesHaveTheirArrows }
+{
+    histories_run_the_machine();
+}

@@ -1,0 +1,93 @@
+//! What a picture shows of a record.
+ghost use Rattle.std.specs.Prelude.{◌≡◌, ℕ, ◌+◌, ◌-◌, ◌<◌, ◌≤◌, ◌^◌, ◌++◌, IfOk, OnOk, length};
+ghost use Rattle.scenario_text.specs.Spelling.{world_of};
+ghost use Rattle.scenario_text.specs.Scenario.{is_link};
+ghost use Rattle.record_chart.specs.Rows.{lines_between};
+ghost use Rattle.record_chart.specs.Pictures.{pair_arrows, IsPicture};
+
+use crate::arrows::{Arrow, arrows_of};
+use crate::rows::{Row, Rows, rows_of, storms_of};
+use ivs_base::NoMemory;
+use lawful_history::Line;
+use record_text::Trace;
+use scenario_text::Scenario;
+use std::alloc::Global;
+
+/// What a picture shows of a history.
+#[derive(Debug, Drop)]
+pub struct Picture {
+    /// The rows, 2,000 at most.
+    pub rows: Vec<Row>,
+    /// How many lines that were asked for come after the rows.
+    pub left_out: u64,
+    /// The peers that storm.
+    pub storms: Vec<u32>,
+    /// The arrows to the lines of the rows.
+    pub arrows: Vec<Arrow>,
+}
+
+/// The lines from one number to another, counted from 1.
+fn lines_between(lines: &[Line], first: u64, last: u64) -> &[Line]
+    requires { 1 ≤ first }
+    ensures between { result.now ≡ lines_between first last lines.now }
+    ensures fits { first + length result.now < 2 ^ 64 }
+{
+    let end = last.min(lines.len() as u64) as usize;
+    let front = &lines[..end];
+    let start = (first - 1).min(front.len() as u64) as usize;
+    &front[start..]
+}
+
+/// Is it an honest link peer?
+pub fn is_link(scenario: &Scenario, peer: u32) -> bool
+    ensures { result ≡ is_link (world_of scenario.now) peer }
+{
+    peer < 2
+        && scenario
+            .honest
+            .items()
+            .get(peer as usize)
+            .copied()
+            .unwrap_or(false)
+}
+
+/// The arrows to the deliveries of an honest pair in these lines, the first of a history, from the line numbered `first` on.
+fn pair_arrows(
+    alloc: Global,
+    scenario: &Scenario,
+    first: u64,
+    lines: &[Line],
+) -> Result<Vec<Arrow>, NoMemory>
+    ensures { IfOk result (λ arrows. arrows.items ≡ pair_arrows (world_of scenario.now) first lines.now) }
+{
+    if !(is_link(scenario, 0) && is_link(scenario, 1)) {
+        return Ok(Vec::new(alloc));
+    }
+    let mut arrows = arrows_of(alloc, 0, first, lines)?;
+    let others = arrows_of(alloc, 1, first, lines)?;
+    arrows.extend_from_slice(&others)?;
+    Ok(arrows)
+}
+
+/// What a picture of these lines of a record shows: from one number to another, counted from 1. NoMemory comes only where memory ran out.
+pub fn picture_of(alloc: Global, trace: &Trace, first: u64, last: u64) -> Result<Picture, NoMemory>
+    requires { 1 ≤ first }
+    ensures { IfOk result (IsPicture (world_of trace.now.scenario) trace.now.lines first last) }
+{
+    let lines = trace.lines.items();
+    let shown = lines_between(lines, first, last);
+    let storms = storms_of(alloc, trace.scenario.acts.items())?;
+    let Rows {
+        items: rows,
+        left_out,
+    } = rows_of(alloc, &storms, shown, first)?;
+    let drawn = shown.len() - left_out as usize;
+    let end = (first - 1).min(lines.len() as u64) as usize + drawn;
+    let arrows = pair_arrows(alloc, &trace.scenario, first, &lines[..end])?;
+    Ok(Picture {
+        rows,
+        left_out,
+        storms,
+        arrows,
+    })
+}

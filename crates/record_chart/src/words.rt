@@ -1,0 +1,166 @@
+//! What a word of the region is called, and how its value is shown.
+
+use scenario_text::Scenario;
+use section_map::Section;
+use split_ring::Queue;
+use std::alloc::{AllocError, Global};
+
+/// What a word holds: one number, a number in its high half beside flags, or two numbers.
+#[derive(Clone, Copy, Debug, PartialEq, Eq)]
+enum Halves {
+    Whole,
+    Index,
+    Two,
+}
+
+/// What the word of a section holds.
+fn halves_of(queue: &Queue, word: u32) -> Halves {
+    let index = queue.avail_word();
+    if word == index || word == queue.used_word() {
+        Halves::Index
+    } else if index < word && word < queue.used_event_word() {
+        Halves::Two
+    } else {
+        Halves::Whole
+    }
+}
+
+/// The value of a word of a section as a reader sees it: an index without the flags beside it where they are 0.
+fn halves_text(alloc: Global, halves: Halves, value: u32) -> Result<String, AllocError> {
+    let low = value % 65_536;
+    let high = value / 65_536;
+    match halves {
+        Halves::Index if low == 0 => format!(in alloc; "{high}"),
+        Halves::Index => format!(in alloc; "{high}, flags {low}"),
+        Halves::Two => format!(in alloc; "{low}, {high}"),
+        Halves::Whole => format!(in alloc; "{value}"),
+    }
+}
+
+/// The word of a descriptor.
+fn descriptor_name(alloc: Global, word: u32) -> Result<String, AllocError> {
+    let descriptor = word / 4;
+    let field = match word % 4 {
+        0 => "address low",
+        1 => "address high",
+        2 => "length",
+        _ => "flags",
+    };
+    format!(in alloc; "descriptor {descriptor} {field}")
+}
+
+/// The word of a used element, where `word` counts from the first of them.
+fn element_name(alloc: Global, word: u32) -> Result<String, AllocError> {
+    let element = word / 2;
+    let field = if word % 2 == 0 { "id" } else { "length" };
+    format!(in alloc; "used element {element} {field}")
+}
+
+/// The word of the data area, where `word` counts from its first.
+fn data_name(alloc: Global, queue: &Queue, word: u32) -> Result<String, AllocError> {
+    let words = (queue.slot() / 4).max(1);
+    let slot = word / words;
+    if slot < queue.limit() {
+        let place = word % words;
+        format!(in alloc; "frame {slot} word {place}")
+    } else {
+        format!(in alloc; "data word {word}")
+    }
+}
+
+/// The word of an available entry, or of the rings' other words.
+fn ring_name(alloc: Global, queue: &Queue, word: u32) -> Result<String, AllocError> {
+    let index = queue.avail_word();
+    let used = queue.used_word();
+    if word == index {
+        format!(in alloc; "available index")
+    } else if index < word && word < queue.used_event_word() {
+        let entry = 2 * u64::from(word - index - 1);
+        let next = entry + 1;
+        format!(in alloc; "entry {entry}, {next}")
+    } else if word == queue.used_event_word() {
+        format!(in alloc; "used event")
+    } else if word == used {
+        format!(in alloc; "used index")
+    } else if used < word && word < queue.avail_event_word() {
+        element_name(alloc, word - used - 1)
+    } else if word == queue.avail_event_word() {
+        format!(in alloc; "available event")
+    } else {
+        format!(in alloc; "free word {word}")
+    }
+}
+
+/// The name of a word of an output section, counted from its start.
+fn field_name(alloc: Global, queue: &Queue, word: u32) -> Result<String, AllocError> {
+    let payload = queue.payload() / 4;
+    if word < queue.avail_word() {
+        descriptor_name(alloc, word)
+    } else if word < payload {
+        ring_name(alloc, queue, word)
+    } else {
+        data_name(alloc, queue, word - payload)
+    }
+}
+
+/// The word of a section, from the section's start, and whose section it is; None where it is in none.
+fn place_in_section(scenario: &Scenario, word: u32) -> Option<(u32, u32)> {
+    let geometry = &scenario.geometry;
+    if word >= geometry.words() {
+        return None;
+    }
+    let Section::Output(owner) = geometry.section_of(word) else {
+        return None;
+    };
+    if owner >= geometry.peers() {
+        return None;
+    }
+    Some((owner, word.saturating_sub(geometry.section_start(owner))))
+}
+
+/// The name of a word outside of the output sections.
+fn common_name(alloc: Global, scenario: &Scenario, word: u32) -> Result<String, AllocError> {
+    let geometry = &scenario.geometry;
+    let table = geometry.table_words();
+    if word < geometry.peers() {
+        format!(in alloc; "state of {word}")
+    } else if word < table {
+        format!(in alloc; "table word {word}")
+    } else if word - table < geometry.common_words() {
+        let place = word - table;
+        format!(in alloc; "common word {place}")
+    } else {
+        format!(in alloc; "word {word}")
+    }
+}
+
+/// The name of a word of the region as this peer would say it: of its own section without its number.
+pub fn word_name(
+    alloc: Global,
+    scenario: &Scenario,
+    peer: u32,
+    word: u32,
+) -> Result<String, AllocError> {
+    let Some((owner, place)) = place_in_section(scenario, word) else {
+        return common_name(alloc, scenario, word);
+    };
+    let name = field_name(alloc, &scenario.queue, place)?;
+    if owner == peer {
+        return Ok(name);
+    }
+    format!(in alloc; "{name} of {owner}")
+}
+
+/// The value of a word of the region as a reader sees it.
+pub fn value_text(
+    alloc: Global,
+    scenario: &Scenario,
+    word: u32,
+    value: u32,
+) -> Result<String, AllocError> {
+    let halves = match place_in_section(scenario, word) {
+        Some((_, place)) => halves_of(&scenario.queue, place),
+        None => Halves::Whole,
+    };
+    halves_text(alloc, halves, value)
+}

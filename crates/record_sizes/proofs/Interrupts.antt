@@ -1,0 +1,122 @@
+-- What the lines of the devices cost: eight interrupts at most for an access, each of a peer of one digit.
+use Rattle.std.proofs.Common.{ℕ, zero, suc, ◌*◌, ◌<◌, ◌≤◌, Bool, true, false, List, [], ◌∷◌, ◌++◌, length, Option, Some, None, arith, length-append}
+use Rattle.std.specs.Prelude.{if◌then◌else◌, nat_lt}
+use Rattle.std.specs.List.{AllByRecursion}
+use Rattle.std.proofs.lemmas.Fmt.{length-decimal-le}
+use Rattle.split_ring.specs.declared.steps.Access.{Access}
+use Rattle.split_ring.specs.declared.steps.Access.TheVariants as access
+use Rattle.doorbell_irq.specs.declared.effect.Delivery.{Delivery}
+use Rattle.doorbell_irq.specs.Events as device
+use Rattle.doorbell_irq.specs.DeviceRules.{effect_of, delivery_to, deliveries_below}
+use Rattle.scenario_text.specs.Scenario.{World}
+use Rattle.call_grammar.specs.Steps.{Step}
+use Rattle.lawful_history.specs.declared.line.Line.{Line}
+use Rattle.lawful_history.specs.declared.line.Line.TheVariants as line
+use Rattle.lawful_history.specs.Schedule.{Event, Asked, Automated, Stormed, Turned, Acted, WasReset, Reached, Loses, Repeated, DeviceAccess, ReadsConfig, WritesConfig, ReadsRegister, WritesRegister, ReadsMsix, WritesMsix}
+use Rattle.lawful_history.specs.Entries.{access_lines}
+use Rattle.lawful_history.specs.Device.{devices_of, device_events, lost_count, arrival, arrived, arrivals_by, told_by, brought_by, step_interrupts, reached_line, device_lines}
+use Rattle.record_text.specs.Spelling.{Fits}
+use Rattle.record_sizes.proofs.LineBytes.{line_cost, lines_cost, price, priced}
+use Rattle.record_sizes.proofs.Paying.{interrupts_price}
+
+-- The deliveries of an effect: one at most for each peer
+
+abbrev AreBelow : ℕ → List Delivery → Type 0
+AreBelow most deliveries = AllByRecursion (λ (delivery : Delivery). delivery.peer < most) deliveries
+
+more_below : (most : ℕ) (deliveries others : List Delivery) → AreBelow most deliveries → AreBelow most others → AreBelow most (deliveries ++ others)
+more_below most [] others all all' = all'
+more_below most (delivery ∷ deliveries) others all all' = (all.0, more_below most deliveries others all.1 all')
+
+one_delivery : (most peer : ℕ) (vector : Option ℕ) → peer < most → AreBelow most (delivery_to peer vector) × (length (delivery_to peer vector) ≤ 1)
+one_delivery most peer None below = (tt, omega arith)
+one_delivery most peer (Some vector) below = ((below, tt), omega arith)
+
+few_deliveries : (at : ℕ → Option ℕ) (most peers : ℕ) → peers ≤ most → AreBelow most (deliveries_below at peers) × (length (deliveries_below at peers) ≤ peers)
+few_deliveries at most zero few = (tt, omega arith)
+few_deliveries at most (suc peer) few =
+    let others = few_deliveries at most peer (omega arith) in
+    let last = one_delivery most peer (at peer) (omega arith) in (
+      more_below most (deliveries_below at peer) (delivery_to peer (at peer)) others.0 last.0,
+      omega (arith, others.1, last.1, length-append (deliveries_below at peer) (delivery_to peer (at peer))),
+    )
+
+-- The line of a delivery
+
+lost_bytes : (peer vector : ℕ) → Fits (line.Lost peer vector) → peer < 10 → line_cost (line.Lost peer vector) ≤ 18
+lost_bytes peer vector fits small =
+    let values = fits.values in let most = values.2.1 in
+    omega (arith, length-decimal-le 1 peer (omega arith) (omega arith) (omega arith), length-decimal-le 10 vector (omega arith) (omega (arith, most)) (omega (arith, most)))
+
+interrupt_bytes : (peer vector : ℕ) → Fits (line.Interrupt peer vector) → peer < 10 → line_cost (line.Interrupt peer vector) ≤ 18
+interrupt_bytes peer vector fits small =
+    let values = fits.values in let most = values.2.1 in
+    omega (arith, length-decimal-le 1 peer (omega arith) (omega arith) (omega arith), length-decimal-le 10 vector (omega arith) (omega (arith, most)) (omega (arith, most)))
+
+arrival_bytes : (b : Bool) (peer vector : ℕ) → Fits (if b then line.Lost peer vector else line.Interrupt peer vector) → peer < 10 → line_cost (if b then line.Lost peer vector else line.Interrupt peer vector) ≤ 18
+arrival_bytes true peer vector fits small = lost_bytes peer vector fits small
+arrival_bytes false peer vector fits small = interrupt_bytes peer vector fits small
+
+arrived_bytes : (older : List Line) (losses : ℕ → ℕ) (deliveries : List Delivery) → AreBelow 10 deliveries → AllByRecursion Fits (arrived older losses deliveries) → lines_cost (arrived older losses deliveries) ≤ 18 * length deliveries
+arrived_bytes older losses [] below fits = omega arith
+arrived_bytes older losses (delivery ∷ deliveries) below fits =
+    let first = arrival_bytes (nat_lt (lost_count older delivery.peer) (losses delivery.peer)) delivery.peer delivery.vector fits.0 below.0 in
+    let later = arrived_bytes (arrival older losses delivery ∷ older) losses deliveries below.1 fits.1 in omega (arith, first, later)
+
+module _ (world : World) (few : world.geometry.peers ≤ 8) where
+  event_bytes : (older : List Line) (losses : ℕ → ℕ) (cause : Line) (told : Option device.Event) → AllByRecursion Fits (arrivals_by world older losses cause told) → lines_cost (arrivals_by world older losses cause told) ≤ 144
+  event_bytes older losses cause None fits = omega arith
+  event_bytes older losses cause (Some event) fits =
+      let all = few_deliveries _ 10 world.geometry.peers (omega (arith, few)) in
+      let bytes = arrived_bytes (cause ∷ older) losses (effect_of (devices_of world) (device_events older) event).deliveries.items all.0 fits in omega (arith, bytes, all.1, few)
+
+  access_bytes : (older : List Line) (losses : ℕ → ℕ) (peer : ℕ) (a : Access) (value : ℕ) → AllByRecursion Fits (brought_by world older losses (access_lines peer a value)) →
+      lines_cost (brought_by world older losses (access_lines peer a value)) ≤ interrupts_price a
+  access_bytes older losses peer (access.Read word) value fits = omega arith
+  access_bytes older losses peer (access.Write word written) value fits = omega arith
+  access_bytes older losses peer (access.State state) value fits = event_bytes older losses (line.State peer state) (told_by (line.State peer state)) fits
+  access_bytes older losses peer (access.Ring target vector) value fits = event_bytes older losses (line.Doorbell peer target vector) (told_by (line.Doorbell peer target vector)) fits
+  access_bytes older losses peer access.Nothing value fits = omega arith
+
+  -- an access to a part of the device
+  reached_price : (older : List Line) (peer : ℕ) (a : DeviceAccess) → price (reached_line world older peer a) ≤ 47
+  reached_price older peer (ReadsConfig offset width) = omega arith
+  reached_price older peer (WritesConfig offset width value) = omega arith
+  reached_price older peer (ReadsRegister offset) = omega arith
+  reached_price older peer (WritesRegister offset value) = omega arith
+  reached_price older peer (ReadsMsix offset) = omega arith
+  reached_price older peer (WritesMsix offset value) = omega arith
+
+-- The lines of the devices in an event
+
+abbrev pub step_room : Option Step → ℕ
+step_room None = 0
+step_room (Some step) = interrupts_price step.access
+
+abbrev pub device_room : Event → Option Step → ℕ
+device_room (Asked peer call) went = 0
+device_room (Automated peer expected) went = 0
+device_room (Stormed peer seed) went = 0
+device_room (Turned peer) went = step_room went
+device_room (Acted peer a) went = step_room went
+device_room (WasReset peer) went = 144
+device_room (Reached peer a) went = 47
+device_room (Loses peer) went = 0
+device_room (Repeated peer vector) went = 24
+
+went_bytes : (world : World) → world.geometry.peers ≤ 8 → (older : List Line) (losses : ℕ → ℕ) (peer : ℕ) (went : Option Step) → AllByRecursion Fits (step_interrupts world older losses peer went) → lines_cost (step_interrupts world older losses peer went) ≤ step_room went
+went_bytes world few older losses peer None fits = omega arith
+went_bytes world few older losses peer (Some step) fits = access_bytes world few older losses peer step.access step.value fits
+
+pub device_bytes : (world : World) → world.geometry.peers ≤ 8 → (older : List Line) (losses : ℕ → ℕ) (event : Event) (went : Option Step) → AllByRecursion Fits (device_lines world older losses event went) →
+    lines_cost (device_lines world older losses event went) ≤ device_room event went
+device_bytes world few older losses (Asked peer call) went fits = omega arith
+device_bytes world few older losses (Automated peer expected) went fits = omega arith
+device_bytes world few older losses (Stormed peer seed) went fits = omega arith
+device_bytes world few older losses (Turned peer) went fits = went_bytes world few older losses peer went fits
+device_bytes world few older losses (Acted peer a) went fits = went_bytes world few older losses peer went fits
+device_bytes world few older losses (WasReset peer) went fits = event_bytes world few older losses (line.Reset peer) (told_by (line.Reset peer)) fits
+device_bytes world few older losses (Reached peer a) went fits =
+    let one = priced (reached_line world older peer a) fits.0 in let most = reached_price world few older peer a in omega (arith, one, most)
+device_bytes world few older losses (Loses peer) went fits = omega arith
+device_bytes world few older losses (Repeated peer vector) went fits = let one = priced (line.Interrupt peer vector) fits.0 in omega (arith, one)

@@ -1,0 +1,201 @@
+-- Each step of a call pays for its lines: with what the frame in hand has paid for its digits it costs at most 200 bytes.
+use Rattle.std.proofs.Common.{◌≡◌, ℕ, zero, suc, ◌+◌, ◌-◌, ◌*◌, ◌≤◌, Bool, true, false, List, [], ◌∷◌, ◌++◌, length, refl, ap, arith, length-take, length-append, decimal, ne_eqb}
+use Rattle.std.specs.Prelude.{◌==◌, nat_le, if◌then◌else◌, map}
+use Rattle.std.specs.List.{flat_map}
+use Rattle.link_handshake.specs.declared.Move.{Move}
+use Rattle.link_handshake.specs.declared.Move.TheVariants as move
+use Rattle.link_handshake.specs.Standing.{move_of}
+use Rattle.split_ring.specs.declared.steps.Access.{Access}
+use Rattle.split_ring.specs.declared.steps.Access.TheVariants as access
+use Rattle.split_ring.specs.Layout.{size_of, limit_of}
+use Rattle.split_ring.specs.Spelling.{low_half}
+use Rattle.call_grammar.specs.Steps.{Mark, Full, Deliver}
+use Rattle.call_grammar.specs.Words.{address_of, words_for, word_bytes, frame_in}
+use Rattle.call_grammar.specs.Ticks.{Who, tick_marks}
+use Rattle.call_grammar.specs.Offers.{Job, descriptor_of, full_marks, id_marks, returned_by, reclaim_marks, used_marks}
+use Rattle.call_grammar.specs.Polls.{is_entry, is_address, is_length, entry_in, entry_marks, address_marks, length_marks, flags_marks, published_by, look_marks, available_marks}
+use Rattle.call_grammar.specs.Places.{Place, Closed, AtState, Clearing, Setting, Refusing, Downed, AtUsedIndex, AtUsedId, Filling, WritingLow, WritingHigh, WritingLength, WritingFlags, WritingEntry, WritingIndex, RingingOffer, AtAvailIndex, AtEntry, AtLow, AtHigh, AtLength, AtFlags, AtWord, GivingId, GivingLength, GivingIndex, RingingPoll, clear_place, tick_place, fill_place, ids_place, items_place, words_place, access_at, marks_at, next_place}
+use Rattle.call_grammar.proofs.OfferLists.{no}
+use Rattle.lawful_history.specs.declared.line.Line.{Line}
+use Rattle.lawful_history.specs.Entries.{access_lines, mark_line}
+use Rattle.record_sizes.proofs.LineBytes.{price}
+
+-- What lines cost at most
+
+abbrev pub prices : List Line → ℕ
+prices [] = 0
+prices (line ∷ lines) = price line + prices lines
+
+abbrev pub marks_price : ℕ → List Mark → ℕ
+marks_price peer marks = prices (map (mark_line peer) marks)
+
+-- an access that may interrupt others has room for eight interrupts of 18 bytes
+abbrev pub interrupts_price : Access → ℕ
+interrupts_price (access.Read word) = 0
+interrupts_price (access.Write word value) = 0
+interrupts_price (access.State value) = 144
+interrupts_price (access.Ring target vector) = 144
+interrupts_price access.Nothing = 0
+
+-- What the frame in hand has paid for: 8 digits for each of its words that was written or read
+
+abbrev pub credit : Place → ℕ
+credit (Filling job at more) = 8 * (words_for (length job.frame) - suc more)
+credit (WritingLow job) = 8 * words_for (length job.frame)
+credit (WritingHigh job) = 8 * words_for (length job.frame)
+credit (WritingLength job) = 8 * words_for (length job.frame)
+credit (WritingFlags job) = 8 * words_for (length job.frame)
+credit (WritingEntry job) = 8 * words_for (length job.frame)
+credit (WritingIndex job) = 8 * words_for (length job.frame)
+credit (AtWord number more entry address bytes read words) = 8 * length read
+credit _ = 0
+
+-- By tests
+
+either : {A : Type 0} (f : A → ℕ) (b : Bool) (x y : A) (most : ℕ) → f x ≤ most → f y ≤ most → f (if b then x else y) ≤ most
+either f true x y most one other = one
+either f false x y most one other = other
+
+-- The marks
+
+tick_price : (peer value : ℕ) (m : Move) → marks_price peer (tick_marks value m) ≤ 42
+tick_price peer value move.Stay = omega arith
+tick_price peer value (move.Set state) = omega arith
+tick_price peer value (move.ClearThenSet state) = omega arith
+
+full_price : (peer : ℕ) (who : Who) (job : Job) (freed : ℕ) → marks_price peer (full_marks who job freed) ≤ 16
+full_price peer who job freed = either (marks_price peer) (job.number == freed + limit_of who.sizes) (Full ∷ []) [] 16 (omega arith) (omega arith)
+
+reclaim_price : (peer : ℕ) (who : Who) (job : Job) (freed count : ℕ) → marks_price peer (reclaim_marks who job freed count) ≤ 46
+reclaim_price peer who job freed count = let full = full_price peer who job freed in either (marks_price peer) (count == 0) _ _ 46 (omega arith) (omega arith)
+
+used_price : (peer : ℕ) (who : Who) (job : Job) (freed value : ℕ) → marks_price peer (used_marks who job freed value) ≤ 51
+used_price peer who job freed value =
+    let reclaim = reclaim_price peer who job freed (returned_by freed value) in
+    either (marks_price peer) (nat_le (returned_by freed value) (job.number - freed)) _ _ 51 (omega arith) (omega arith)
+
+id_price : (peer : ℕ) (who : Who) (job : Job) (freed more value : ℕ) → marks_price peer (id_marks who job freed more value) ≤ 51
+id_price peer who job freed more value =
+    let full = full_price peer who job (freed + 1) in
+    let last = either (marks_price peer) (more == 0) (full_marks who job (freed + 1)) [] 51 (omega arith) (omega arith) in
+    either (marks_price peer) (value == descriptor_of who freed) _ _ 51 last (omega arith)
+
+look_price : (peer count : ℕ) → marks_price peer (look_marks count) ≤ 51
+look_price peer count = either (marks_price peer) (count == 0) _ _ 51 (omega arith) (omega arith)
+
+available_price : (peer : ℕ) (who : Who) (taken value : ℕ) → marks_price peer (available_marks who taken value) ≤ 51
+available_price peer who taken value =
+    either (marks_price peer) (nat_le (published_by taken value) (size_of who.sizes)) _ _ 51 (look_price peer (published_by taken value)) (omega arith)
+
+entry_price : (peer : ℕ) (who : Who) (number value : ℕ) → marks_price peer (entry_marks who number value) ≤ 51
+entry_price peer who number value = either (marks_price peer) (is_entry who.sizes (entry_in who number value)) [] _ 51 (omega arith) (omega arith)
+
+address_price : (peer : ℕ) (who : Who) (low value : ℕ) → marks_price peer (address_marks who low value) ≤ 51
+address_price peer who low value = either (marks_price peer) (is_address who.sizes (address_of low value)) [] _ 51 (omega arith) (omega arith)
+
+length_price : (peer : ℕ) (who : Who) (address value : ℕ) → marks_price peer (length_marks who address value) ≤ 51
+length_price peer who address value = either (marks_price peer) (is_length who.sizes address value) [] _ 51 (omega arith) (omega arith)
+
+flags_price : (peer value : ℕ) → marks_price peer (flags_marks value) ≤ 51
+flags_price peer value = either (marks_price peer) (low_half value == 0) [] _ 51 (omega arith) (omega arith)
+
+-- What is paid for at the next place
+
+clear_credit : (at count state : ℕ) → credit (clear_place at count state) ≡ 0
+clear_credit at zero state = refl
+clear_credit at (suc more) state = refl
+
+tick_credit : (who : Who) (m : Move) → credit (tick_place who m) ≡ 0
+tick_credit who move.Stay = refl
+tick_credit who (move.Set state) = refl
+tick_credit who (move.ClearThenSet state) = clear_credit who.own who.words state
+
+start_credit : (job : Job) (words : ℕ) → words_for (length job.frame) ≡ words → credit (fill_place job 0 words) ≤ 0
+start_credit job zero is = omega arith
+start_credit job (suc more) is = omega arith
+
+fill_credit : (job : Job) (at more : ℕ) → credit (fill_place job at more) ≤ 8 + 8 * (words_for (length job.frame) - suc more)
+fill_credit job at zero = omega arith
+fill_credit job at (suc more) = omega arith
+
+ids_credit : (who : Who) (job : Job) (freed count : ℕ) → credit (ids_place who job freed count) ≤ 0
+ids_credit who job freed zero =
+    either credit (job.number == freed + limit_of who.sizes) Closed (fill_place job 0 (words_for (length job.frame))) 0 (omega arith) (start_credit job (words_for (length job.frame)) refl)
+ids_credit who job freed (suc more) = omega arith
+
+items_credit : (number count : ℕ) → credit (items_place number count) ≤ 0
+items_credit number zero = omega arith
+items_credit number (suc more) = omega arith
+
+words_credit : (number more entry address bytes : ℕ) (read : List ℕ) (words : ℕ) → credit (words_place number more entry address bytes read words) ≤ 8 * length read
+words_credit number more entry address bytes read zero = omega arith
+words_credit number more entry address bytes read (suc words) = omega arith
+
+-- a delivered frame has at most four bytes for each word that was read
+
+all_bytes : (words : List ℕ) → length (flat_map word_bytes words) ≡ 4 * length words
+all_bytes [] = refl
+all_bytes (word ∷ words) = let later = all_bytes words in omega (arith, length-append (word_bytes word) (flat_map word_bytes words), later)
+
+frame_bytes : (bytes : ℕ) (words : List ℕ) → length (frame_in bytes words) ≤ 4 * length words
+frame_bytes bytes words = omega (arith, length-take bytes (flat_map word_bytes words), all_bytes words)
+
+-- The step at a place
+
+pub pays : (peer : ℕ) → length (decimal peer) ≤ 1 → (who : Who) (place : Place) (met value : ℕ) →
+    prices (access_lines peer (access_at who place) met) + interrupts_price (access_at who place) + marks_price peer (marks_at who place value) + credit (next_place who place value) ≤ credit place + 200
+pays peer one who Closed met value = omega arith
+pays peer one who (AtState handshake) met value =
+    let marks = tick_price peer value (move_of handshake value) in let next = tick_credit who (move_of handshake value) in omega arith
+pays peer one who (Clearing at more state) met value = let next = clear_credit (at + 1) more state in omega arith
+pays peer one who (Setting state) met value = omega arith
+pays peer one who Refusing met value = omega arith
+pays peer one who Downed met value = omega arith
+pays peer one who (AtUsedIndex job freed) met value =
+    let marks = used_price peer who job freed value in
+    let next = either credit (nat_le (returned_by freed value) (job.number - freed)) (ids_place who job freed (returned_by freed value)) Refusing 0 (ids_credit who job freed (returned_by freed value)) (omega arith) in
+    omega arith
+pays peer one who (AtUsedId job freed more) met value =
+    let marks = id_price peer who job freed more value in
+    let next = either credit (value == descriptor_of who freed) (ids_place who job (freed + 1) more) Refusing 0 (ids_credit who job (freed + 1) more) (omega arith) in
+    omega arith
+pays peer one who (Filling job at more) met value = let next = fill_credit job (at + 1) more in omega arith
+pays peer one who (WritingLow job) met value = omega arith
+pays peer one who (WritingHigh job) met value = omega arith
+pays peer one who (WritingLength job) met value = omega arith
+pays peer one who (WritingFlags job) met value = omega arith
+pays peer one who (WritingEntry job) met value = omega arith
+pays peer one who (WritingIndex job) met value = omega arith
+pays peer one who RingingOffer met value = omega arith
+pays peer one who (AtAvailIndex taken) met value =
+    let marks = available_price peer who taken value in
+    let found = published_by taken value in
+    let items = either credit (found == 0) Closed (items_place taken found) 0 (omega arith) (items_credit taken found) in
+    let next = either credit (nat_le found (size_of who.sizes)) (if found == 0 then Closed else items_place taken found) Refusing 0 items (omega arith) in
+    omega arith
+pays peer one who (AtEntry number more) met value =
+    let good = is_entry who.sizes (entry_in who number value) in
+    let marks = entry_price peer who number value in
+    let next = either credit good (AtLow number more (entry_in who number value)) Refusing 0 (omega arith) (omega arith) in omega arith
+pays peer one who (AtLow number more entry) met value = omega arith
+pays peer one who (AtHigh number more entry low) met value =
+    let good = is_address who.sizes (address_of low value) in
+    let marks = address_price peer who low value in
+    let next = either credit good (AtLength number more entry (address_of low value)) Refusing 0 (omega arith) (omega arith) in omega arith
+pays peer one who (AtLength number more entry address) met value =
+    let good = is_length who.sizes address value in
+    let marks = length_price peer who address value in
+    let next = either credit good (AtFlags number more entry address value) Refusing 0 (omega arith) (omega arith) in omega arith
+pays peer one who (AtFlags number more entry address bytes) met value =
+    let good = low_half value == 0 in
+    let marks = flags_price peer value in
+    let next = either credit good (words_place number more entry address bytes [] (words_for bytes)) Refusing 0 (words_credit number more entry address bytes [] (words_for bytes)) (omega arith) in omega arith
+pays peer one who (AtWord number more entry address bytes read zero) met value =
+    omega (arith, frame_bytes bytes (read ++ value ∷ []), length-append read (value ∷ []))
+pays peer one who (AtWord number more entry address bytes read (suc words)) met value =
+    let marks = ap (marks_price peer) (no (suc words == 0) (Deliver (frame_in bytes (read ++ value ∷ [])) ∷ []) [] (ne_eqb (suc words) 0 (λ e. omega arith))) in
+    omega (arith, words_credit number more entry address bytes (read ++ value ∷ []) (suc words), length-append read (value ∷ []), marks)
+pays peer one who (GivingId number more entry) met value = omega arith
+pays peer one who (GivingLength number more) met value = omega arith
+pays peer one who (GivingIndex number more) met value = let next = items_credit (number + 1) more in omega arith
+pays peer one who RingingPoll met value = omega arith

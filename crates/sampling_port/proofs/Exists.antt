@@ -1,0 +1,378 @@
+-- The history that is computed is lawful.
+use Rattle.std.proofs.Common.{◌⊎◌, ◌≡◌, ℕ, zero, suc, ◌+◌, ◌<◌, ◌≤◌, Bool, true, false, List, [], ◌∷◌, ◌++◌, length, drop, replicate, refl, sym, ◌∙◌, ap, subst, arith, append_assoc, inl, inr, map}
+use Rattle.std.specs.Prelude.{◌==◌, if◌then◌else◌, Option, Some, None, reverse, slice_get, slice_index, slice_set}
+use Rattle.std.specs.List.{flat_map, AllByRecursion}
+use Rattle.std.proofs.lemmas.Bool.{eqb-true}
+use Rattle.std.proofs.lemmas.Bool.Decides.{nat_tests}
+use Rattle.std.proofs.lemmas.Grind.{common_steps}
+use Rattle.std.proofs.lemmas.List.{reverse-append, reverse-reverse, append-nil, length-append}
+use Rattle.section_map.specs.Geometry.{Shape}
+use Rattle.section_map.specs.MayWrite.{MayWrite}
+use Rattle.split_ring.specs.declared.steps.Access.{Access}
+use Rattle.split_ring.specs.declared.steps.Access.TheVariants as access
+use Rattle.port_text.specs.Scenario.{World}
+use Rattle.std.proofs.lemmas.List.Concat.{flat_map-cons}
+use Rattle.sampling_port.specs.declared.notes.PortField.TheVariants.{Sequence, Length}
+use Rattle.sampling_port.specs.declared.notes.PortNote.TheVariants as note
+use Rattle.sampling_port.specs.declared.place.Place.{Place}
+use Rattle.sampling_port.specs.declared.place.Place.TheVariants as place
+use Rattle.sampling_port.specs.Marks.{PortMark, marked}
+use Rattle.sampling_port.specs.Trees.{PortTree, Ended, Does, Reads, PortStep, port_step, Goes}
+use Rattle.sampling_port.specs.Views.{PortView, IsPort, IsPlace, is_open, is_busy, access_at, note_at, from_at, port_after, closed, got, left, left_at}
+use Rattle.sampling_port.specs.Laws.{PortsFollowCalls, step_of_port}
+use Rattle.sampling_port.specs.Schedule.{PortCall, Publish, Sample, Event, Asked, Turned, Poked, event_peer, schedule}
+use Rattle.sampling_port.specs.Told.{Line, Entry, event_of, mark_lines, step_lines, lines_by, lines_of, own_entries}
+use Rattle.sampling_port.specs.Memory.{MemoryLaw}
+use Rattle.sampling_port.specs.Order.{asked_for, mark_of_step, published_with, published_in, last_with, last_got, Progress, outset, tree_of, begins_by, begins, Moves, Acts, noted, Serves}
+use Rattle.sampling_port.specs.History.{Seat, Moment, opening, met, opened, opened_by, met_by, may_write, step_in, seat_in, entry_of, happens, run, beginning, HistoryIsLawful}
+use Rattle.sampling_port.specs.Stage.{IsThere, IsGiven}
+use Rattle.sampling_port.proofs.Telling.{may_of, may_true}
+use Rattle.sampling_port.proofs.Runs.{Kept, opened_kept, kept_on, fresh_kept, there_below, all_there, few_events}
+use Rattle.sampling_port.proofs.Reaching.{length_place_most}
+
+-- What a step does to the numbers of a port
+
+-- a port's numbers are those that its own entries tell
+pub record Keeps (world : World) (me : ℕ) (seat : Seat) (peer : Progress) : Type 0 where
+  pub left_is : peer.left ≡ left seat.port
+  pub waiting : seat.waiting ≡ drop peer.begun (asked_for peer.past)
+  pub begun : peer.begun ≤ length (asked_for peer.past)
+  pub published : seat.port.published ≡ published_in peer.past
+  pub lasts : (from : ℕ) → from < 8 → slice_index seat.port.lasts from ≡ last_got from peer.past
+
+-- what a mark tells of the numbers
+pub record Numbers (old new : PortView) (mark : Option PortMark) : Type 0 where
+  pub published : new.published ≡ published_with mark old.published
+  pub lasts : (from : ℕ) → from < 8 → slice_index new.lasts from ≡ last_with from mark (slice_index old.lasts from)
+
+numbers_first : (port : PortView) (from value : ℕ) (hand : List ℕ) (b c : Bool) →
+    Numbers port (if b then closed port else if c then closed port else record port { place = place.AtLength from value })
+    (marked from hand (if b then Some (note.Refuse Sequence value) else if c then Some note.Nothing else None))
+numbers_first port from value hand true c = record { published = refl; lasts = λ f few. refl }
+numbers_first port from value hand false true = record { published = refl; lasts = λ f few. refl }
+numbers_first port from value hand false false = record { published = refl; lasts = λ f few. refl }
+
+numbers_length : (port new : PortView) (from value : ℕ) (hand : List ℕ) (b : Bool) → new.published ≡ port.published → new.lasts ≡ port.lasts →
+    Numbers port (if b then new else closed port) (marked from hand (if b then None else Some (note.Refuse Length value)))
+numbers_length port new from value hand true same lasts = record { published = same; lasts = λ f few. rw lasts refl }
+numbers_length port new from value hand false same lasts = record { published = refl; lasts = λ f few. refl }
+
+set_last : (lasts : List ℕ) (from number f : ℕ) → from < length lasts → slice_index (slice_set lasts from number) f ≡ (if from == f then number else slice_index lasts f)
+set_last lasts from number f below = grind (arith, common_steps, nat_tests)
+
+numbers_second : (port : PortView) (from sequence value : ℕ) (b : Bool) → from < 8 → length port.lasts ≡ 8 →
+    Numbers port (if b then got port from sequence else closed port) (marked from port.hand (if b then Some (note.Got sequence) else Some (note.Again sequence value)))
+numbers_second port from sequence value true few eight = record { published = refl; lasts = λ f below. set_last port.lasts from sequence f (omega arith) }
+numbers_second port from sequence value false few eight = record { published = refl; lasts = λ f below. refl }
+
+pub numbers_after : (port : PortView) (p : Place) (value : ℕ) → IsPort port → IsPlace port p → Numbers port (port_after port p value) (marked (from_at p) port.hand (note_at port p value))
+numbers_after port place.Closed value is there = record { published = refl; lasts = λ f few. refl }
+numbers_after port place.WritingLength value is there = record { published = refl; lasts = λ f few. refl }
+numbers_after port (place.WritingWord at more) value is there = record { published = refl; lasts = λ f few. refl }
+numbers_after port place.WritingSequence value is there = record { published = refl; lasts = λ f few. refl }
+numbers_after port (place.AtSequence from) value is there = numbers_first port from value port.hand _ _
+numbers_after port (place.AtLength from sequence) value is there = numbers_length port _ from value port.hand _ refl refl
+numbers_after port (place.AtWord from sequence bytes at more) value is there = record { published = refl; lasts = λ f few. refl }
+numbers_after port (place.AtSecond from sequence) value is there = numbers_second port from sequence value _ (omega (arith, is.few, there)) is.lasts
+
+-- A call begins
+
+busy_begins : (world : World) (me : ℕ) (peer : Progress) (port : PortView) (p : Place) → is_open p ≡ true → begins_by world me peer (left_at port p) ≡ peer
+busy_begins world me peer port place.Closed opens = absurd cc
+busy_begins world me peer port place.WritingLength opens = refl
+busy_begins world me peer port (place.WritingWord at more) opens = refl
+busy_begins world me peer port place.WritingSequence opens = refl
+busy_begins world me peer port (place.AtSequence from) opens = refl
+busy_begins world me peer port (place.AtLength from sequence) opens = refl
+busy_begins world me peer port (place.AtWord from sequence bytes at more) opens = refl
+busy_begins world me peer port (place.AtSecond from sequence) opens = refl
+
+closed_left : (port : PortView) (p : Place) → is_open p ≡ false → left_at port p ≡ Ended
+closed_left port place.Closed shut = refl
+closed_left port place.WritingLength shut = absurd cc
+closed_left port (place.WritingWord at more) shut = absurd cc
+closed_left port place.WritingSequence shut = absurd cc
+closed_left port (place.AtSequence from) shut = absurd cc
+closed_left port (place.AtLength from sequence) shut = absurd cc
+closed_left port (place.AtWord from sequence bytes at more) shut = absurd cc
+closed_left port (place.AtSecond from sequence) shut = absurd cc
+
+-- the calls after the first ones
+none_left : {A : Type 0} (xs : List A) (n : ℕ) → [] ≡ drop n xs → slice_get xs n ≡ None
+none_left [] n is = refl
+none_left (x ∷ xs) zero is = absurd (cc)
+none_left (x ∷ xs) (suc n) is = none_left xs n is
+
+one_left : {A : Type 0} (xs ys : List A) (y : A) (n : ℕ) → y ∷ ys ≡ drop n xs → (slice_get xs n ≡ Some y) × (ys ≡ drop (n + 1) xs) × (n < length xs)
+one_left [] ys y zero is = absurd (cc)
+one_left [] ys y (suc n) is = absurd (cc)
+one_left (x ∷ xs) ys y zero is = (cc, cc, omega arith)
+one_left (x ∷ xs) ys y (suc n) is = let t = one_left xs ys y n is in (t.0, subst (λ (k : ℕ). ys ≡ drop k (x ∷ xs)) (more n) t.1, omega (arith, t.2))
+  where
+    more : (n : ℕ) → suc (n + 1) ≡ suc n + 1
+    more n = omega arith
+
+-- the tree of a call that is opened
+opens_tree : (world : World) (me : ℕ) (port : PortView) (past : List Entry) (call : PortCall) → PortsFollowCalls → port.shape ≡ world.geometry → port.me ≡ me → port.most ≡ world.most → world.geometry.peers ≤ 8 → IsGiven world call →
+    port.published ≡ published_in past → ((from : ℕ) → from < 8 → slice_index port.lasts from ≡ last_got from past) → tree_of world me past call ≡ left (opening port call)
+opens_tree world me port past (Publish message) follow shape me_is most few given published lasts = sym (follow.publishes port message ∙ (rw (shape, me_is, most, published) refl))
+opens_tree world me port past (Sample from) follow shape me_is most few given published lasts = sym (follow.samples port from ∙ (rw (shape, most, lasts from (omega (arith, given))) refl))
+
+begun_keeps : PortsFollowCalls → (world : World) (me n : ℕ) (seat : Seat) (peer : Progress) (b : Bool) (waiting : List PortCall) → world.geometry.peers ≤ 8 → is_busy seat.port ≡ b → seat.waiting ≡ waiting → Kept world me n seat →
+    Keeps world me seat peer → Keeps world me (opened_by seat b waiting) (begins world me peer)
+begun_keeps follow world me n seat peer true waiting eight busy all kept keeps =
+    let same : begins world me peer ≡ peer = ap (λ (t : PortTree). begins_by world me peer t) keeps.left_is ∙ busy_begins world me peer seat.port seat.port.place busy in
+    subst (λ (x : Progress). Keeps world me seat x) (sym same) keeps
+begun_keeps follow world me n seat peer false [] eight busy all kept keeps =
+    let ended : peer.left ≡ Ended = keeps.left_is ∙ closed_left seat.port seat.port.place busy in
+    let none : slice_get (asked_for peer.past) peer.begun ≡ None = none_left (asked_for peer.past) peer.begun (sym all ∙ keeps.waiting) in
+    let same : begins world me peer ≡ peer = rw (ended, none) refl in
+    subst (λ (x : Progress). Keeps world me seat x) (sym same) keeps
+begun_keeps follow world me n seat peer false (call ∷ waiting) eight busy all kept keeps =
+    let ended : peer.left ≡ Ended = keeps.left_is ∙ closed_left seat.port seat.port.place busy in
+    let next = one_left (asked_for peer.past) waiting call peer.begun (sym all ∙ keeps.waiting) in
+    let given : AllByRecursion (IsGiven world) (call ∷ waiting) = subst (λ (cs : List PortCall). AllByRecursion (IsGiven world) cs) all kept.waiting in
+    let begun : Progress = record peer { left = tree_of world me peer.past call; begun = peer.begun + 1 } in
+    let same : begins world me peer ≡ begun = rw (ended, next.0) refl in
+    subst (λ (x : Progress). Keeps world me (record { port = opening seat.port call; waiting = waiting }) x) (sym same) (record {
+      left_is = opens_tree world me seat.port peer.past call follow kept.shape kept.me_is kept.most eight given.0 keeps.published keeps.lasts;
+      waiting = next.1;
+      begun = omega (arith, next.2);
+      published = published_open call;
+      lasts = λ from few. lasts_open from call ∙ keeps.lasts from few;
+    })
+  where
+    published_open : (call : PortCall) → (opening seat.port call).published ≡ published_in peer.past
+    published_open (Publish message) = keeps.published
+    published_open (Sample from) = keeps.published
+
+    lasts_open : (from : ℕ) (call : PortCall) → slice_index (opening seat.port call).lasts from ≡ slice_index seat.port.lasts from
+    lasts_open from (Publish message) = refl
+    lasts_open from (Sample q) = refl
+
+-- A turn
+
+moves_of : (peer : Progress) (tree : PortTree) (step : PortStep) (new : PortTree) → Goes tree step new → Moves peer tree (Some step) (record peer { left = new })
+moves_of peer Ended step new goes = absurd goes
+moves_of peer (Does a mark rest) step new goes = (step, new, refl, goes, refl)
+moves_of peer (Reads word mark rest) step new goes = (step, new, refl, goes, refl)
+
+-- the step of the open call, or none
+turn_moves : PortsFollowCalls → (world : World) (me n : ℕ) (seat : Seat) (peer : Progress) (past : List Line) (b : Bool) → is_busy seat.port ≡ b → Kept world me n seat → Keeps world me seat peer →
+    (mid : Progress) × Moves peer peer.left (if b then Some (step_of_port seat.port (met_by past seat.port)) else None) mid
+    × Keeps world me (record { port = if b then port_after seat.port seat.port.place (met_by past seat.port) else seat.port; waiting = seat.waiting })
+    (noted mid (record { event = Turned me; went = if b then Some (step_of_port seat.port (met_by past seat.port)) else None }))
+turn_moves follow world me n seat peer past true busy kept keeps =
+    let value = met_by past seat.port in
+    let goes = follow.comes seat.port value busy in
+    let new = left (port_after seat.port seat.port.place value) in
+    let numbers = numbers_after seat.port seat.port.place value kept.port kept.port.place in (
+      record peer { left = new },
+      moves_of peer peer.left (step_of_port seat.port value) new (subst (λ (t : PortTree). Goes t (step_of_port seat.port value) new) (sym keeps.left_is) goes),
+      record {
+        left_is = refl;
+        waiting = keeps.waiting;
+        begun = keeps.begun;
+        published = numbers.published ∙ ap (λ k. published_with (step_of_port seat.port value).mark k) keeps.published;
+        lasts = λ from few. numbers.lasts from few ∙ ap (λ k. last_with from (step_of_port seat.port value).mark k) (keeps.lasts from few);
+      },
+    )
+turn_moves follow world me n seat peer past false busy kept keeps =
+    let ended : peer.left ≡ Ended = keeps.left_is ∙ closed_left seat.port seat.port.place busy in (
+      peer,
+      subst (λ (t : PortTree). Moves peer t None peer) (sym ended) (refl, refl),
+      record { left_is = keeps.left_is; waiting = keeps.waiting; begun = keeps.begun; published = keeps.published; lasts = keeps.lasts },
+    )
+
+-- An event
+
+drop-snoc : {A : Type 0} (xs : List A) (x : A) (n : ℕ) → n ≤ length xs → drop n xs ++ x ∷ [] ≡ drop n (xs ++ x ∷ [])
+drop-snoc xs x zero few = refl
+drop-snoc [] x (suc n) few = absurd (omega arith)
+drop-snoc (y ∷ xs) x (suc n) few = drop-snoc xs x n (omega arith)
+
+poked_made : (word value : ℕ) (b : Bool) → ((if b then Some (port_step (access.Write word value) 0 None) else None) ≡ Some (port_step (access.Write word value) 0 None)) ⊎ ((if b then Some (port_step (access.Write word value) 0 None) else None) ≡ None)
+poked_made word value true = inl refl
+poked_made word value false = inr refl
+
+poked_quiet : (word value : ℕ) (b : Bool) → mark_of_step (if b then Some (port_step (access.Write word value) 0 None) else None) ≡ None
+poked_quiet word value true = refl
+poked_quiet word value false = refl
+
+-- an event of a peer's own is in order, and its seat keeps it
+pub event_keeps : PortsFollowCalls → (world : World) (n : ℕ) (seat : Seat) (peer : Progress) (past : List Line) (event : Event) → world.geometry.peers ≤ 8 → n < 4000001 → Kept world (event_peer event) n seat →
+    Keeps world (event_peer event) seat peer →
+    (mid : Progress) × Acts world (event_peer event) peer event (step_in world.geometry seat past event) mid
+    × Keeps world (event_peer event) (seat_in seat past event) (noted mid (record { event = event; went = step_in world.geometry seat past event }))
+event_keeps follow world n seat peer past (Asked p call) eight small kept keeps = (
+  peer,
+  (refl, refl),
+  record {
+    left_is = keeps.left_is;
+    waiting = ap (λ (ws : List PortCall). ws ++ call ∷ []) keeps.waiting ∙ drop-snoc (asked_for peer.past) call peer.begun keeps.begun;
+    begun = omega (arith, keeps.begun, length-append (asked_for peer.past) (call ∷ []));
+    published = keeps.published;
+    lasts = keeps.lasts;
+  },
+)
+event_keeps follow world n seat peer past (Turned p) eight small kept keeps =
+    turn_moves follow world p n (opened seat) (begins world p peer) past _ refl (opened_kept world p n seat _ _ refl refl small kept) (begun_keeps follow world p n seat peer _ _ eight refl refl kept keeps)
+event_keeps follow world n seat peer past (Poked p word value) eight small kept keeps =
+    let quiet = poked_quiet word value (may_write world.geometry p word) in (
+      peer,
+      (poked_made word value (may_write world.geometry p word), refl),
+      record {
+        left_is = keeps.left_is;
+        waiting = keeps.waiting;
+        begun = keeps.begun;
+        published = rw quiet keeps.published;
+        lasts = λ from few. rw quiet (keeps.lasts from few);
+      },
+    )
+
+-- The memory law
+
+-- the accesses of ports that need a reason
+abbrev Fine : Shape → ℕ → Access → Type 0
+Fine g me (access.Write word value) = MayWrite g me word
+Fine g me _ = Unit {0}
+
+marked_law : (g : Shape) (me : ℕ) (lines : List Line) (mark : Option PortMark) (past : List Line) → (lines ≡ [] → MemoryLaw g past) → ((line : Line) → lines ≡ line ∷ [] → MemoryLaw g (line ∷ past)) → length lines ≤ 1 →
+    MemoryLaw g (reverse (lines ++ mark_lines me mark) ++ past)
+marked_law g me [] None past none one few = none refl
+marked_law g me [] (Some mark) past none one few = (tt, none refl)
+marked_law g me (line ∷ []) None past none one few = one line refl
+marked_law g me (line ∷ []) (Some mark) past none one few = (tt, one line refl)
+marked_law g me (line ∷ next ∷ more) mark past none one few = absurd (omega arith)
+
+step_law : (g : Shape) (me : ℕ) (a : Access) (mark : Option PortMark) (past : List Line) → Fine g me a → MemoryLaw g past → MemoryLaw g (reverse (step_lines me (port_step a (met past a) mark)) ++ past)
+step_law g me (access.Read word) None past fine law = (refl, law)
+step_law g me (access.Read word) (Some mark) past fine law = (tt, (refl, law))
+step_law g me (access.Write word value) None past fine law = (fine, law)
+step_law g me (access.Write word value) (Some mark) past fine law = (tt, (fine, law))
+step_law g me (access.State state) None past fine law = law
+step_law g me (access.State state) (Some mark) past fine law = (tt, law)
+step_law g me (access.Ring target vector) None past fine law = law
+step_law g me (access.Ring target vector) (Some mark) past fine law = (tt, law)
+step_law g me access.Nothing None past fine law = law
+step_law g me access.Nothing (Some mark) past fine law = (tt, law)
+
+-- a port writes its own section alone
+pub fine_at : (port : PortView) (p : Place) → IsPort port → IsPlace port p → Fine port.shape port.me (access_at port p)
+fine_at port place.Closed is there = tt
+fine_at port place.WritingLength is there =
+    let most = length_place_most port.most (port.published + 1) in
+    let size = is.size in
+    let room = is.room in
+    inl (omega arith, omega arith)
+fine_at port (place.WritingWord at more) is there =
+    let most = length_place_most port.most (port.published + 1) in
+    let size = is.size in
+    let four = is.size.0 in
+    let room = is.room in
+    let words = there.0 in
+    let hand = is.hand in
+    inl (omega arith, omega arith)
+fine_at port place.WritingSequence is there = let page = is.shaped.out_page in inl (omega arith, omega arith)
+fine_at port (place.AtSequence from) is there = tt
+fine_at port (place.AtLength from sequence) is there = tt
+fine_at port (place.AtWord from sequence bytes at more) is there = tt
+fine_at port (place.AtSecond from sequence) is there = tt
+
+turn_law : (world : World) (me n : ℕ) (seat : Seat) (past : List Line) (b : Bool) → is_busy seat.port ≡ b → Kept world me n seat → MemoryLaw world.geometry past →
+    MemoryLaw world.geometry (reverse (lines_by (Turned me) (if b then Some (step_of_port seat.port (met_by past seat.port)) else None)) ++ past)
+turn_law world me n seat past true busy kept law =
+    let fine = fine_at seat.port seat.port.place kept.port kept.port.place in
+    step_law world.geometry me (access_at seat.port seat.port.place) _ past (subst (λ (g : Shape). Fine g me (access_at seat.port seat.port.place)) kept.shape (subst (λ (m : ℕ). Fine seat.port.shape m (access_at seat.port seat.port.place)) kept.me_is fine)) law
+turn_law world me n seat past false busy kept law = (tt, law)
+
+poke_law : (g : Shape) (peer word value : ℕ) (past : List Line) (b : Bool) → may_write g peer word ≡ b → MemoryLaw g past → MemoryLaw g (reverse (lines_by (Poked peer word value) (if b then Some (port_step (access.Write word value) 0 None) else None)) ++ past)
+poke_law g peer word value past true is law = (may_of g peer word is, law)
+poke_law g peer word value past false is law = ((λ may. never (sym is ∙ may_true g peer word may)), law)
+  where
+    never : false ≡ true → ⊥
+    never e = cc
+
+pub event_law : (world : World) (n : ℕ) (seat : Seat) (past : List Line) (event : Event) → n < 4000001 → Kept world (event_peer event) n seat → MemoryLaw world.geometry past →
+    MemoryLaw world.geometry (reverse (lines_by event (step_in world.geometry seat past event)) ++ past)
+event_law world n seat past (Asked p call) small kept law = law
+event_law world n seat past (Turned p) small kept law = turn_law world p n (opened seat) past _ refl (opened_kept world p n seat _ _ refl refl small kept) law
+event_law world n seat past (Poked p word value) small kept law = poke_law world.geometry p word value past _ refl law
+
+-- The whole history
+
+abbrev pub entries_of : World → List Event → Moment → List Entry
+entries_of world [] moment = []
+entries_of world (event ∷ events) moment = entry_of world.geometry moment event ∷ entries_of world events (happens world.geometry moment event)
+
+abbrev pub AreKept : World → ℕ → Moment → Type 0
+AreKept world n moment = (p : ℕ) → p < world.geometry.peers → Kept world p n (moment.seats p)
+
+pub kept_one : (world : World) (n : ℕ) (moment : Moment) (event : Event) → n < 4000000 → IsThere world event → AreKept world n moment → AreKept world (n + 1) (happens world.geometry moment event)
+kept_one world n moment event small there kept = λ p below. kept_on world world.geometry (event ∷ []) n moment (omega arith) (there, tt) kept p below
+
+record Found (world : World) (events : List Event) (moment : Moment) : Type 0 where
+  scheduled : map event_of (entries_of world events moment) ≡ events
+  lines : reverse (flat_map lines_of (entries_of world events moment)) ++ moment.past ≡ (run world.geometry events moment).past
+  law : MemoryLaw world.geometry (run world.geometry events moment).past
+
+lines_go : (s new : List Line) (past all : List Line) → reverse new ++ (reverse s ++ past) ≡ all → reverse (s ++ new) ++ past ≡ all
+lines_go s new past all is = ap (λ r. r ++ past) (reverse-append s new) ∙ append_assoc (reverse new) (reverse s) past ∙ is
+
+found : (world : World) (events : List Event) (n : ℕ) (moment : Moment) → n + length events ≤ 4000000 → AllByRecursion (IsThere world) events → AreKept world n moment → MemoryLaw world.geometry moment.past → Found world events moment
+found world [] n moment few there kept law = record { scheduled = refl; lines = refl; law = law }
+found world (event ∷ events) n moment few there kept law =
+    let now = event_law world n (moment.seats (event_peer event)) moment.past event (omega arith) (kept (event_peer event) (there_below world event there.0)) law in
+    let rest = found world events (n + 1) (happens world.geometry moment event) (omega arith) there.1 (kept_one world n moment event (omega arith) there.0 kept) now in
+    record {
+      scheduled = ap (λ es. event ∷ es) rest.scheduled;
+      lines = ap (λ (ls : List Line). reverse ls ++ moment.past) (flat_map-cons lines_of (entry_of world.geometry moment event) (entries_of world events (happens world.geometry moment event)))
+          ∙ lines_go (lines_of (entry_of world.geometry moment event)) (flat_map lines_of (entries_of world events (happens world.geometry moment event))) moment.past _ rest.lines;
+      law = rest.law;
+    }
+
+-- the entry of an event and those after it, for a peer
+serves_from : PortsFollowCalls → (world : World) (n : ℕ) (moment : Moment) (event : Event) (others : List Entry) (q : ℕ) (peer : Progress) → world.geometry.peers ≤ 8 → n < 4000000 → IsThere world event → AreKept world n moment → Keeps world q (moment.seats q) peer →
+    ((next : Progress) → Keeps world q ((happens world.geometry moment event).seats q) next → (end : Progress) × Serves world q next (own_entries q others) end) → (b : Bool) → (event_peer event == q) ≡ b →
+    (end : Progress) × Serves world q peer (if b then entry_of world.geometry moment event ∷ own_entries q others else own_entries q others) end
+serves_from follow world n moment event others q peer eight small there kept keeps rest true is =
+    let p = event_peer event in
+    let same : p ≡ q = eqb-true p q is in
+    let mine : Keeps world p (moment.seats p) peer = subst (λ (k : ℕ). Keeps world k (moment.seats k) peer) (sym same) keeps in
+    let on = event_keeps follow world n (moment.seats p) peer moment.past event eight (omega arith) (kept p (there_below world event there)) mine in
+    let here : Keeps world q (seat_in (moment.seats p) moment.past event) (noted on.0 (entry_of world.geometry moment event)) = subst (λ (k : ℕ). Keeps world k (seat_in (moment.seats p) moment.past event) (noted on.0 (entry_of world.geometry moment event))) same on.2 in
+    let then_ : Keeps world q ((happens world.geometry moment event).seats q) (noted on.0 (entry_of world.geometry moment event)) = rw is here in
+    let others_served = rest (noted on.0 (entry_of world.geometry moment event)) then_ in
+    (others_served.0, (on.0, subst (λ (k : ℕ). Acts world k peer event (step_in world.geometry (moment.seats p) moment.past event) on.0) same on.1, others_served.1))
+serves_from follow world n moment event others q peer eight small there kept keeps rest false is = rest peer (rw is keeps)
+
+served : PortsFollowCalls → (world : World) (events : List Event) (n : ℕ) (moment : Moment) (q : ℕ) (peer : Progress) → world.geometry.peers ≤ 8 → n + length events ≤ 4000000 → AllByRecursion (IsThere world) events → AreKept world n moment →
+    Keeps world q (moment.seats q) peer → (end : Progress) × Serves world q peer (own_entries q (entries_of world events moment)) end
+served follow world [] n moment q peer eight few there kept keeps = (peer, refl)
+served follow world (event ∷ events) n moment q peer eight few there kept keeps =
+    serves_from follow world n moment event (entries_of world events (happens world.geometry moment event)) q peer eight (omega arith) there.0 kept keeps
+    (λ next on. served follow world events (n + 1) (happens world.geometry moment event) q next eight (omega arith) there.1 (kept_one world n moment event (omega arith) there.0 kept) on) (event_peer event == q) refl
+
+fresh_keeps : (world : World) (p : ℕ) → Keeps world p ((beginning world).seats p) outset
+fresh_keeps world p = record { left_is = refl; waiting = refl; begun = omega arith; published = refl; lasts = λ from few. none from }
+  where
+    none : (from : ℕ) → slice_index (replicate 8 0) from ≡ 0
+    none from = grind (arith, common_steps)
+
+pub history_lem : PortsFollowCalls → HistoryIsLawful
+history_lem follow world is =
+    let events = schedule world.acts in
+    let moment = beginning world in
+    let few : 0 + length events ≤ 4000000 = few_events world is in
+    let there = all_there world is in
+    let kept : AreKept world 0 moment = λ p below. fresh_kept world p is below in
+    let f = found world events 0 moment few there kept tt in
+    let entries = entries_of world events moment in (
+      entries,
+      record {
+        events = f.scheduled;
+        told = sym (reverse-reverse (flat_map lines_of entries)) ∙ ap reverse (sym (append-nil (reverse (flat_map lines_of entries))) ∙ f.lines);
+        memory = rw reverse-reverse f.law;
+        calls = λ p. served follow world events 0 moment p outset is.few few there kept (fresh_keeps world p);
+      },
+    )

@@ -1,0 +1,107 @@
+-- The lawful history of a schedule of ports, computed: the plain program beside the relation of `Lawful`.
+use Rattle.std.specs.Prelude.{ℕ, ◌+◌, ◌==◌, ◌&&◌, ◌||◌, nat_le, nat_lt, if◌then◌else◌, Bool, true, false, Option, Some, None, List, [], ◌∷◌, ◌++◌, reverse}
+use Rattle.section_map.specs.Geometry.{Shape, section_start}
+use Rattle.split_ring.specs.declared.steps.Access.{Access}
+use Rattle.split_ring.specs.declared.steps.Access.TheVariants as access
+use Rattle.port_text.specs.Scenario.{World, IsWorld}
+use Rattle.sampling_port.specs.Trees.{PortStep, port_step}
+use Rattle.sampling_port.specs.Views.{PortView, fresh_port, is_busy, publishing, sampling, access_at, port_after}
+use Rattle.sampling_port.specs.Laws.{step_of_port}
+use Rattle.sampling_port.specs.Schedule.{PortCall, Publish, Sample, Event, Asked, Turned, Poked, event_peer, schedule}
+use Rattle.sampling_port.specs.Told.{Line, Entry, lines_of}
+use Rattle.sampling_port.specs.Memory.{last_write}
+use Rattle.sampling_port.specs.Lawful.{IsLawful}
+
+-- a peer's port, and the calls that wait for it, the oldest first
+pub record Seat : Type 0 where
+  pub port : PortView
+  pub waiting : List PortCall
+
+-- the lines so far, of which the newest is the first, and where each peer is
+pub record Moment : Type 0 where
+  pub past : List Line
+  pub seats : ℕ → Seat
+
+-- A turn
+
+abbrev pub opening : PortView → PortCall → PortView
+opening port (Publish message) = publishing port message
+opening port (Sample from) = sampling port from
+
+-- where no call is open, the oldest that waits is opened
+abbrev pub opened_by : Seat → Bool → List PortCall → Seat
+opened_by seat true waiting = seat
+opened_by seat false [] = seat
+opened_by seat false (call ∷ waiting) = record { port = opening seat.port call; waiting = waiting }
+
+abbrev pub opened : Seat → Seat
+opened seat = opened_by seat (is_busy seat.port) seat.waiting
+
+-- a read meets what was written last
+abbrev pub met : List Line → Access → ℕ
+met past (access.Read word) = last_write past word
+met past _ = 0
+
+abbrev pub met_by : List Line → PortView → ℕ
+met_by past port = met past (access_at port port.place)
+
+-- the step of the open call, if there is one, and the port after it
+abbrev pub step_of_turn : PortView → List Line → Option PortStep
+step_of_turn port past = if is_busy port then Some (step_of_port port (met_by past port)) else None
+
+abbrev pub port_of_turn : PortView → List Line → PortView
+port_of_turn port past = if is_busy port then port_after port port.place (met_by past port) else port
+
+-- An event
+
+-- whether a peer may write a word: it lies in the peer's output section or in the common section
+abbrev pub may_write : Shape → ℕ → ℕ → Bool
+may_write g peer word =
+    (nat_le (section_start g peer) word && nat_lt word (section_start g peer + g.out)) || (nat_le g.table word && nat_lt word (g.table + g.common))
+
+abbrev pub poked_step : Shape → (peer word value : ℕ) → Option PortStep
+poked_step g peer word value = if may_write g peer word then Some (port_step (access.Write word value) 0 None) else None
+
+-- the step that is made in an event, and where its peer is after it
+abbrev pub step_in : Shape → Seat → List Line → Event → Option PortStep
+step_in g seat past (Asked peer call) = None
+step_in g seat past (Turned peer) = step_of_turn (opened seat).port past
+step_in g seat past (Poked peer word value) = poked_step g peer word value
+
+abbrev pub seat_in : Seat → List Line → Event → Seat
+seat_in seat past (Asked peer call) = record seat { waiting = seat.waiting ++ call ∷ [] }
+seat_in seat past (Turned peer) = record { port = port_of_turn (opened seat).port past; waiting = (opened seat).waiting }
+seat_in seat past (Poked peer word value) = seat
+
+abbrev pub entry_of : Shape → Moment → Event → Entry
+entry_of g moment event = record { event = event; went = step_in g (moment.seats (event_peer event)) moment.past event }
+
+-- the seats where this peer's is another one
+abbrev pub seats_with : ℕ → Seat → (ℕ → Seat) → ℕ → Seat
+seats_with peer seat seats p = if peer == p then seat else seats p
+
+abbrev pub happens : Shape → Moment → Event → Moment
+happens g moment event = record {
+  past = reverse (lines_of (entry_of g moment event)) ++ moment.past;
+  seats = seats_with (event_peer event) (seat_in (moment.seats (event_peer event)) moment.past event) moment.seats;
+}
+
+abbrev pub run : Shape → List Event → Moment → Moment
+run g [] moment = moment
+run g (event ∷ events) moment = run g events (happens g moment event)
+
+-- each peer has a port that did nothing yet
+abbrev pub beginning : World → Moment
+beginning world = record { past = []; seats = λ peer. record { port = fresh_port world.geometry peer world.most; waiting = [] } }
+
+-- the moment to which these events lead
+abbrev pub moment_of : World → List Event → Moment
+moment_of world events = run world.geometry events (beginning world)
+
+-- the history of the schedule
+abbrev pub history : World → List Line
+history world = reverse (moment_of world (schedule world.acts)).past
+
+-- a schedule has a lawful history, and this is it
+abbrev pub HistoryIsLawful : Type 0
+HistoryIsLawful = (world : World) → IsWorld world → IsLawful world (history world)

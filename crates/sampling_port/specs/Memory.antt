@@ -1,0 +1,26 @@
+-- The memory law: a read gives what was written last, and a peer writes where it may. Of lines so far the newest is the first.
+use Rattle.std.specs.Prelude.{ℕ, ◌≡◌, ◌==◌, if◌then◌else◌, List, [], ◌∷◌}
+use Rattle.section_map.specs.Geometry.{Shape}
+use Rattle.section_map.specs.MayWrite.{MayWrite}
+use Rattle.sampling_port.specs.Told.{Line, Read, Wrote, Denied}
+
+-- what a word holds after a line, where it held this before
+abbrev pub value_after : Line → ℕ → ℕ → ℕ
+value_after (Wrote peer word value) at before = if word == at then value else before
+value_after _ at before = before
+
+-- what a word holds after these lines; it is 0 at the start
+abbrev pub last_write : List Line → ℕ → ℕ
+last_write [] at = 0
+last_write (line ∷ older) at = value_after line at (last_write older at)
+
+-- what the law asks of a line after the older ones
+abbrev pub Remembers : Shape → Line → List Line → Type 0
+Remembers g (Read peer word value) older = value ≡ last_write older word
+Remembers g (Wrote peer word value) older = MayWrite g peer word
+Remembers g (Denied peer word) older = ¬ MayWrite g peer word
+Remembers g _ older = Unit {0}
+
+abbrev pub MemoryLaw : Shape → List Line → Type 0
+MemoryLaw g [] = Unit {0}
+MemoryLaw g (line ∷ older) = Remembers g line older × MemoryLaw g older

@@ -1,0 +1,33 @@
+-- The schedule of ports: each act is a list of events, and each event is one peer's.
+use Rattle.std.specs.Prelude.{ℕ, List, [], ◌∷◌, replicate}
+use Rattle.std.specs.List.{flat_map}
+use Rattle.port_text.specs.declared.acts.Act.{Act}
+use Rattle.port_text.specs.declared.acts.Act.TheVariants as act
+
+-- a call that a peer is told to make: the publish of a message, or a sample of a peer
+pub data PortCall : Type 0 where
+  Publish : (message : List ℕ) → PortCall
+  Sample : (from : ℕ) → PortCall
+
+-- what happens: a peer is told to make a call; it takes its turn; or it writes a word of its own accord
+pub data Event : Type 0 where
+  Asked : (peer : ℕ) (call : PortCall) → Event
+  Turned : (peer : ℕ) → Event
+  Poked : (peer word value : ℕ) → Event
+
+-- whose event it is
+abbrev pub event_peer : Event → ℕ
+event_peer (Asked peer call) = peer
+event_peer (Turned peer) = peer
+event_peer (Poked peer word value) = peer
+
+-- the events of an act; `turn P K` is K turns of P
+abbrev pub events_of : Act → List Event
+events_of (act.Publish peer message) = Asked peer (Publish message) ∷ []
+events_of (act.Sample peer from) = Asked peer (Sample from) ∷ []
+events_of (act.Turn peer steps) = replicate steps (Turned peer)
+events_of (act.Poke peer word value) = Poked peer word value ∷ []
+
+-- the events of a schedule
+abbrev pub schedule : List Act → List Event
+schedule acts = flat_map events_of acts

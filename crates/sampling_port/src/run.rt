@@ -1,0 +1,51 @@
+//! A schedule of ports from its text to its record.
+ghost use Rattle.std.specs.Prelude.{◌≡◌, IfOk, IfErr};
+ghost use Rattle.port_text.specs.Scenario.{World};
+ghost use Rattle.port_text.specs.Spelling.{world_of, IsSpelling};
+ghost use Rattle.port_text.specs.Judge.{answer};
+ghost use Rattle.port_text.specs.Answers.{Refuses};
+ghost use Rattle.port_text.specs.declared.faults.PortsFault.TheVariants.{NoMemory as OutOfMemory};
+ghost use Rattle.sampling_port.specs.Record.{record_of, IsRecord};
+ghost use Rattle.sampling_port.specs.History.{history};
+
+use crate::laws::history_is_lawful;
+use crate::lines::{Form, put};
+use crate::scene::Record;
+use crate::stage::Stage;
+use ivs_base::NoMemory;
+use port_text::{PortsFault, Scenario, parse, put_scenario};
+use std::alloc::Global;
+
+/// The record of a schedule.
+fn record(alloc: Global, scenario: &Scenario) -> Result<Vec<u8>, NoMemory>
+    ensures { IfOk result (λ text. text.items ≡ record_of (world_of scenario.now) (history (world_of scenario.now))) }
+{
+    let mut text = Vec::new(alloc);
+    put(&mut text, Form::Head, &[1], &[])?;
+    put_scenario(&mut text, scenario)?;
+    let mut stage = Stage::new(alloc, scenario, text)?;
+    for act in scenario.acts.items() {
+        stage.act(alloc, act)?;
+    }
+    let Record { mut text, count } = stage.into_record();
+    put(&mut text, Form::End, &[count], &[])?;
+    Ok(text)
+}
+
+/// The record of the schedule that a text spells: the text, and the one history that its schedule has. Else the first fault of the text.
+/// NoMemory comes only where memory ran out.
+pub fn ports(alloc: Global, bytes: &[u8]) -> Result<Vec<u8>, PortsFault>
+    // What is given is the text read, with the lawful history of its schedule.
+    ensures found { IfOk result (λ text. IsRecord bytes.now text.items) }
+    // A text that spells a schedule is refused for want of memory alone.
+    ensures only { (w : World) → IsSpelling w bytes.now → IfErr result (λ fault. fault ≡ OutOfMemory) }
+    // Which fault it is.
+    ensures fault { IfErr result (λ fault. Refuses fault (answer bytes.now)) }
+{
+    history_is_lawful();
+    let scenario = parse(alloc, bytes)?;
+    match record(alloc, &scenario) {
+        Ok(text) => Ok(text),
+        Err(_) => Err(PortsFault::NoMemory),
+    }
+}

@@ -1,0 +1,286 @@
+-- What holds of the lines so far at each position, and that each row that can follow keeps it.
+use Rattle.std.proofs.Common.{◌≡◌, ℕ, zero, suc, ◌+◌, ◌^◌, ◌<◌, ◌≤◌, Bool, true, false, cond, eqb, ◌||◌, not, List, [], ◌∷◌, ◌++◌, length, get_or, take, map, Some, refl, sym, ap, subst, ◌∙◌, append_assoc, arith, ◌⊎◌, inl, inr}
+use Rattle.std.specs.Prelude.{option_and_then, slice_get, codes}
+use Rattle.std.specs.Option.{option_map_or}
+use Rattle.std.proofs.lemmas.Bool.{eqb-true, eqb-false, cases_lt}
+use Rattle.std.proofs.lemmas.List.{append-nil, map-append, length-append}
+use Rattle.std.proofs.lemmas.List.Sums.{sum_by_push}
+use Rattle.line_text.specs.Numbers.{number_of}
+use Rattle.line_text.specs.Forms.{Piece, Word, Number, Fit, spell}
+use Rattle.line_text.specs.Rows.{Row, row}
+use Rattle.line_text.proofs.FitLaws.{counted, list_0, list_1}
+use Rattle.line_text.proofs.NumberLaws.{number_of-decimal}
+use Rattle.line_text.proofs.StepLaws.{not_false, same_some}
+use Rattle.pci_space.specs.declared.wiring.Wiring.{Wiring}
+use Rattle.pci_space.specs.Wiring.{IsWiring}
+use Rattle.split_ring.specs.Layout.{IsQueue}
+use Rattle.scenario_text.specs.declared.acts.Act.{Act}
+use Rattle.scenario_text.specs.declared.forms.Form.{Form}
+use Rattle.scenario_text.specs.declared.forms.Form.TheVariants.{Version, Peers, Table, Common, Out, Mtu, Msix, Intx, Honest, Hostile, Begin, End}
+use Rattle.scenario_text.specs.declared.positions.Position.{Position}
+use Rattle.scenario_text.specs.declared.positions.Position.TheVariants.{AtVersion, AtPeers, AtTable, AtCommon, AtOut, AtMtu, AtWiring, AtPeer, AtBegin, AtActs, Ended}
+use Rattle.scenario_text.specs.Acts.{cost, turns_of}
+use Rattle.scenario_text.specs.Table.{pieces_of, any_number}
+use Rattle.scenario_text.specs.ActRows.{row_of_act}
+use Rattle.scenario_text.specs.Scenario.{World, IsAllowed, AreAllowed}
+use Rattle.scenario_text.specs.Spelling.{row_of_wiring, row_of_peer, rows_of_peers}
+use Rattle.scenario_text.specs.Judge.{SoFar, world_so_far, ordinal_of, position_of, is_act, with_act}
+use Rattle.scenario_text.proofs.SizeLaws.{HasRegion, has_region, has_queue, small_section}
+use Rattle.scenario_text.proofs.Follows.{CanFollow, with_row}
+use Rattle.scenario_text.proofs.ActRowLaws.{same_row, act_row, allowed_act}
+
+-- ---- the rows before a position
+
+abbrev sizes_rows : SoFar → List (Row Form)
+sizes_rows d = row Version (1 ∷ []) [] ∷ row Peers (d.peers ∷ []) [] ∷ row Table (d.table ∷ []) [] ∷ row Common (d.common ∷ []) [] ∷ row Out (d.out ∷ []) [] ∷ row Mtu (d.mtu ∷ []) [] ∷ []
+
+abbrev head_so_far : SoFar → List (Row Form)
+head_so_far d = sizes_rows d ++ row_of_wiring d.wiring ∷ rows_of_peers 0 d.honest
+
+abbrev acts_so_far : SoFar → List (Row Form)
+acts_so_far d = head_so_far d ++ row Begin [] [] ∷ [] ++ map row_of_act d.acts
+
+abbrev pub before : Position → SoFar → List (Row Form)
+before AtVersion d = []
+before AtPeers d = row Version (1 ∷ []) [] ∷ []
+before AtTable d = row Version (1 ∷ []) [] ∷ row Peers (d.peers ∷ []) [] ∷ []
+before AtCommon d = row Version (1 ∷ []) [] ∷ row Peers (d.peers ∷ []) [] ∷ row Table (d.table ∷ []) [] ∷ []
+before AtOut d = row Version (1 ∷ []) [] ∷ row Peers (d.peers ∷ []) [] ∷ row Table (d.table ∷ []) [] ∷ row Common (d.common ∷ []) [] ∷ []
+before AtMtu d = row Version (1 ∷ []) [] ∷ row Peers (d.peers ∷ []) [] ∷ row Table (d.table ∷ []) [] ∷ row Common (d.common ∷ []) [] ∷ row Out (d.out ∷ []) [] ∷ []
+before AtWiring d = sizes_rows d
+before AtPeer d = head_so_far d
+before AtBegin d = head_so_far d
+before AtActs d = acts_so_far d
+before Ended d = acts_so_far d ++ row End [] [] ∷ []
+
+-- ---- what holds at a position
+
+pub record Clean (honest : List Bool) (acts : List Act) : Type 0 where
+  pub honest_none : honest ≡ []
+  pub acts_none : acts ≡ []
+
+abbrev pub IsFew : ℕ → Type 0
+IsFew peers = (2 ≤ peers) × (peers ≤ 8)
+
+-- the head's sizes are right
+pub record Measured (peers table common out mtu : ℕ) (wiring : Wiring) : Type 0 where
+  pub few : IsFew peers
+  pub region : HasRegion peers table common out
+  pub queue : IsQueue (record { out = out; mtu = mtu })
+  pub wired : IsWiring wiring
+
+abbrev pub IsMeasured : SoFar → Type 0
+IsMeasured d = Measured d.peers d.table d.common d.out d.mtu d.wiring
+
+-- the acts so far are a scenario's
+pub record Acted (d : SoFar) : Type 0 where
+  pub flags : length d.honest ≡ d.peers
+  pub allowed : AreAllowed (world_so_far d)
+  pub turns : turns_of d.acts ≤ 4000000
+
+abbrev pub Good : Position → SoFar → Type 0
+Good AtVersion d = Clean d.honest d.acts
+Good AtPeers d = Clean d.honest d.acts
+Good AtTable d = Clean d.honest d.acts × IsFew d.peers
+Good AtCommon d = Clean d.honest d.acts × IsFew d.peers
+Good AtOut d = Clean d.honest d.acts × IsFew d.peers
+Good AtMtu d = Clean d.honest d.acts × IsFew d.peers × HasRegion d.peers d.table d.common d.out
+Good AtWiring d = Clean d.honest d.acts × IsFew d.peers × HasRegion d.peers d.table d.common d.out × IsQueue (record { out = d.out; mtu = d.mtu })
+Good AtPeer d = IsMeasured d × (d.acts ≡ []) × (length d.honest < d.peers)
+Good AtBegin d = IsMeasured d × (d.acts ≡ []) × (length d.honest ≡ d.peers)
+Good AtActs d = IsMeasured d × Acted d
+Good Ended d = IsMeasured d × Acted d
+
+pub record Adds (d : SoFar) (r : Row Form) : Type 0 where
+  pub rows : before (with_row r d).position (with_row r d) ≡ before d.position d ++ r ∷ []
+  pub good : Good (with_row r d).position (with_row r d)
+
+-- ---- positions
+
+position_at : ℕ → Position
+position_at zero = AtVersion
+position_at (suc zero) = AtPeers
+position_at (suc (suc zero)) = AtTable
+position_at (suc (suc (suc zero))) = AtCommon
+position_at (suc (suc (suc (suc zero)))) = AtOut
+position_at (suc (suc (suc (suc (suc zero))))) = AtMtu
+position_at (suc (suc (suc (suc (suc (suc zero)))))) = AtWiring
+position_at (suc (suc (suc (suc (suc (suc (suc zero))))))) = AtPeer
+position_at (suc (suc (suc (suc (suc (suc (suc (suc zero)))))))) = AtBegin
+position_at (suc (suc (suc (suc (suc (suc (suc (suc (suc zero))))))))) = AtActs
+position_at (suc (suc (suc (suc (suc (suc (suc (suc (suc (suc n)))))))))) = Ended
+
+at_ordinal : (s : Position) → position_at (ordinal_of s) ≡ s
+unfolding position_at
+at_ordinal AtVersion = refl
+at_ordinal _ = refl
+
+pub same_position : (s t : Position) → eqb (ordinal_of s) (ordinal_of t) ≡ true → t ≡ s
+same_position s t e = sym (at_ordinal t) ∙ ap position_at (sym (eqb-true _ _ e)) ∙ at_ordinal s
+
+pub either_false : (a b : Bool) → (a || b) ≡ false → (a ≡ false) × (b ≡ false)
+either_false true b e = absurd cc
+either_false false b e = (refl, e)
+
+stands : (d : SoFar) (r : Row Form) → CanFollow d r → d.position ≡ position_of r.form
+stands d r can = same_position (position_of r.form) d.position (not_false _ (either_false _ _ can.order).0)
+
+-- ---- numbers of a head line
+
+in_range : (low high : ℕ) (ps : List Piece) (ns : List ℕ) → Fit (Number low high ∷ ps) ns → (low ≤ get_or ns 0 0) × (get_or ns 0 0 ≤ high)
+in_range low high ps [] fit = absurd fit
+in_range low high ps (n ∷ ns) fit = (fit.0, fit.1)
+
+one_alone : (ns : List ℕ) → Fit (Number 1 1 ∷ []) ns → 1 ∷ [] ≡ ns
+one_alone [] fit = absurd fit
+one_alone (n ∷ []) fit = ap (λ (k : ℕ). k ∷ []) (omega arith)
+one_alone (n ∷ m ∷ ns) fit = absurd fit.2
+
+the_number : (form : Form) (ns frame : List ℕ) → length ns ≡ 1 → frame ≡ [] → row form (get_or ns 0 0 ∷ []) [] ≡ row form ns frame
+the_number form ns frame one none = same_row form _ ns frame (list_1 ns one) (sym none)
+
+-- ---- peers
+
+pub peers-push : (k : ℕ) (bs : List Bool) (b : Bool) → rows_of_peers k (bs ++ b ∷ []) ≡ rows_of_peers k bs ++ row_of_peer (k + length bs) b ∷ []
+peers-push k [] b = ap (λ (p : ℕ). row_of_peer p b ∷ []) (omega arith)
+peers-push k (c ∷ bs) b = ap (λ (t : List (Row Form)). row_of_peer k c ∷ t) (peers-push (k + 1) bs b ∙ ap (λ (p : ℕ). rows_of_peers (k + 1) bs ++ row_of_peer p b ∷ []) (omega arith))
+
+head-push : (d : SoFar) (b : Bool) → sizes_rows d ++ row_of_wiring d.wiring ∷ rows_of_peers 0 (d.honest ++ b ∷ []) ≡ head_so_far d ++ row_of_peer (length d.honest) b ∷ []
+head-push d b = rw (peers-push 0 d.honest b) (ap (λ (p : ℕ). head_so_far d ++ row_of_peer p b ∷ []) (omega arith))
+
+-- a peer line has the number of the next peer
+next_peer : (d : SoFar) (w v : List ℕ) (ns frame : List ℕ) → Fit (Word w ∷ any_number ∷ Word v ∷ []) ns
+    → option_map_or (λ p. not (eqb p (length d.honest))) (option_and_then number_of (slice_get (spell (Word w ∷ any_number ∷ Word v ∷ []) ns frame) 1)) false ≡ false
+    → length d.honest ∷ [] ≡ ns
+next_peer d w v [] frame fit e = absurd fit
+next_peer d w v (p ∷ q ∷ ns) frame fit e = absurd fit.2
+next_peer d w v (p ∷ []) frame fit e =
+    let small : p < 2 ^ 64 = omega (arith, fit.1) in
+    let same : p ≡ length d.honest = eqb-true _ _ (not_false _ (rw (number_of-decimal p small) at e)) in
+    ap (λ (k : ℕ). k ∷ []) (sym same)
+
+peer_rows : (d : SoFar) (b : Bool) (r : Row Form) → d.position ≡ AtPeer → row_of_peer (length d.honest) b ≡ r → (full : Bool)
+    → before (cond full AtBegin AtPeer) (record d { position = cond full AtBegin AtPeer; honest = d.honest ++ b ∷ [] }) ≡ before d.position d ++ r ∷ []
+peer_rows d b r at e true = rw (at, ← e) (head-push d b)
+peer_rows d b r at e false = rw (at, ← e) (head-push d b)
+
+peer_good : (d : SoFar) (b : Bool) → Good AtPeer d → (full : Bool) → eqb (length (d.honest ++ b ∷ [])) d.peers ≡ full
+    → Good (cond full AtBegin AtPeer) (record d { position = cond full AtBegin AtPeer; honest = d.honest ++ b ∷ [] })
+peer_good d b good true is = (good.0, good.1, eqb-true _ _ is)
+peer_good d b good false is =
+    let less = good.2 in
+    let one : length (d.honest ++ b ∷ []) ≡ length d.honest + 1 = length-append d.honest (b ∷ []) in (
+      good.0,
+      good.1,
+      elim (cases_lt (length (d.honest ++ b ∷ [])) d.peers) [
+        | inl lt ↦ lt
+        | inr ge ↦ absurd (eqb-false _ _ is (omega arith))
+      ],
+    )
+
+-- ---- acts
+
+-- what is allowed doesn't depend on what comes later
+allowed_in : (w : World) (before later : List Act) (a : Act) → IsAllowed w before a → IsAllowed (record w { acts = later }) before a
+allowed_in w before later a is = record { values = is.values; bytes = is.bytes; order = is.order; range = is.range; peer = is.peer; frame = is.frame }
+
+get_front : (xs : List Act) (a b : Act) (k : ℕ) → slice_get (xs ++ a ∷ []) k ≡ Some b → ((slice_get xs k ≡ Some b) × (take k (xs ++ a ∷ []) ≡ take k xs)) ⊎ ((a ≡ b) × (take k (xs ++ a ∷ []) ≡ xs))
+get_front [] a b zero is = inr (same_some a b is, refl)
+get_front [] a b (suc k) is = absurd cc
+get_front (x ∷ xs) a b zero is = inl (is, refl)
+get_front (x ∷ xs) a b (suc k) is =
+    elim (get_front xs a b k is) [
+      | inl front ↦ inl (front.0, ap (λ (t : List Act). x ∷ t) front.1)
+      | inr end ↦ inr (end.0, ap (λ (t : List Act). x ∷ t) end.1)
+    ]
+
+allowed-push : (w : World) (a : Act) → AreAllowed w → IsAllowed w w.acts a → AreAllowed (record w { acts = w.acts ++ a ∷ [] })
+allowed-push w a all is k b at =
+    elim (get_front w.acts a b k at) [
+      | inl front ↦ rw front.1 (allowed_in w (take k w.acts) (w.acts ++ a ∷ []) b (all k b front.0))
+      | inr end ↦ rw (end.1, ← end.0) (allowed_in w w.acts (w.acts ++ a ∷ []) a is)
+    ]
+
+act_rows : (d : SoFar) (a : Act) (r : Row Form) → row_of_act a ≡ r → head_so_far d ++ row Begin [] [] ∷ [] ++ map row_of_act (d.acts ++ a ∷ []) ≡ acts_so_far d ++ r ∷ []
+act_rows d a r e = rw (map-append, ← e) (sym (append_assoc (head_so_far d ++ row Begin [] [] ∷ []) (map row_of_act d.acts) (row_of_act a ∷ [])))
+
+act_before : (d : SoFar) (a : Act) (r : Row Form) → d.position ≡ AtActs → row_of_act a ≡ r → before d.position (with_act a d) ≡ before d.position d ++ r ∷ []
+act_before d a r at e = rw at (act_rows d a r e)
+
+act_good : (d : SoFar) (a : Act) → d.position ≡ AtActs → CanFollow d (row_of_act a) → turns_of d.acts + cost a ≤ 4000000 → Good d.position d → Good d.position (with_act a d)
+act_good d a at can few good =
+    let g = (rw at at good) in
+    rw at (g.0, record { flags = g.1.flags; allowed = allowed-push (world_so_far d) a g.1.allowed (allowed_act d a at can); turns = rw (sum_by_push cost d.acts a) few })
+
+adds_act : (d : SoFar) (form : Form) (ns frame : List ℕ) → is_act form ≡ true → position_of form ≡ AtActs → CanFollow d (row form ns frame) → Good d.position d → Adds d (row form ns frame)
+adds_act d form ns frame is where_ can good =
+    let at = stands d (row form ns frame) can ∙ where_ in
+    let t = act_row form ns frame is can.values can.bytes in
+    let few : turns_of d.acts + cost t.act ≤ 4000000 = (rw t.is_act_of at can.turns) in
+    let can' : CanFollow d (row_of_act t.act) = subst (λ (r : Row Form). CanFollow d r) (sym t.row_is) can in
+    record {
+      rows = rw t.is_act_of (act_before d t.act (row form ns frame) at t.row_is);
+      good = rw t.is_act_of (act_good d t.act at can' few good);
+    }
+
+-- ---- each form
+
+adds : (form : Form) (ns frame : List ℕ) (d : SoFar) → CanFollow d (row form ns frame) → Good d.position d → Adds d (row form ns frame)
+adds Version ns frame d can good =
+    let at = stands d (row Version ns frame) can in
+    record { rows = rw at (ap (λ (r : Row Form). r ∷ []) (same_row Version _ ns frame (one_alone ns can.values) (sym can.bytes))); good = rw at at good }
+adds Peers ns frame d can good =
+    let at = stands d (row Peers ns frame) can in
+    let same = the_number Peers ns frame (counted (pieces_of Peers) ns can.values) can.bytes in
+    record { rows = rw at (ap (λ (r : Row Form). row Version (1 ∷ []) [] ∷ r ∷ []) same); good = ((rw at at good), in_range 2 8 [] ns can.values) }
+adds Table ns frame d can good =
+    let at = stands d (row Table ns frame) can in
+    let same = the_number Table ns frame (counted (pieces_of Table) ns can.values) can.bytes in
+    record { rows = rw at (ap (λ (r : Row Form). row Version (1 ∷ []) [] ∷ row Peers (d.peers ∷ []) [] ∷ r ∷ []) same); good = rw at at good }
+adds Common ns frame d can good =
+    let at = stands d (row Common ns frame) can in
+    let same = the_number Common ns frame (counted (pieces_of Common) ns can.values) can.bytes in
+    record { rows = rw at (ap (λ (r : Row Form). row Version (1 ∷ []) [] ∷ row Peers (d.peers ∷ []) [] ∷ row Table (d.table ∷ []) [] ∷ r ∷ []) same); good = rw at at good }
+adds Out ns frame d can good =
+    let at = stands d (row Out ns frame) can in
+    let same = the_number Out ns frame (counted (pieces_of Out) ns can.values) can.bytes in
+    let g = (rw at at good) in
+    record { rows = rw at (ap (λ (r : Row Form). row Version (1 ∷ []) [] ∷ row Peers (d.peers ∷ []) [] ∷ row Table (d.table ∷ []) [] ∷ row Common (d.common ∷ []) [] ∷ r ∷ []) same); good = (g.0, g.1, has_region _ _ _ _ can.sizes) }
+adds Mtu ns frame d can good =
+    let at = stands d (row Mtu ns frame) can in
+    let same = the_number Mtu ns frame (counted (pieces_of Mtu) ns can.values) can.bytes in
+    let g = (rw at at good) in
+    record { rows = rw at (ap (λ (r : Row Form). row Version (1 ∷ []) [] ∷ row Peers (d.peers ∷ []) [] ∷ row Table (d.table ∷ []) [] ∷ row Common (d.common ∷ []) [] ∷ row Out (d.out ∷ []) [] ∷ r ∷ []) same); good = (g.0, g.1, g.2, has_queue _ (small_section _ _ _ _ g.2) can.sizes) }
+adds Msix ns frame d can good =
+    let at = stands d (row Msix ns frame) can in
+    let same = the_number Msix ns frame (counted (pieces_of Msix) ns can.values) can.bytes in
+    let g = (rw at at good) in
+    record { rows = rw (at, g.0.honest_none) (ap (λ (r : Row Form). sizes_rows d ++ r ∷ []) same); good = (record { few = g.1; region = g.2; queue = g.3; wired = in_range 1 64 [] ns can.values }, g.0.acts_none, omega (arith, ap length g.0.honest_none, g.1.0)) }
+adds Intx ns frame d can good =
+    let at = stands d (row Intx ns frame) can in
+    let same = same_row Intx [] ns frame (list_0 ns (counted (pieces_of Intx) ns can.values)) (sym can.bytes) in
+    let g = (rw at at good) in
+    record { rows = rw (at, g.0.honest_none) (ap (λ (r : Row Form). sizes_rows d ++ r ∷ []) same); good = (record { few = g.1; region = g.2; queue = g.3; wired = tt }, g.0.acts_none, omega (arith, ap length g.0.honest_none, g.1.0)) }
+adds Honest ns frame d can good =
+    let at = stands d (row Honest ns frame) can in
+    let number = next_peer d (codes "peer") _ ns frame can.values (either_false _ _ can.order).1 in
+    record { rows = peer_rows d true (row Honest ns frame) at (same_row Honest _ ns frame number (sym can.bytes)) _; good = peer_good d true (rw at at good) _ refl }
+adds Hostile ns frame d can good =
+    let at = stands d (row Hostile ns frame) can in
+    let number = next_peer d (codes "peer") _ ns frame can.values (either_false _ _ can.order).1 in
+    record { rows = peer_rows d false (row Hostile ns frame) at (same_row Hostile _ ns frame number (sym can.bytes)) _; good = peer_good d false (rw at at good) _ refl }
+adds Begin ns frame d can good =
+    let at = stands d (row Begin ns frame) can in
+    let same = same_row Begin [] ns frame (list_0 ns (counted (pieces_of Begin) ns can.values)) (sym can.bytes) in
+    let g = (rw at at good) in
+    record { rows = rw (at, g.1) (append-nil _ ∙ ap (λ (r : Row Form). head_so_far d ++ r ∷ []) same); good = (g.0, record { flags = g.2; allowed = rw g.1 (λ k a is. absurd cc); turns = rw g.1 (omega arith) }) }
+adds End ns frame d can good =
+    let at = stands d (row End ns frame) can in
+    let same = same_row End [] ns frame (list_0 ns (counted (pieces_of End) ns can.values)) (sym can.bytes) in
+    let g = (rw at at good) in
+    record { rows = rw at (ap (λ (r : Row Form). acts_so_far d ++ r ∷ []) same); good = (g.0, record { flags = g.1.flags; allowed = g.1.allowed; turns = g.1.turns }) }
+adds form ns frame d can good = adds_act d form ns frame refl refl can good
+
+-- a row that can follow keeps what holds, and adds its line
+pub row_adds : (d : SoFar) (r : Row Form) → CanFollow d r → Good d.position d → Adds d r
+row_adds d r can good = adds r.form r.numbers r.frame d can good

@@ -1,6 +1,0 @@
-use Rattle.std.proofs.Common.{◌∙◌}
-use Rattle.scenario_text.proofs.SizeLaws.{geometry_is}
-use Rattle.scenario_text.proofs.judging.is_geometry.Goals as goal
-
-pub returns : goal.returns
-returns c = c.is_ok.ensures.value ∙ geometry_is _ _ _ _ c.new.result c.new.ensures.made c.new.ensures.shape c.new.ensures.pages c.new.ensures.fault

@@ -1,0 +1,60 @@
+//! Which lines can come next in a scenario's text.
+ghost use Rattle.std.specs.Prelude.{◌≡◌};
+ghost use Rattle.scenario_text.specs.Judge.{ordinal_of, position_of};
+
+use crate::forms::Form;
+
+/// Which line comes next: one of the head, an act or the end, or none.
+#[derive(Clone, Copy, Debug, PartialEq, Eq)]
+pub enum Position {
+    AtVersion,
+    AtPeers,
+    AtTable,
+    AtCommon,
+    AtOut,
+    AtMtu,
+    AtWiring,
+    AtPeer,
+    AtBegin,
+    AtActs,
+    Ended,
+}
+
+impl Position {
+    /// The number of the position in the order of the text, from 0.
+    pub fn ordinal(self) -> u8
+        ensures { result ≡ ordinal_of self }
+    {
+        match self {
+            Position::AtVersion => 0,
+            Position::AtPeers => 1,
+            Position::AtTable => 2,
+            Position::AtCommon => 3,
+            Position::AtOut => 4,
+            Position::AtMtu => 5,
+            Position::AtWiring => 6,
+            Position::AtPeer => 7,
+            Position::AtBegin => 8,
+            Position::AtActs => 9,
+            Position::Ended => 10,
+        }
+    }
+
+    /// Where lines of the form can stand.
+    pub fn of(form: Form) -> Position
+        ensures { result ≡ position_of form }
+    {
+        match form {
+            Form::Version => Position::AtVersion,
+            Form::Peers => Position::AtPeers,
+            Form::Table => Position::AtTable,
+            Form::Common => Position::AtCommon,
+            Form::Out => Position::AtOut,
+            Form::Mtu => Position::AtMtu,
+            Form::Msix | Form::Intx => Position::AtWiring,
+            Form::Honest | Form::Hostile => Position::AtPeer,
+            Form::Begin => Position::AtBegin,
+            _ => Position::AtActs,
+        }
+    }
+}

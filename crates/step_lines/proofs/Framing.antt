@@ -1,0 +1,250 @@
+-- The marks of a step: which frames they carry.
+use Rattle.std.proofs.Common.{◌≡◌, ◌≢◌, ℕ, zero, suc, ◌+◌, ◌≤◌, Bool, true, false, List, [], ◌∷◌, ◌++◌, length, refl, sym, ◌∙◌, ap, subst, arith}
+use Rattle.std.specs.Prelude.{◌==◌, ◌&&◌, nat_le, not, if◌then◌else◌, map}
+use Rattle.std.proofs.lemmas.Bool.Decides.{nat_tests}
+use Rattle.split_ring.specs.declared.ranges.Refused.{Refused}
+use Rattle.split_ring.specs.declared.steps.Note.{Note}
+use Rattle.split_ring.specs.declared.steps.Note.TheVariants as note
+use Rattle.link_handshake.specs.declared.Move.{Move}
+use Rattle.link_handshake.specs.declared.Move.TheVariants.{Stay, Set, ClearThenSet}
+use Rattle.link_handshake.specs.Standing.{move_of}
+use Rattle.call_grammar.specs.Steps.{Mark, Saw, Reclaim, Full, Accept, Look, Deliver, Return, Done, Down, Refuse, Over}
+use Rattle.call_grammar.specs.Ends.{End}
+use Rattle.call_grammar.specs.Words.{words_for, frame_in}
+use Rattle.call_grammar.specs.Calls.{Who, Call, Tick, Stop, Offer, Poll, in_run, job_of}
+use Rattle.call_grammar.specs.Ticks.{tick_marks}
+use Rattle.call_grammar.specs.Offers.{Job, returned_by, descriptor_of}
+use Rattle.call_grammar.specs.Polls.{is_length, published_by}
+use Rattle.call_grammar.specs.Places.{Place, Closed, AtState, Clearing, Setting, Refusing, Downed, AtUsedIndex, AtUsedId, Filling, WritingLow, WritingHigh, WritingLength, WritingFlags, WritingEntry, WritingIndex, RingingOffer, AtAvailIndex, AtEntry, AtLow, AtHigh, AtLength, AtFlags, AtWord, GivingId, GivingLength, GivingIndex, RingingPoll, marks_at, next_place, first_place, fill_place, ids_place, items_place, words_place, tick_place, clear_place, is_open}
+use Rattle.call_grammar.specs.Reach.{IsGiven}
+use Rattle.link_endpoint.specs.Stands.{mark_between, marks_between}
+use Rattle.lawful_history.specs.Entries.{mark_line}
+use Rattle.lawful_history.specs.Frames.{HaveFrames}
+use Rattle.step_lines.specs.Places.{HasFrames}
+
+either : (P : List Mark → Type 0) (b : Bool) (x y : List Mark) → P x → P y → P (if b then x else y)
+either P true x y one other = one
+either P false x y one other = other
+
+-- what holds of each list of marks without a frame
+record Frameless (P : List Mark → Type 0) : Type 0 where
+  none : P []
+  saw : (v : ℕ) → P (Saw v ∷ [])
+  saw_over : (v : ℕ) → P (Saw v ∷ Over ∷ [])
+  over : P (Over ∷ [])
+  down : P (Down ∷ [])
+  reclaim : (count : ℕ) → P (Reclaim count ∷ [])
+  reclaim_full : P (Reclaim 0 ∷ Full ∷ [])
+  full : P (Full ∷ [])
+  refused : (r : Refused) → P (Refuse r ∷ [])
+  look : (count : ℕ) → P (Look count ∷ [])
+  look_done : P (Look 0 ∷ Done ∷ [])
+  returns : P (Return ∷ [])
+  finished : P (Done ∷ [])
+
+ticks : (P : List Mark → Type 0) → Frameless P → (value : ℕ) (move : Move) → P (tick_marks value move)
+ticks P f value Stay = f.saw_over value
+ticks P f value (Set state) = f.saw value
+ticks P f value (ClearThenSet state) = f.saw value
+
+after_reclaim : (P : List Mark → Type 0) → Frameless P → (b : Bool) → P (Reclaim 0 ∷ (if b then Full ∷ [] else []))
+after_reclaim P f true = f.reclaim_full
+after_reclaim P f false = f.reclaim 0
+
+-- the marks of a step hold it where those with a frame do
+marks_hold : (P : List Mark → Type 0) → Frameless P → (who : Who) (place : Place) (value : ℕ) → ((job : Job) → place ≡ WritingIndex job → P (Accept job.frame ∷ [])) →
+    ((number more entry address bytes : ℕ) (read : List ℕ) (words : ℕ) → place ≡ AtWord number more entry address bytes read words → P (Deliver (frame_in bytes (read ++ value ∷ [])) ∷ [])) → P (marks_at who place value)
+marks_hold P f who Closed value accepts delivers = f.none
+marks_hold P f who (AtState handshake) value accepts delivers = ticks P f value (move_of handshake value)
+marks_hold P f who (Clearing at more state) value accepts delivers = f.none
+marks_hold P f who (Setting state) value accepts delivers = f.over
+marks_hold P f who Refusing value accepts delivers = f.over
+marks_hold P f who Downed value accepts delivers = f.down
+marks_hold P f who (AtUsedIndex job freed) value accepts delivers = either P (nat_le (returned_by freed value) _) _ _ (either P (returned_by freed value == 0) _ _ (after_reclaim P f _) (f.reclaim (returned_by freed value))) (f.refused _)
+marks_hold P f who (AtUsedId job freed more) value accepts delivers = either P (value == descriptor_of who freed) _ _ (either P (more == 0) _ _ (either P _ _ _ f.full f.none) f.none) (f.refused _)
+marks_hold P f who (Filling job at more) value accepts delivers = f.none
+marks_hold P f who (WritingLow job) value accepts delivers = f.none
+marks_hold P f who (WritingHigh job) value accepts delivers = f.none
+marks_hold P f who (WritingLength job) value accepts delivers = f.none
+marks_hold P f who (WritingFlags job) value accepts delivers = f.none
+marks_hold P f who (WritingEntry job) value accepts delivers = f.none
+marks_hold P f who (WritingIndex job) value accepts delivers = accepts job refl
+marks_hold P f who RingingOffer value accepts delivers = f.over
+marks_hold P f who (AtAvailIndex taken) value accepts delivers = either P (nat_le (published_by taken value) _) _ _ (either P (published_by taken value == 0) _ _ f.look_done (f.look (published_by taken value))) (f.refused _)
+marks_hold P f who (AtEntry number more) value accepts delivers = either P _ _ _ f.none (f.refused _)
+marks_hold P f who (AtLow number more entry) value accepts delivers = f.none
+marks_hold P f who (AtHigh number more entry low) value accepts delivers = either P _ _ _ f.none (f.refused _)
+marks_hold P f who (AtLength number more entry address) value accepts delivers = either P _ _ _ f.none (f.refused _)
+marks_hold P f who (AtFlags number more entry address bytes) value accepts delivers = either P _ _ _ f.none (f.refused _)
+marks_hold P f who (AtWord number more entry address bytes read words) value accepts delivers = either P (words == 0) _ _ (delivers number more entry address bytes read words refl) f.none
+marks_hold P f who (GivingId number more entry) value accepts delivers = f.none
+marks_hold P f who (GivingLength number more) value accepts delivers = f.none
+marks_hold P f who (GivingIndex number more) value accepts delivers = f.returns
+marks_hold P f who RingingPoll value accepts delivers = f.finished
+
+-- no frame is accepted
+abbrev NoAccept : List Mark → Type 0
+NoAccept [] = Unit {0}
+NoAccept (Accept frame ∷ marks) = ⊥
+NoAccept (_ ∷ marks) = NoAccept marks
+
+frameless_none : Frameless NoAccept
+frameless_none = record {
+  none = tt;
+  saw = λ v. tt;
+  saw_over = λ v. tt;
+  over = tt;
+  down = tt;
+  reclaim = λ count. tt;
+  reclaim_full = tt;
+  full = tt;
+  refused = λ r. tt;
+  look = λ count. tt;
+  look_done = tt;
+  returns = tt;
+  finished = tt;
+}
+
+publishes_openly : (who : Who) (place : Place) (value : ℕ) (job : Job) → place ≡ WritingIndex job → is_open (next_place who place value) ≡ false → ⊥
+publishes_openly who place value job is shut =
+    let now : is_open (next_place who (WritingIndex job) value) ≡ false = subst (λ (p : Place). is_open (next_place who p value) ≡ false) is shut in absurd (cc)
+
+-- a step that ends its call accepts no frame
+ends_quietly : (who : Who) (place : Place) (value : ℕ) → is_open (next_place who place value) ≡ false → NoAccept (marks_at who place value)
+ends_quietly who place value shut = marks_hold NoAccept frameless_none who place value (λ job is. absurd (publishes_openly who place value job is shut)) (λ number more entry address bytes read words is. tt)
+
+-- where no frame is accepted, the frame offered has no part in the marks
+same_marks : (one other delivered : List ℕ) (notes : List Note) → NoAccept (marks_between one delivered notes) → marks_between other delivered notes ≡ marks_between one delivered notes
+same_marks one other delivered [] none = refl
+same_marks one other delivered (note.Accept ∷ notes) none = absurd none
+same_marks one other delivered (note.Saw value ∷ notes) none = ap (λ ms. mark_between one delivered (note.Saw value) ∷ ms) (same_marks one other delivered notes none)
+same_marks one other delivered (note.Reclaim count ∷ notes) none = ap (λ ms. mark_between one delivered (note.Reclaim count) ∷ ms) (same_marks one other delivered notes none)
+same_marks one other delivered (note.Full ∷ notes) none = ap (λ ms. mark_between one delivered note.Full ∷ ms) (same_marks one other delivered notes none)
+same_marks one other delivered (note.Look count ∷ notes) none = ap (λ ms. mark_between one delivered (note.Look count) ∷ ms) (same_marks one other delivered notes none)
+same_marks one other delivered (note.Deliver ∷ notes) none = ap (λ ms. mark_between one delivered note.Deliver ∷ ms) (same_marks one other delivered notes none)
+same_marks one other delivered (note.Return ∷ notes) none = ap (λ ms. mark_between one delivered note.Return ∷ ms) (same_marks one other delivered notes none)
+same_marks one other delivered (note.Done ∷ notes) none = ap (λ ms. mark_between one delivered note.Done ∷ ms) (same_marks one other delivered notes none)
+same_marks one other delivered (note.Down ∷ notes) none = ap (λ ms. mark_between one delivered note.Down ∷ ms) (same_marks one other delivered notes none)
+same_marks one other delivered (note.Refuse refused ∷ notes) none = ap (λ ms. mark_between one delivered (note.Refuse refused) ∷ ms) (same_marks one other delivered notes none)
+same_marks one other delivered (note.Over ∷ notes) none = ap (λ ms. mark_between one delivered note.Over ∷ ms) (same_marks one other delivered notes none)
+
+-- the marks of a step, where the frame offered is the one before it or, if the call goes on, the one after it
+pub marks_after : (who : Who) (place : Place) (value : ℕ) (old new delivered : List ℕ) (notes : List Note) (busy : Bool) → marks_between old delivered notes ≡ marks_at who place value → busy ≡ is_open (next_place who place value) →
+    (busy ≡ true → new ≡ old) → marks_between new delivered notes ≡ marks_at who place value
+marks_after who place value old new delivered notes true marked is same = ap (λ f. marks_between f delivered notes) (same refl) ∙ marked
+marks_after who place value old new delivered notes false marked is same =
+    same_marks old new delivered notes (subst NoAccept (sym marked) (ends_quietly who place value (sym is))) ∙ marked
+
+-- Each frame has a byte
+
+pub first_frames : (who : Who) (end : End) (call : Call) → IsGiven who call → HasFrames (first_place who end call)
+first_frames who end Tick given = tt
+first_frames who end Stop given = tt
+first_frames who end (Offer frame) given = elim (in_run end.handshake.phase) as (λ b. HasFrames (if b then AtUsedIndex (job_of who end frame) end.freed else Downed)) [ true ↦ given.0 | false ↦ tt ]
+first_frames who end Poll given = elim (in_run end.handshake.phase) as (λ b. HasFrames (if b then AtAvailIndex (length end.delivered) else Downed)) [ true ↦ tt | false ↦ tt ]
+
+on : (b : Bool) (x y : Place) → HasFrames x → HasFrames y → HasFrames (if b then x else y)
+on true x y one other = one
+on false x y one other = other
+
+clears : (at count state : ℕ) → HasFrames (clear_place at count state)
+clears at zero state = tt
+clears at (suc more) state = tt
+
+moves : (who : Who) (move : Move) → HasFrames (tick_place who move)
+moves who Stay = tt
+moves who (Set state) = tt
+moves who (ClearThenSet state) = clears who.own who.words state
+
+fills : (job : Job) (at count : ℕ) → 14 ≤ length job.frame → HasFrames (fill_place job at count)
+fills job at zero least = least
+fills job at (suc more) least = least
+
+ids : (who : Who) (job : Job) (freed count : ℕ) → 14 ≤ length job.frame → HasFrames (ids_place who job freed count)
+ids who job freed zero least = on _ Closed (fill_place job 0 (words_for (length job.frame))) tt (fills job 0 (words_for (length job.frame)) least)
+ids who job freed (suc more) least = least
+
+takes : (number count : ℕ) → HasFrames (items_place number count)
+takes number zero = tt
+takes number (suc more) = tt
+
+reads : (number more entry address bytes : ℕ) (read : List ℕ) (words : ℕ) → 14 ≤ bytes → HasFrames (words_place number more entry address bytes read words)
+reads number more entry address bytes read zero least = tt
+reads number more entry address bytes read (suc words) least = least
+
+length_passed : (address bytes out : ℕ) → (nat_le 14 bytes && (nat_le bytes 65553 && nat_le (address + bytes) out)) ≡ true → 14 ≤ bytes
+length_passed address bytes out is = grind (arith, nat_tests)
+
+at_length : (who : Who) (number more entry address value : ℕ) (b : Bool) → is_length who.sizes address value ≡ b → HasFrames (if b then AtFlags number more entry address value else Refusing)
+at_length who number more entry address value true is = length_passed address value who.sizes.out is
+at_length who number more entry address value false is = tt
+
+pub next_frames : (who : Who) (place : Place) (value : ℕ) → HasFrames place → HasFrames (next_place who place value)
+next_frames who Closed value has = tt
+next_frames who (AtState handshake) value has = moves who (move_of handshake value)
+next_frames who (Clearing at more state) value has = clears (at + 1) more state
+next_frames who (Setting state) value has = tt
+next_frames who Refusing value has = tt
+next_frames who Downed value has = tt
+next_frames who (AtUsedIndex job freed) value has = on _ (ids_place who job freed (returned_by freed value)) Refusing (ids who job freed (returned_by freed value) has) tt
+next_frames who (AtUsedId job freed more) value has = on _ (ids_place who job (freed + 1) more) Refusing (ids who job (freed + 1) more has) tt
+next_frames who (Filling job at more) value has = fills job (at + 1) more has
+next_frames who (WritingLow job) value has = has
+next_frames who (WritingHigh job) value has = has
+next_frames who (WritingLength job) value has = has
+next_frames who (WritingFlags job) value has = has
+next_frames who (WritingEntry job) value has = has
+next_frames who (WritingIndex job) value has = tt
+next_frames who RingingOffer value has = tt
+next_frames who (AtAvailIndex taken) value has = on _ (if published_by taken value == 0 then Closed else items_place taken (published_by taken value)) Refusing (on _ Closed (items_place taken (published_by taken value)) tt (takes taken (published_by taken value))) tt
+next_frames who (AtEntry number more) value has = on _ (AtLow number more _) Refusing tt tt
+next_frames who (AtLow number more entry) value has = tt
+next_frames who (AtHigh number more entry low) value has = on _ (AtLength number more entry _) Refusing tt tt
+next_frames who (AtLength number more entry address) value has = at_length who number more entry address value (is_length who.sizes address value) refl
+next_frames who (AtFlags number more entry address bytes) value has = on _ (words_place number more entry address bytes [] (words_for bytes)) Refusing (reads number more entry address bytes [] (words_for bytes) has) tt
+next_frames who (AtWord number more entry address bytes read words) value has = reads number more entry address bytes (read ++ value ∷ []) words has
+next_frames who (GivingId number more entry) value has = tt
+next_frames who (GivingLength number more) value has = tt
+next_frames who (GivingIndex number more) value has = takes (number + 1) more
+next_frames who RingingPoll value has = tt
+
+-- a frame in some words has a byte
+some_bytes : (bytes : ℕ) (read : List ℕ) (value : ℕ) → 14 ≤ bytes → length (frame_in bytes (read ++ value ∷ [])) ≢ 0
+some_bytes (suc bytes) [] value least = λ none. cc
+some_bytes (suc bytes) (word ∷ read) value least = λ none. cc
+some_bytes zero read value least = absurd (omega arith)
+
+not_none : (n : ℕ) → n ≢ 0 → not (n == 0) ≡ true
+not_none n some = grind (arith, nat_tests)
+
+frameless_frames : (me : ℕ) → Frameless (λ marks. HaveFrames (map (mark_line me) marks))
+frameless_frames me = record {
+  none = refl;
+  saw = λ v. refl;
+  saw_over = λ v. refl;
+  over = refl;
+  down = refl;
+  reclaim = λ count. refl;
+  reclaim_full = refl;
+  full = refl;
+  refused = λ r. refl;
+  look = λ count. refl;
+  look_done = refl;
+  returns = refl;
+  finished = refl;
+}
+
+one_accepted : (me : ℕ) (frame : List ℕ) → length frame ≢ 0 → HaveFrames (map (mark_line me) (Accept frame ∷ []))
+one_accepted me frame some = rw (not_none (length frame) some) refl
+
+one_delivered : (me : ℕ) (frame : List ℕ) → length frame ≢ 0 → HaveFrames (map (mark_line me) (Deliver frame ∷ []))
+one_delivered me frame some = rw (not_none (length frame) some) refl
+
+least_some : (n : ℕ) → 14 ≤ n → n ≢ 0
+least_some n least = λ none. omega arith
+
+-- the marks of a step have frames with a byte
+pub marks_frames : (me : ℕ) (who : Who) (place : Place) (value : ℕ) → HasFrames place → HaveFrames (map (mark_line me) (marks_at who place value))
+marks_frames me who place value has = marks_hold (λ marks. HaveFrames (map (mark_line me) marks)) (frameless_frames me) who place value
+    (λ job is. one_accepted me job.frame (least_some (length job.frame) (subst HasFrames is has)))
+    (λ number more entry address bytes read words is. one_delivered me (frame_in bytes (read ++ value ∷ [])) (some_bytes bytes read value (subst HasFrames is has)))

@@ -1,0 +1,64 @@
+-- What the notes of a step are in the words of the grammar.
+use Rattle.std.proofs.Common.{◌≡◌, ℕ, ◌+◌, ◌<◌, Bool, true, false, List, [], ◌∷◌, ◌++◌, length, take, get_or, refl, sym, ◌∙◌, ap, subst}
+use Rattle.std.specs.Prelude.{map}
+use Rattle.std.proofs.lemmas.List.{take_more, map-append}
+use Rattle.split_ring.specs.declared.steps.Note.{Note}
+use Rattle.call_grammar.specs.Steps.{Mark}
+use Rattle.call_grammar.specs.Ends.{End, end_after}
+use Rattle.call_grammar.specs.Calls.{Who}
+use Rattle.call_grammar.specs.Places as places
+use Rattle.call_grammar.specs.Places.{Place, Closed, marks_at, next_place, step_at, is_open}
+use Rattle.link_endpoint.specs.declared.place.Place as ends
+use Rattle.link_endpoint.specs.declared.place.Place.TheVariants as seats
+use Rattle.link_endpoint.specs.Engine.{Engine, is_open_at, is_busy, offered, delivered}
+use Rattle.link_endpoint.specs.Stands.{StandsAt, IsAt, goes_on, Takes, mark_between, marks_between}
+use Rattle.lawful_history.specs.Entries.{mark_line}
+use Rattle.lawful_history.specs.Peers.{Auto, counted, counted_all}
+use Rattle.step_lines.proofs.Framing.{marks_after}
+
+-- one count more
+counted-snoc : (auto : Auto) (marks : List Mark) (mark : Mark) → counted_all auto (marks ++ mark ∷ []) ≡ counted (counted_all auto marks) mark
+counted-snoc auto [] mark = refl
+counted-snoc auto (x ∷ marks) mark = counted-snoc (counted auto x) marks mark
+
+pub one_count : (auto : Auto) (one other : List ℕ) (notes : List Note) (i : ℕ) (note : Note) → i < length notes → note ≡ get_or notes i note →
+    counted_all auto (marks_between one other (take (i + 1) notes)) ≡ counted (counted_all auto (marks_between one other (take i notes))) (mark_between one other note)
+one_count auto one other notes i note inside is =
+    let taken : take (i + 1) notes ≡ take i notes ++ note ∷ [] = take_more notes i note inside ∙ ap (λ (n : Note). take i notes ++ n ∷ []) (sym is) in
+    ap (λ ns. counted_all auto (marks_between one other ns)) taken ∙ ap (λ ms. counted_all auto ms) (map-append (mark_between one other) (take i notes) (note ∷ []))
+    ∙ counted-snoc auto (marks_between one other (take i notes)) (mark_between one other note)
+
+-- one line more
+pub one_told : (me : ℕ) (one other : List ℕ) (notes : List Note) (i : ℕ) (note : Note) → i < length notes → note ≡ get_or notes i note →
+    map (mark_line me) (marks_between one other (take (i + 1) notes)) ≡ map (mark_line me) (marks_between one other (take i notes)) ++ mark_line me (mark_between one other note) ∷ []
+one_told me one other notes i note inside is =
+    let taken : take (i + 1) notes ≡ take i notes ++ note ∷ [] = take_more notes i note inside ∙ ap (λ (n : Note). take i notes ++ n ∷ []) (sym is) in
+    ap (λ ns. map (mark_line me) (marks_between one other ns)) taken ∙ ap (λ ms. map (mark_line me) ms) (map-append (mark_between one other) (take i notes) (note ∷ []))
+    ∙ map-append (mark_line me) (marks_between one other (take i notes)) (mark_between one other note ∷ [])
+
+goes_open : (place : Place) → goes_on place ≡ true → true ≡ is_open place
+goes_open Closed is = absurd (cc)
+goes_open places.Refusing is = absurd (cc)
+goes_open _ is = refl
+
+open_at : (at : ends.Place) (e : Engine) (who : Who) (end : End) (place : Place) → IsAt at e who end place → is_open_at at ≡ is_open place
+open_at seats.Closed e who end place is = ap is_open (sym is.0)
+open_at seats.Looking e who end place is = ap is_open (sym is.0)
+open_at (seats.Clearing at state) e who end place is = ap is_open (sym is.0)
+open_at (seats.Setting state) e who end place is = ap is_open (sym is.0)
+open_at seats.Refusing e who end place is = ap is_open (sym is.0)
+open_at seats.Downed e who end place is = ap is_open (sym is.0)
+open_at seats.Offering e who end place is = goes_open place is.0
+open_at seats.Polling e who end place is = goes_open place is.0
+
+-- an endpoint is busy where a call is open
+pub busy_is : (e : Engine) (who : Who) (end : End) (place : Place) → StandsAt e who end place → is_busy e ≡ is_open place
+busy_is e who end place stands = open_at e.place e who end place stands.at
+
+pub busy_next : (e e' : Engine) (value : ℕ) (notes : List Note) (who : Who) (end : End) (place : Place) → Takes e value notes e' → StandsAt e who end place → is_busy e' ≡ is_open (next_place who place value)
+busy_next e e' value notes who end place took stands = busy_is e' who (end_after end (step_at who place value)) (next_place who place value) (took.stands who end place stands)
+
+-- the marks of the step after it
+pub marks_now : (e e' : Engine) (value : ℕ) (notes : List Note) (who : Who) (end : End) (place : Place) → Takes e value notes e' → StandsAt e who end place → is_busy e' ≡ is_open (next_place who place value) →
+    marks_between (offered e') (delivered e') notes ≡ marks_at who place value
+marks_now e e' value notes who end place took stands busy = marks_after who place value (offered e) (offered e') (delivered e') notes (is_busy e') (took.marked who end place stands) busy took.offered

@@ -1,0 +1,71 @@
+//! The notes of a step.
+ghost use Rattle.std.specs.Prelude.{◌≡◌, ℕ, List, IfOk};
+ghost use Rattle.lawful_history.specs.Entries.{mark_line};
+ghost use Rattle.lawful_history.specs.Peers as peers;
+ghost use Rattle.lawful_history.specs.Peers.{counted, counted_all};
+ghost use Rattle.link_endpoint.specs.Engine.{offered, delivered};
+ghost use Rattle.link_endpoint.specs.Stands.{mark_between, marks_between};
+ghost use Rattle.step_lines.specs.Plans.{IsPlanOf};
+
+use ivs_base::{Frame, NoMemory};
+use lawful_history::Line;
+use link_endpoint::{Auto, Endpoint};
+use split_ring::steps::Note;
+use std::alloc::Global;
+
+/// The line of a note of peer `me`, whose endpoint took the step. NoMemory comes only where memory ran out for the copy of a frame.
+pub fn line_of(alloc: Global, me: u32, end: &Endpoint, note: Note) -> Result<Line, NoMemory>
+    ensures { IfOk result (λ line. line ≡ mark_line me (mark_between (offered end.now) (delivered end.now) note)) }
+{
+    Ok(match note {
+        Note::Saw(value) => Line::Saw { peer: me, value },
+        Note::Reclaim(count) => Line::Reclaim { peer: me, count },
+        Note::Full => Line::Full { peer: me },
+        Note::Accept => Line::Accept {
+            peer: me,
+            frame: Frame::of(alloc, end.offered())?,
+        },
+        Note::Look(count) => Line::Look { peer: me, count },
+        Note::Deliver => Line::Deliver {
+            peer: me,
+            frame: Frame::of(alloc, end.delivered())?,
+        },
+        Note::Return => Line::Return { peer: me },
+        Note::Done => Line::Done { peer: me },
+        Note::Down => Line::Down { peer: me },
+        Note::Refuse(refused) => Line::Refuse { peer: me, refused },
+        Note::Over => Line::Over { peer: me },
+    })
+}
+
+/// Tells an automatic peer of one note.
+fn count_note(auto: &mut Auto, note: &Note)
+    ensures { (plan : peers.Auto) (one other : List ℕ) → IsPlanOf auto.old plan → IsPlanOf auto.new (counted plan (mark_between one other note.now)) }
+{
+    match note {
+        Note::Accept => {
+            if auto.head().is_some() {
+                auto.accepted();
+            }
+        }
+        Note::Deliver => auto.delivered(),
+        Note::Saw(_)
+        | Note::Reclaim(_)
+        | Note::Full
+        | Note::Look(_)
+        | Note::Return
+        | Note::Done
+        | Note::Down
+        | Note::Refuse(_)
+        | Note::Over => {}
+    }
+}
+
+/// Tells an automatic peer of the frames that were accepted and delivered on a step.
+pub fn count_notes(auto: &mut Auto, notes: &[Note])
+    ensures { (plan : peers.Auto) (one other : List ℕ) → IsPlanOf auto.old plan → IsPlanOf auto.new (counted_all plan (marks_between one other notes.now)) }
+{
+    for note in notes {
+        count_note(auto, note);
+    }
+}

@@ -72,7 +72,7 @@ static void tick(ivshm_end *end, uint32_t me) {
     if (!(right)) return __LINE__ % 256
 
 /* The sizes of structs on both sides of the header. */
-_Static_assert(sizeof(ivshm_end) == 8 && sizeof(ivshm_access) == 12 && sizeof(ivshm_note) == 16 && sizeof(ivshm_notes) == 40, "sizes");
+_Static_assert(sizeof(ivshm_end) == 8 && sizeof(ivshm_access) == 28 && sizeof(ivshm_note) == 16 && sizeof(ivshm_notes) == 40, "sizes");
 _Static_assert(sizeof(ivshm_view) == 40 && sizeof(ivshm_found) == 64 && sizeof(ivshm_words) == 56 && sizeof(ivshm_limits_told) == 24, "sizes");
 
 static int check_tables(void) {
@@ -132,8 +132,55 @@ static int check_handles(void) {
     size_t length;
     WANT(ivshm_end_begin(&none, IVSHM_TICK) == IVSHM_NO_END && ivshm_end_offer(&none, frame, 14) == IVSHM_NO_END);
     WANT(ivshm_end_next(&none, &access) == IVSHM_NO_END && ivshm_end_took(&none, 0, &notes) == IVSHM_NO_END);
+    WANT(ivshm_end_took_words(&none, frame, 4, &notes) == IVSHM_NO_END && ivshm_end_words(&none, frame, 4) == IVSHM_NO_END);
+    WANT(ivshm_end_took_written(&none, 1) == IVSHM_NO_END);
     WANT(ivshm_end_view(&none, &view) == IVSHM_NO_END && ivshm_end_frame(&none, frame, 14, &length) == IVSHM_NO_END);
     WANT(ivshm_end_reset(&none) == IVSHM_NO_END && ivshm_end_free(&none) == IVSHM_NO_END && none.at == NULL);
+    return 0;
+}
+
+/* Some steps at once: a section that is cleared, and a frame of 40 bytes from end to end. */
+static int check_stretches(void) {
+    static ivshm_end a = IVSHM_END_NONE, b = IVSHM_END_NONE;
+    static uint8_t frame[40] = {255, 255, 255, 255, 255, 255, 2}, room[64];
+    ivshm_found found = {.table = 4096, .out = 16384};
+    ivshm_access access;
+    ivshm_notes notes = {.count = 7};
+    size_t length;
+    WANT(ivshm_end_new(&a, &found, 2, 0, 256, 1) == IVSHM_DONE && ivshm_end_new(&b, &found, 2, 1, 256, 1) == IVSHM_DONE);
+    WANT(ivshm_end_next(&a, &access) == IVSHM_DONE && access.order == IVSHM_RELEASE && access.fence_before == 0 && access.fence_after == 1);
+    WANT(ivshm_end_took_words(&a, room, 4, &notes) == IVSHM_OTHER_ACCESS && notes.count == 7);
+    WANT(run(&a, 0) == 0 && run(&b, 1) == 0 && ivshm_end_took_written(&a, 1) == IVSHM_NO_CALL);
+    WANT(ivshm_end_took_words(&a, room, 4, &notes) == IVSHM_NO_CALL && ivshm_end_words(&a, room, 4) == IVSHM_NO_CALL);
+    tick(&a, 0);
+    tick(&b, 1);
+    WANT(ivshm_end_begin(&a, IVSHM_TICK) == IVSHM_DONE && ivshm_end_next(&a, &access) == IVSHM_DONE && access.order == IVSHM_ACQUIRE);
+    WANT(ivshm_end_took(&a, IVSHM_INIT, &notes) == IVSHM_DONE && ivshm_end_next(&a, &access) == IVSHM_DONE);
+    WANT(access.kind == IVSHM_WRITE && access.count == 4096 && access.order == IVSHM_RELAXED);
+    memset(room, 1, sizeof room);
+    WANT(ivshm_end_words(&a, room, 64) == IVSHM_DONE && room[0] == 0 && room[63] == 0 && ivshm_end_took_words(&a, room, 4, &notes) == IVSHM_OTHER_ACCESS);
+    WANT(ivshm_end_took_written(&a, 0) == IVSHM_BAD_COUNT && ivshm_end_took_written(&a, 4097) == IVSHM_BAD_COUNT);
+    memset(words + 1024, 0, 4 * 4096);
+    WANT(ivshm_end_took_written(&a, 4096) == IVSHM_DONE && run(&a, 0) == 0 && words[0] == IVSHM_READY);
+    for (int i = 0; i < 10; i++) {
+        tick(&b, 1);
+        tick(&a, 0);
+    }
+    for (int i = 14; i < 40; i++) frame[i] = (uint8_t)i;
+    WANT(ivshm_end_offer(&a, frame, 38) == IVSHM_DONE && ivshm_end_took(&a, words[5120 + 304], &notes) == IVSHM_DONE);
+    WANT(ivshm_end_next(&a, &access) == IVSHM_DONE && access.word == 1024 + 448 && access.count == 10 && ivshm_end_words(&a, room, 40) == IVSHM_DONE);
+    WANT(room[37] == 37 && room[38] == 0 && room[39] == 0 && ivshm_end_words(&a, room, 44) == IVSHM_BAD_COUNT);
+    WANT(ivshm_end_words(&a, room, 6) == IVSHM_BAD_COUNT);
+    memcpy(words + access.word, room, 40);
+    WANT(ivshm_end_took_written(&a, 10) == IVSHM_DONE && ivshm_end_next(&a, &access) == IVSHM_DONE && access.word == 1024 && access.count == 4);
+    WANT(run(&a, 0) == 0 && ivshm_end_begin(&b, IVSHM_POLL) == IVSHM_DONE);
+    for (int i = 0; i < 6; i++) WANT(ivshm_end_next(&b, &access) == IVSHM_DONE && ivshm_end_took(&b, words[access.word], &notes) == IVSHM_DONE);
+    WANT(ivshm_end_next(&b, &access) == IVSHM_DONE && access.kind == IVSHM_READ && access.count == 10 && access.word == 1024 + 448);
+    WANT(ivshm_end_took_words(&b, frame, 0, &notes) == IVSHM_BAD_COUNT && ivshm_end_took_words(&b, frame, 44, &notes) == IVSHM_BAD_COUNT);
+    WANT(ivshm_end_took_words(&b, (const uint8_t *)(words + access.word), 40, &notes) == IVSHM_DONE && notes.count == 1 && notes.note[0].kind == IVSHM_DELIVER);
+    WANT(ivshm_end_frame(&b, room, 64, &length) == IVSHM_DONE && length == 38);
+    for (int i = 0; i < 38; i++) WANT(frame[i] == room[i]);
+    WANT(run(&b, 1) == 0 && ivshm_end_free(&a) == IVSHM_DONE && ivshm_end_free(&b) == IVSHM_DONE);
     return 0;
 }
 
@@ -192,6 +239,7 @@ static int check_ends(void) {
 int check(void) {
     int line = check_tables();
     if (!line) line = check_handles();
+    if (!line) line = check_stretches();
     return line ? line : check_ends();
 }
 

@@ -27,6 +27,10 @@ pub struct Access {
     pub kind: u32,
     pub word: u32,
     pub value: u32,
+    pub count: u32,
+    pub order: u32,
+    pub fence_before: u32,
+    pub fence_after: u32,
 }
 
 #[repr(C)]

@@ -31,7 +31,8 @@
  *     call, before you begin another: until then ivshm_end_begin and ivshm_end_offer answer IVSHM_CALL_OPEN.
  *  2. An access is one load or one store of 32 bits of an aligned word, made once and in the order in which it was told: a store that was
  *     told before another access is visible before it. On x86 and ARM that is a sequentially consistent atomic access. A word holds its
- *     lowest byte first. Hand a read's value over as it was read; never read a word again.
+ *     lowest byte first. Hand a read's value over as it was read; never read a word again. Some words may be read or written at once, as
+ *     it stands at ivshm_end_took_words; and the access tells which weaker order is enough, which is tested and not proved (docs/ORDERS.md).
  *  3. A handle is IVSHM_END_NONE, or what a call left there. It is never copied, and one call at a time has it. During a call it is null.
  *     One call may be made on one thread and the next on another, where a lock or the like orders them.
  *  4. Every other pointer is valid and aligned, and to memory that nothing else touches during the call. A pointer that comes with a
@@ -102,7 +103,10 @@ enum {
     IVSHM_OUT_OF_SPACE = 22,      /* a capability lies below 40h or passes the space */
     IVSHM_LOOP = 23,              /* the list comes back to a capability */
     IVSHM_BAD_VENDOR_LENGTH = 24, /* the vendor capability's length is none that there is */
-    IVSHM_NO_VENDOR = 25          /* there is no vendor capability */
+    IVSHM_NO_VENDOR = 25,         /* there is no vendor capability */
+    /* why some steps aren't taken at once */
+    IVSHM_OTHER_ACCESS = 26, /* reads were taken, or writes, and no count of such is told */
+    IVSHM_BAD_COUNT = 27     /* no word, not whole words, or more than the count that is told */
 };
 
 /* Version and bounds; ivshm_limits tells the same numbers of the library that is linked. */
@@ -206,10 +210,21 @@ enum {
     IVSHM_RING = 4     /* ring the peer `word` by the vector `value` */
 };
 
+/* The order of an access with those before and after it, for whom makes them weaker than sequentially consistent (docs/ORDERS.md). */
+enum {
+    IVSHM_RELAXED = 0, /* it may go to memory sooner or later than its neighbours */
+    IVSHM_ACQUIRE = 1, /* a load before all accesses that follow it: the other's State, and the indices that are read */
+    IVSHM_RELEASE = 2  /* a store after all accesses before it: the own State, and the indices that are written */
+};
+
 typedef struct ivshm_access {
     uint32_t kind;
     uint32_t word;
     uint32_t value;
+    uint32_t count;        /* IVSHM_READ, IVSHM_WRITE: so many words from `word` on may be read or written at once; 0: this one alone */
+    uint32_t order;        /* IVSHM_RELAXED, _ACQUIRE or _RELEASE */
+    uint32_t fence_before; /* 1: a full fence stands right before the access */
+    uint32_t fence_after;  /* 1: a full fence stands right after it */
 } ivshm_access;
 
 /* Tells the next access of the open call, as often as it is asked. IVSHM_DONE, IVSHM_NO_END, IVSHM_NO_CALL. */
@@ -255,6 +270,22 @@ typedef struct ivshm_notes {
 /* Takes the step of the access that ivshm_end_next told. `value` is what a read gave, and 0 for any other access, which makes no use of it.
  * IVSHM_DONE, IVSHM_NO_END, IVSHM_NO_CALL. */
 uint32_t ivshm_end_took(ivshm_end *end, uint32_t value, ivshm_notes *notes);
+
+/* SOME STEPS AT ONCE. Where ivshm_end_next tells a count, the accesses that come are reads, or writes, of `word` and the words after it, all of them
+ * relaxed, and none before the last has a note: the words of a frame, of a descriptor, of a used element, or those that a Tick clears. Take all of
+ * them at once, or some, or go on by single steps: it is the same. Each word is still read once, into memory of your own, and written once. */
+
+/* Takes the steps of size / 4 reads: `words` has what each gave, as four bytes, the lowest first. The notes are those of the last.
+ * IVSHM_DONE; or the end and the notes are as they were: IVSHM_NO_END, IVSHM_NO_CALL, IVSHM_OTHER_ACCESS, IVSHM_BAD_COUNT. */
+uint32_t ivshm_end_took_words(ivshm_end *end, const uint8_t *words, size_t size, ivshm_notes *notes);
+
+/* Tells the size / 4 words that are to be written next, as four bytes each, the lowest first. Write them, and then call ivshm_end_took_written.
+ * IVSHM_DONE; or `into` is as it was: IVSHM_NO_END, IVSHM_NO_CALL, IVSHM_OTHER_ACCESS, IVSHM_BAD_COUNT. */
+uint32_t ivshm_end_words(ivshm_end *end, uint8_t *into, size_t size);
+
+/* Takes the steps of so many writes, which have no notes.
+ * IVSHM_DONE; or the end is as it was: IVSHM_NO_END, IVSHM_NO_CALL, IVSHM_OTHER_ACCESS, IVSHM_BAD_COUNT. */
+uint32_t ivshm_end_took_written(ivshm_end *end, uint32_t count);
 
 /* The states, as in the State Table. */
 enum {

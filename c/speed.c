@@ -1,6 +1,7 @@
-/* speed OUT MTU SIZE ROUNDS: what the library costs, both ends in one thread. In a round each end offers 8 frames of SIZE bytes and polls. It prints
- * ns an access and frames a second, and the same of the floor: the accesses of the rounds made again, by a loop that has them as a list and no
- * end in between. */
+/* speed OUT MTU SIZE ROUNDS: what the library costs, both ends in one thread. In a round each end offers 8 frames of SIZE bytes and polls, and a
+ * frame that is delivered is copied out of the library. It prints calls of ivshm_end_next a frame and frames a second. Built with WAY 0 it prints
+ * too what an access costs, and the floor of that: the accesses of the rounds made again, by a loop that has them as a list and no end in
+ * between. */
 #include "region.h"
 
 enum { BATCH = 8 };
@@ -14,26 +15,25 @@ static struct made *list;
 static size_t count, room;
 static uint8_t frame[IVSHM_LONGEST];
 
+static uint64_t calls;
+
 /* The loop that is measured: what a driver does, without counts. */
 static inline void run(struct link *l, bool listed) {
     ivshm_access access;
     ivshm_notes notes;
     while (ivshm_end_next(&l->end, &access) == IVSHM_DONE) {
-        uint32_t value = 0;
-        switch (access.kind) {
-        case IVSHM_READ:
-            value = atomic_load(&l->words[access.word]);
-            break;
-        case IVSHM_WRITE:
-            atomic_store(&l->section[access.word - l->own], access.value);
-            break;
-        case IVSHM_STATE:
-            atomic_store(l->state, access.value);
-            break;
-        default:
-            break;
+        calls++;
+        if (several(l, &access, &notes) == 0) {
+            uint32_t value = 0;
+            if (access.kind == IVSHM_READ) value = load(&l->words[access.word], &access);
+            else if (access.kind == IVSHM_WRITE) store(&l->section[access.word - l->own], &access);
+            else if (access.kind == IVSHM_STATE) store(l->state, &access);
+            ivshm_end_took(&l->end, value, &notes);
         }
-        ivshm_end_took(&l->end, value, &notes);
+        if (notes.count > 0 && notes.note[0].kind == IVSHM_DELIVER) {
+            size_t length;
+            ivshm_end_frame(&l->end, l->frame, sizeof l->frame, &length);
+        }
         if (listed) {
             if (count == room) list = realloc(list, (room = 2 * room + 1024) * sizeof *list);
             list[count++] = (struct made){access, l->me};
@@ -79,7 +79,7 @@ static uint32_t again(struct link *ends[2]) {
 
 int main(int argc, char **argv) {
     static struct link a, b;
-    struct link *ends[2] = {&a, &b};
+    struct link *links[2] = {&a, &b};
     char path[64];
     snprintf(path, sizeof path, "/dev/shm/ivshm-speed-%ld", (long)getpid());
     if (argc != 5) return 2;
@@ -95,16 +95,17 @@ int main(int argc, char **argv) {
         call(&a, IVSHM_TICK);
         call(&b, IVSHM_TICK);
     }
-    for (int i = 0; i < 4; i++) round_of(&a, &b, size, i == 3);
-    double start = now();
+    for (int i = 0; i < 4; i++) round_of(&a, &b, size, i == 3 && WAY == 0);
+    calls = 0;
+    double start = spent();
     for (uint64_t i = 0; i < rounds; i++) round_of(&a, &b, size, false);
-    double ends_ns = (now() - start) * 1e9 / (double)(rounds * count);
+    double frames = 2.0 * BATCH * (double)rounds, ends = spent() - start;
+    printf("%zu bytes, way %d: %.1f calls a frame, %.0f frames a second\n", size, WAY, (double)calls / frames, frames / ends);
+    if (WAY != 0) return 0;
     volatile uint32_t sink = 0;
-    start = now();
-    for (uint64_t i = 0; i < rounds; i++) sink += again(ends);
-    double floor_ns = (now() - start) * 1e9 / (double)(rounds * count);
-    double accesses = (double)count / (2 * BATCH);
-    printf("%zu bytes: %.1f accesses a frame; %.1f ns an access, %.0f frames a second; floor %.1f ns an access; %.2f times the floor\n", size, accesses,
-           ends_ns, 1e9 / (ends_ns * accesses), floor_ns, ends_ns / floor_ns);
+    start = spent();
+    for (uint64_t i = 0; i < rounds; i++) sink += again(links);
+    double floor_ns = (spent() - start) * 1e9 / (double)(rounds * count), ends_ns = ends * 1e9 / (double)(rounds * count);
+    printf("%zu bytes: %.1f ns an access; floor %.1f ns an access; %.2f times the floor\n", size, ends_ns, floor_ns, ends_ns / floor_ns);
     return 0;
 }

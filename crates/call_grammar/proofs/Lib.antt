@@ -13,3 +13,4 @@ pub mod Using
 pub mod Distinct
 pub mod ItemWords
 pub mod Playing
+pub mod Spelled

@@ -14,3 +14,5 @@ pub mod StepBounds
 pub mod ReadsOnce
 pub mod ItemSpelling
 pub mod Automatic
+pub mod Stretches
+pub mod Orders

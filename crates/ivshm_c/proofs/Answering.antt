@@ -1,5 +1,5 @@
 -- Answers with their causes, and what notes tell.
-use Rattle.std.proofs.Common.{◌≡◌, ◌<◌, ◌+◌, ℕ, List, sym, ap, ◌∙◌, subst, length, drop, get_or, Option, Some, None}
+use Rattle.std.proofs.Common.{◌≡◌, ◌<◌, ◌+◌, ℕ, List, sym, ap, ◌∙◌, subst, length, drop, get_or, Option, Some, None, true, if◌then◌else◌}
 use Rattle.std.proofs.lemmas.List.{at_drop_more}
 use Rattle.section_map.specs.Geometry.{Shape, IsShape}
 use Rattle.split_ring.specs.Layout.{Sizes, IsQueue}
@@ -10,10 +10,15 @@ use Rattle.ivshm_c.specs.declared.port.Port.{Port}
 use Rattle.ivshm_c.specs.declared.port.Outcome.{Outcome}
 use Rattle.ivshm_c.specs.declared.port.Outcome.TheVariants.{Open}
 use Rattle.ivshm_c.specs.declared.status.Status.{Status}
-use Rattle.ivshm_c.specs.declared.status.Status.TheVariants.{Done, HasEnd}
-use Rattle.ivshm_c.specs.Ports.{outcome_with, told_by}
+use Rattle.ivshm_c.specs.declared.status.Status.TheVariants.{Done, NoCall, HasEnd}
+use Rattle.split_ring.specs.declared.steps.Access as steps
+use Rattle.link_endpoint.specs.declared.order.Ordering.{Ordering}
+use Rattle.link_endpoint.specs.Engine.{is_busy, reads_ahead, writes_ahead}
+use Rattle.ivshm_c.specs.declared.crossing.Access.{Access}
+use Rattle.ivshm_c.specs.Crossing.{access_crossed}
+use Rattle.ivshm_c.specs.Ports.{IsNext, IsAhead, outcome_with, told_by}
 use Rattle.ivshm_c.specs.Sizes.{shape_found, sizes_found, layout_of, LaysOut, laid_out}
-use Rattle.ivshm_c.specs.Answers.{IsNew, RefusesNew, MakesAnswered, made, has_end, refused}
+use Rattle.ivshm_c.specs.Answers.{IsNew, RefusesNew, MakesAnswered, TellsNext, Where, made, has_end, refused}
 
 -- one note more
 pub one_more : (notes : List Note) (i : ℕ) (before after : Outcome) (d : Note) → i < length notes → after ≡ outcome_with (get_or notes i d) before
@@ -27,6 +32,15 @@ pub words_told : (found : Found) (peers mtu : ℕ) (before after : Layout) (shap
 words_told found peers mtu before after shape queue s shaped q queued is =
     subst (LaysOut found peers mtu before Done) (sym (is ∙ ap (λ (x : Shape). layout_of x queue) s ∙ ap (layout_of (shape_found found peers)) q))
     (laid_out (subst IsShape s shaped) (subst IsQueue q queued))
+
+-- the access of an open call is told, with what comes after it
+pub told_next : (port : Port) (before after : Access) (next : steps.Access) (order : Ordering) → is_busy port.endpoint ≡ true → IsNext port.endpoint next → IsAhead port.endpoint order →
+    after ≡ access_crossed next (reads_ahead port.endpoint) (writes_ahead port.endpoint) order → TellsNext port before after
+told_next port before after next order busy is_next ahead crossed =
+    subst (λ b. Where (if b then Done else NoCall)
+    ((next : steps.Access) × (order : Ordering) × IsNext port.endpoint next × IsAhead port.endpoint order ×
+    (after ≡ access_crossed next (reads_ahead port.endpoint) (writes_ahead port.endpoint) order))
+    (after ≡ before)) (sym busy) (next, order, is_next, ahead, crossed)
 
 module _ (found : Found) (peers me mtu vector : ℕ) (old new : Option Port) where
   -- a handle that holds an end keeps it

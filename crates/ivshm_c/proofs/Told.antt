@@ -1,15 +1,18 @@
 -- What crosses is read back.
-use Rattle.std.proofs.Common.{ℕ, ◌≡◌, refl, sym, ap, ◌∙◌, ◌==◌, if◌then◌else◌}
+use Rattle.std.proofs.Common.{ℕ, ◌≡◌, Bool, true, false, refl, sym, ap, ◌∙◌, ◌==◌, if◌then◌else◌}
 use Rattle.split_ring.specs.declared.steps.Access.{Access}
 use Rattle.split_ring.specs.declared.steps.Access.TheVariants as access
 use Rattle.split_ring.specs.declared.steps.Note.{Note}
 use Rattle.split_ring.specs.declared.steps.Note.TheVariants as note
 use Rattle.split_ring.specs.declared.ranges.FieldName.{FieldName}
 use Rattle.split_ring.specs.declared.ranges.FieldName.TheVariants.{AvailIndex, AvailEntry, DescAddress, DescLength, DescFlags, UsedIndex, UsedId}
-use Rattle.split_ring.specs.declared.ranges.Refused.{Refused}
+use Rattle.link_endpoint.specs.declared.order.Order.{Order}
+use Rattle.link_endpoint.specs.declared.order.Order.TheVariants.{Relaxed, Acquire, Release}
+use Rattle.link_endpoint.specs.declared.order.Ordering.{Ordering}
+use Rattle.ivshm_c.specs.Sizes.{flag}
 use Rattle.ivshm_c.specs.declared.crossing.Access as crossed_access
 use Rattle.ivshm_c.specs.declared.crossing.Note as crossed_note
-use Rattle.ivshm_c.specs.Crossing.{field_number, access_crossed, note_crossed, CrossingsAreTold}
+use Rattle.ivshm_c.specs.Crossing.{field_number, order_number, numbered, access_crossed, note_crossed, CrossingsAreTold}
 
 -- an access by its numbers
 abbrev access_back : crossed_access.Access → Access
@@ -20,12 +23,44 @@ access_back c =
     else if c.kind == 3 then access.State c.value
     else access.Ring c.word c.value
 
-access_is_back : (a : Access) → access_back (access_crossed a) ≡ a
-access_is_back access.Nothing = refl
-access_is_back (access.Read word) = refl
-access_is_back (access.Write word value) = refl
-access_is_back (access.State value) = refl
-access_is_back (access.Ring target vector) = refl
+access_is_back : (a : Access) (reads writes : ℕ) (ordering : Ordering) → access_back (access_crossed a reads writes ordering) ≡ a
+access_is_back access.Nothing reads writes ordering = refl
+access_is_back (access.Read word) reads writes ordering = refl
+access_is_back (access.Write word value) reads writes ordering = refl
+access_is_back (access.State value) reads writes ordering = refl
+access_is_back (access.Ring target vector) reads writes ordering = refl
+
+-- an order by its numbers
+abbrev order_back : ℕ → Order
+order_back n = if n == 0 then Relaxed else if n == 1 then Acquire else Release
+
+order_is_back : (o : Order) → order_back (order_number o) ≡ o
+order_is_back Relaxed = refl
+order_is_back Acquire = refl
+order_is_back Release = refl
+
+abbrev flag_back : ℕ → Bool
+flag_back n = if n == 0 then false else true
+
+flag_is_back : (b : Bool) → flag_back (flag b) ≡ b
+flag_is_back true = refl
+flag_is_back false = refl
+
+abbrev ordering_back : crossed_access.Access → Ordering
+ordering_back c = record { order = order_back c.order; fence_before = flag_back c.fence_before; fence_after = flag_back c.fence_after }
+
+numbers_back : (kind word value count : ℕ) (o : Ordering) → ordering_back (numbered kind word value count o) ≡ o
+numbers_back kind word value count o =
+    ap (λ (x : Order). let r : Ordering = record { order = x; fence_before = flag_back (flag o.fence_before); fence_after = flag_back (flag o.fence_after) } in r) (order_is_back o.order)
+    ∙ ap (λ (x : Bool). let r : Ordering = record { order = o.order; fence_before = x; fence_after = flag_back (flag o.fence_after) } in r) (flag_is_back o.fence_before)
+    ∙ ap (λ (x : Bool). let r : Ordering = record { order = o.order; fence_before = o.fence_before; fence_after = x } in r) (flag_is_back o.fence_after)
+
+ordering_is_back : (a : Access) (reads writes : ℕ) (o : Ordering) → ordering_back (access_crossed a reads writes o) ≡ o
+ordering_is_back access.Nothing reads writes o = numbers_back 0 0 0 0 o
+ordering_is_back (access.Read word) reads writes o = numbers_back 1 word 0 reads o
+ordering_is_back (access.Write word value) reads writes o = numbers_back 2 word value writes o
+ordering_is_back (access.State value) reads writes o = numbers_back 3 0 value 0 o
+ordering_is_back (access.Ring target vector) reads writes o = numbers_back 4 target vector 0 o
 
 abbrev field_back : ℕ → FieldName
 field_back n =
@@ -76,6 +111,7 @@ note_is_back (note.Refuse refused) = ap (λ (f : FieldName). note.Refuse (record
 
 pub crossings_told : CrossingsAreTold
 crossings_told = record {
-  accesses = λ a b e. sym (access_is_back a) ∙ ap access_back e ∙ access_is_back b;
+  accesses = λ a b reads writes others more at by e. sym (access_is_back a reads writes at) ∙ ap access_back e ∙ access_is_back b others more by;
+  orders = λ a b reads writes others more at by e. sym (ordering_is_back a reads writes at) ∙ ap ordering_back e ∙ ordering_is_back b others more by;
   notes = λ a b e. sym (note_is_back a) ∙ ap note_back e ∙ note_is_back b;
 }

@@ -1,17 +1,18 @@
 -- The exact answer of each export, and what it does to the end of a handle.
-use Rattle.std.specs.Prelude.{ℕ, ◌≡◌, ◌≢◌, ◌+◌, ◌≤◌, nat_lt, if◌then◌else◌, List, length, take, Option, Some, None, is_none, IfSome}
+use Rattle.std.specs.Prelude.{ℕ, ◌≡◌, ◌≢◌, ◌+◌, ◌/◌, ◌%◌, ◌==◌, ◌≤◌, nat_lt, if◌then◌else◌, List, length, take, Option, Some, None, is_none, IfSome}
 use Rattle.split_ring.specs.declared.steps.Access as steps
 use Rattle.split_ring.specs.declared.steps.Note.{Note}
-use Rattle.link_endpoint.specs.Engine.{who_of, is_busy, delivered}
+use Rattle.link_endpoint.specs.declared.order.Ordering.{Ordering}
+use Rattle.link_endpoint.specs.Engine.{who_of, is_busy, delivered, reads_ahead, writes_ahead}
 use Rattle.ivshm_c.specs.declared.crossing.Access.{Access}
 use Rattle.ivshm_c.specs.declared.crossing.Notes.{Notes}
 use Rattle.ivshm_c.specs.declared.device.Found.{Found}
 use Rattle.ivshm_c.specs.declared.port.Port.{Port}
 use Rattle.ivshm_c.specs.declared.port.Outcome.TheVariants.{Never, Open}
 use Rattle.ivshm_c.specs.declared.status.Status.{Status}
-use Rattle.ivshm_c.specs.declared.status.Status.TheVariants.{Done, NoEnd, HasEnd, CallOpen, NoCall, NoMemory, BadCall, ShortFrame, LongFrame, ShortRoom, BadPeer}
+use Rattle.ivshm_c.specs.declared.status.Status.TheVariants.{Done, NoEnd, HasEnd, CallOpen, NoCall, NoMemory, BadCall, ShortFrame, LongFrame, ShortRoom, BadPeer, OtherAccess, BadCount}
 use Rattle.ivshm_c.specs.Crossing.{call_numbered, access_crossed, notes_crossed}
-use Rattle.ivshm_c.specs.Ports.{Begins, Offers, IsNext, Steps, IsStarted, Restarts, outcome_after, outcome_cut}
+use Rattle.ivshm_c.specs.Ports.{Begins, Offers, IsNext, IsAhead, AreWritten, ReadsAtOnce, WritesAtOnce, Steps, IsStarted, Restarts, outcome_after, outcome_cut}
 use Rattle.ivshm_c.specs.Sizes.{shape_found, sizes_found, IsSizeFault}
 
 -- a handle that holds no end answers so, whatever is asked
@@ -48,6 +49,30 @@ offer_answer frame port =
 abbrev pub step_answer : Port → Status
 step_answer port = if is_busy port.endpoint then Done else NoCall
 
+-- where some steps are taken at once: so many are told to come, and so many are asked for
+abbrev pub count_answer : (ahead count : ℕ) → Status
+count_answer ahead count =
+    if ahead == 0 then OtherAccess
+    else if count == 0 then BadCount
+    else if nat_lt ahead count then BadCount
+    else Done
+
+-- the same by the bytes of their words, four each
+abbrev pub bytes_answer : (ahead bytes : ℕ) → Status
+bytes_answer ahead bytes =
+    if ahead == 0 then OtherAccess
+    else if bytes % 4 == 0 then count_answer ahead (bytes / 4)
+    else BadCount
+
+abbrev pub reads_answer : (bytes : ℕ) → Port → Status
+reads_answer bytes port = if is_busy port.endpoint then bytes_answer (reads_ahead port.endpoint) bytes else NoCall
+
+abbrev pub words_answer : (bytes : ℕ) → Port → Status
+words_answer bytes port = if is_busy port.endpoint then bytes_answer (writes_ahead port.endpoint) bytes else NoCall
+
+abbrev pub writes_answer : (count : ℕ) → Port → Status
+writes_answer count port = if is_busy port.endpoint then count_answer (writes_ahead port.endpoint) count else NoCall
+
 abbrev pub frame_answer : ℕ → Port → Status
 frame_answer room port = if nat_lt room (length (delivered port.endpoint)) then ShortRoom else Done
 
@@ -69,7 +94,8 @@ OffersAnswered frame old new = Where (offer_answer frame old) (Offers frame old.
 -- the access of the open call is told
 abbrev pub TellsNext : Port → Access → Access → Type 0
 TellsNext port before after = Where (step_answer port)
-    ((next : steps.Access) × IsNext port.endpoint next × (after ≡ access_crossed next))
+    ((next : steps.Access) × (order : Ordering) × IsNext port.endpoint next × IsAhead port.endpoint order ×
+    (after ≡ access_crossed next (reads_ahead port.endpoint) (writes_ahead port.endpoint) order))
     (after ≡ before)
 
 -- a step of the open call is taken, with its notes
@@ -77,6 +103,21 @@ abbrev pub TakesAnswered : ℕ → Notes → Notes → Port → Port → Type 0
 TakesAnswered value before after old new = Where (step_answer old)
     ((notes : List Note) × Steps old.endpoint value notes new.endpoint × (new.outcome ≡ outcome_after notes old.outcome) × (after ≡ notes_crossed notes))
     ((new ≡ old) × (after ≡ before))
+
+-- reads of the open call are taken at once, with the notes of the last
+abbrev pub TakesWords : List ℕ → Notes → Notes → Port → Port → Type 0
+TakesWords words before after old new = Where (reads_answer (length words) old)
+    ((notes : List Note) × ReadsAtOnce old.endpoint words notes new.endpoint ×
+    (new.outcome ≡ outcome_after notes old.outcome) × (after ≡ notes_crossed notes))
+    ((new ≡ old) × (after ≡ before))
+
+-- the words of the writes that come are told
+abbrev pub TellsWords : Port → List ℕ → List ℕ → Type 0
+TellsWords port before after = Where (words_answer (length before) port) (AreWritten port.endpoint after) (after ≡ before)
+
+-- writes of the open call are taken at once
+abbrev pub TakesWritten : ℕ → Port → Port → Type 0
+TakesWritten count old new = Where (writes_answer count old) (WritesAtOnce old.endpoint count new.endpoint × (new.outcome ≡ old.outcome)) (new ≡ old)
 
 -- the frame delivered last is copied to the front
 abbrev pub CopiesFrame : Port → List ℕ → List ℕ → Type 0

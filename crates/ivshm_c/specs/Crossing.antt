@@ -11,6 +11,9 @@ use Rattle.split_ring.specs.declared.ranges.FieldName.TheVariants.{AvailIndex, A
 use Rattle.split_ring.specs.declared.ranges.Refused.{Refused}
 use Rattle.link_endpoint.specs.declared.place.Call.{Call}
 use Rattle.link_endpoint.specs.declared.place.Call.TheVariants.{Tick, Poll, Stop}
+use Rattle.link_endpoint.specs.declared.order.Order.{Order}
+use Rattle.link_endpoint.specs.declared.order.Order.TheVariants.{Relaxed, Acquire, Release}
+use Rattle.link_endpoint.specs.declared.order.Ordering.{Ordering}
 use Rattle.link_endpoint.specs.Engine.{is_busy, delivered}
 use Rattle.ivshm_c.specs.declared.crossing.Access as crossed_access
 use Rattle.ivshm_c.specs.declared.crossing.Note as crossed_note
@@ -41,13 +44,30 @@ field_number DescFlags = 5
 field_number UsedIndex = 6
 field_number UsedId = 7
 
--- an access: its kind, and the two numbers with it
-abbrev pub access_crossed : Access → crossed_access.Access
-access_crossed access.Nothing = record { kind = 0; word = 0; value = 0 }
-access_crossed (access.Read word) = record { kind = 1; word = word; value = 0 }
-access_crossed (access.Write word value) = record { kind = 2; word = word; value = value }
-access_crossed (access.State value) = record { kind = 3; word = 0; value = value }
-access_crossed (access.Ring target vector) = record { kind = 4; word = target; value = vector }
+abbrev pub order_number : Order → ℕ
+order_number Relaxed = 0
+order_number Acquire = 1
+order_number Release = 2
+
+-- numbers in the place of an access: its kind, the two numbers with it, how many words may be read or written at once from it on, and its order
+abbrev pub numbered : (kind word value count : ℕ) → Ordering → crossed_access.Access
+numbered kind word value count ordering = record {
+  kind = kind;
+  word = word;
+  value = value;
+  count = count;
+  order = order_number ordering.order;
+  fence_before = flag ordering.fence_before;
+  fence_after = flag ordering.fence_after;
+}
+
+-- an access, with so many words ahead to be read or written at once, and its order
+abbrev pub access_crossed : Access → (reads writes : ℕ) → Ordering → crossed_access.Access
+access_crossed access.Nothing reads writes ordering = numbered 0 0 0 0 ordering
+access_crossed (access.Read word) reads writes ordering = numbered 1 word 0 reads ordering
+access_crossed (access.Write word value) reads writes ordering = numbered 2 word value writes ordering
+access_crossed (access.State value) reads writes ordering = numbered 3 0 value 0 ordering
+access_crossed (access.Ring target vector) reads writes ordering = numbered 4 target vector 0 ordering
 
 -- what was refused
 abbrev pub refusal_crossed : Refused → crossed_note.Note
@@ -105,7 +125,10 @@ view_of port = let end = port.endpoint in record {
   longest = end.who.sizes.mtu + 18;
 }
 
--- what crosses is told apart: accesses by their three numbers, notes by theirs
+-- what crosses is told apart: accesses by their numbers, with their orders, and notes by theirs
 pub record CrossingsAreTold : Type 0 where
-  pub accesses : (a b : Access) → access_crossed a ≡ access_crossed b → a ≡ b
+  pub accesses : (a b : Access) (reads writes others more : ℕ) (at by : Ordering) →
+      access_crossed a reads writes at ≡ access_crossed b others more by → a ≡ b
+  pub orders : (a b : Access) (reads writes others more : ℕ) (at by : Ordering) →
+      access_crossed a reads writes at ≡ access_crossed b others more by → at ≡ by
   pub notes : (a b : Note) → note_crossed a ≡ note_crossed b → a ≡ b

@@ -1,8 +1,8 @@
 -- An end and the outcome of its last offer: what its calls do.
-use Rattle.std.specs.Prelude.{ℕ, ◌≡◌, ◌↔◌, List, [], ◌∷◌, true, not, IsTrue}
+use Rattle.std.specs.Prelude.{ℕ, ◌≡◌, ◌↔◌, List, [], ◌∷◌, length, flat_map, true, not, IsTrue}
 use Rattle.link_handshake.specs.declared.Phase.TheVariants.{Run}
 use Rattle.split_ring.specs.declared.steps.Access.{Access}
-use Rattle.split_ring.specs.declared.steps.Access.TheVariants.{Nothing, State}
+use Rattle.split_ring.specs.declared.steps.Access.TheVariants.{Nothing, Read, Write, State}
 use Rattle.split_ring.specs.declared.steps.Note.{Note}
 use Rattle.split_ring.specs.declared.steps.Note.TheVariants as note
 use Rattle.call_grammar.specs.Ends.{End, fresh, after_reset}
@@ -10,10 +10,15 @@ use Rattle.call_grammar.specs.Calls.{Who, Offer, in_run}
 use Rattle.call_grammar.specs.Places as places
 use Rattle.call_grammar.specs.Reach.{InReach}
 use Rattle.call_grammar.specs.StepBounds.{HasFewInFlight}
+use Rattle.call_grammar.specs.Words.{word_bytes}
+use Rattle.call_grammar.specs.Stretches.{Each, ReadsOn, WritesOn}
 use Rattle.link_endpoint.specs.declared.place.Call.{Call}
 use Rattle.link_endpoint.specs.declared.place.Call.TheVariants.{Stop}
-use Rattle.link_endpoint.specs.Engine.{Engine, fresh_engine, engine_after_reset, is_busy, is_down, is_leaving, is_looking, is_tick, offered, delivered, call_of, comes_down}
+use Rattle.link_endpoint.specs.Engine.{Engine, fresh_engine, engine_after_reset, is_busy, is_down, is_leaving, is_looking, is_tick, offered, delivered, call_of, comes_down, reads_ahead}
 use Rattle.link_endpoint.specs.Stands.{StandsAt, Takes, Opens}
+use Rattle.link_endpoint.specs.declared.order.Ordering.{Ordering}
+use Rattle.link_endpoint.specs.Orders.{order_at}
+use Rattle.link_endpoint.specs.Stretches.{IsTaken}
 use Rattle.link_endpoint.specs.Leaving.{Refuses, Leaves, KeepsRefused, Stays}
 use Rattle.ivshm_c.specs.declared.port.Outcome.{Outcome}
 use Rattle.ivshm_c.specs.declared.port.Outcome.TheVariants as outcome
@@ -44,6 +49,25 @@ pub record IsNext (engine : Engine) (next : Access) : Type 0 where
   pub reach : InReach engine.who next
   pub nothing : (next ≡ Nothing) ↔ IsTrue (is_down engine)
   pub leaves : is_leaving engine ≡ true → next ≡ State 0
+
+-- what may be made at once from the access on, and the order that it needs
+pub record IsAhead (engine : Engine) (told : Ordering) : Type 0 where
+  pub reads : (who : Who) (end : End) (place : places.Place) (word : ℕ) → StandsAt engine who end place →
+      places.access_at who place ≡ Read word → ReadsOn who place word (reads_ahead engine)
+  pub order : (who : Who) (end : End) (place : places.Place) → StandsAt engine who end place → told ≡ order_at place
+
+-- these bytes are the words that are written next, each after the other
+abbrev pub AreWritten : Engine → List ℕ → Type 0
+AreWritten engine bytes = (who : Who) (end : End) (place : places.Place) (word value : ℕ) → StandsAt engine who end place →
+    places.access_at who place ≡ Write word value → WritesOn who place word bytes
+
+-- steps of the open call at once, whose reads gave the words that these bytes spell, four each: as many single steps
+abbrev pub ReadsAtOnce : Engine → (bytes : List ℕ) → List Note → Engine → Type 0
+ReadsAtOnce old bytes notes new = (values : List ℕ) → bytes ≡ flat_map word_bytes values → Each IsTaken old values notes new
+
+-- so many steps of the open call at once, which write
+abbrev pub WritesAtOnce : Engine → (count : ℕ) → Engine → Type 0
+WritesAtOnce old count new = (values : List ℕ) → length values ≡ count → Each IsTaken old values [] new
 
 -- a step of the open call, with these notes. A value that is refused is kept, and State 0 follows, with which the end is in RESET and stays there
 pub record Steps (old : Engine) (value : ℕ) (notes : List Note) (new : Engine) : Type 0 where

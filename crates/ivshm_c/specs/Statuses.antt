@@ -37,6 +37,8 @@ number_of status.OutOfSpace = 22
 number_of status.Loop = 23
 number_of status.BadVendorLength = 24
 number_of status.NoVendor = 25
+number_of status.OtherAccess = 26
+number_of status.BadCount = 27
 
 -- why sizes make no region
 abbrev pub geometry_status : GeometryFault → Status

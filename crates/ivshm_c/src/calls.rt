@@ -1,7 +1,7 @@
 //! The calls of an end with their answers, where what a program in C hands over is tested.
-ghost use Rattle.std.specs.Prelude.{◌≡◌, ◌≤◌, length, IfOk, IfErr};
+ghost use Rattle.std.specs.Prelude.{◌≡◌, ◌*◌, ◌%◌, ◌<◌, ◌≤◌, length, IfOk, IfErr};
 ghost use Rattle.link_endpoint.specs.Engine.{delivered};
-ghost use Rattle.ivshm_c.specs.Answers.{begin_answer, offer_answer, step_answer, frame_answer, BeginsAnswered, OffersAnswered, TellsNext, TakesAnswered, CopiesFrame, IsNew, RefusesNew};
+ghost use Rattle.ivshm_c.specs.Answers.{begin_answer, offer_answer, step_answer, count_answer, bytes_answer, reads_answer, words_answer, writes_answer, frame_answer, BeginsAnswered, OffersAnswered, TellsNext, TakesAnswered, TakesWords, TellsWords, TakesWritten, CopiesFrame, IsNew, RefusesNew};
 
 use crate::crossing::{access_crossed, call_numbered, notes_crossed};
 use crate::device::{Found, sized};
@@ -81,7 +81,13 @@ pub(crate) fn next(port: &Port, access: &mut Access) -> Status
     if !port.endpoint.busy() {
         return Status::NoCall;
     }
-    *access = access_crossed(port.endpoint.next());
+    let end = &port.endpoint;
+    *access = access_crossed(
+        end.next(),
+        end.reads_ahead(),
+        end.writes_ahead(),
+        end.order(),
+    );
     Status::Done
 }
 
@@ -96,6 +102,81 @@ pub(crate) fn took(port: &mut Port, value: u32, notes: &mut Notes) -> Status
     let told = port.took(value);
     *notes = notes_crossed(told.as_slice());
     Status::Done
+}
+
+/// The answer where so many steps are told to come, and so many are to be taken at once.
+fn counted(ahead: u32, count: usize) -> Status
+    ensures answer { result ≡ count_answer ahead count }
+    ensures done { result ≡ Status.Done → (0 < count) × (count ≤ ahead) }
+{
+    if ahead == 0 {
+        return Status::OtherAccess;
+    }
+    if count == 0 || (ahead as usize) < count {
+        return Status::BadCount;
+    }
+    Status::Done
+}
+
+/// The same by the bytes of their words.
+fn measured(ahead: u32, bytes: usize) -> Status
+    ensures answer { result ≡ bytes_answer ahead bytes }
+    ensures done { result ≡ Status.Done → (0 < bytes) × (bytes % 4 ≡ 0) × (bytes ≤ 4 * ahead) }
+{
+    if ahead == 0 {
+        return Status::OtherAccess;
+    }
+    if !bytes.is_multiple_of(4) {
+        return Status::BadCount;
+    }
+    counted(ahead, bytes / 4)
+}
+
+/// Takes some of the reads that come, whose words are these.
+pub(crate) fn took_words(port: &mut Port, words: &[u8], notes: &mut Notes) -> Status
+    ensures answer { result ≡ reads_answer (length words.now) port.old }
+    ensures step { TakesWords words.now notes.old notes.new port.old port.new }
+{
+    if !port.endpoint.busy() {
+        return Status::NoCall;
+    }
+    let status = measured(port.endpoint.reads_ahead(), words.len());
+    if let Status::Done = status {
+        let told = port.took_words(words);
+        *notes = notes_crossed(told.as_slice());
+    }
+    status
+}
+
+/// Tells the words of some of the writes that come.
+pub(crate) fn words(port: &Port, into: &mut [u8]) -> Status
+    ensures answer { result ≡ words_answer (length into.old) port.now }
+    ensures words { TellsWords port.now into.old into.new }
+    ensures sized { length into.new ≡ length into.old }
+{
+    if !port.endpoint.busy() {
+        return Status::NoCall;
+    }
+    let status = measured(port.endpoint.writes_ahead(), into.len());
+    if let Status::Done = status {
+        port.endpoint.words(into);
+    }
+    status
+}
+
+/// Takes so many of the writes that come.
+pub(crate) fn took_written(port: &mut Port, count: u32) -> Status
+    ensures answer { result ≡ writes_answer count port.old }
+    ensures step { TakesWritten count port.old port.new }
+{
+    if !port.endpoint.busy() {
+        return Status::NoCall;
+    }
+    let status = counted(port.endpoint.writes_ahead(), count as usize);
+    if let Status::Done = status {
+        port.took_written(count);
+    }
+    status
 }
 
 /// Copies the frame delivered last, where it fits, and tells its length.

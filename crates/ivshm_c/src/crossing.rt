@@ -1,20 +1,25 @@
 //! What crosses to C of an end.
 ghost use Rattle.std.specs.Prelude.{◌≡◌, ◌≤◌, length};
-ghost use Rattle.ivshm_c.specs.Crossing.{call_numbered, state_of, field_number, outcome_number, access_crossed, refusal_crossed, note_crossed, notes_crossed, field_of, value_of, view_of, CrossingsAreTold};
+ghost use Rattle.ivshm_c.specs.Crossing.{call_numbered, state_of, field_number, outcome_number, order_number, access_crossed, refusal_crossed, note_crossed, notes_crossed, field_of, value_of, view_of, CrossingsAreTold};
 
 use crate::port::{Outcome, Port};
-use link_endpoint::Call;
+use link_endpoint::{Call, Order, Ordering};
 use link_handshake::Phase;
 use split_ring::{FieldName, Refused, steps};
 
 /// An access. Kind 0 is none, 1 a read of `word`, 2 a write of `value` to `word`, 3 a write of `value` to the own State, and 4 a doorbell,
-/// to the peer `word` by the vector `value`.
+/// to the peer `word` by the vector `value`. `count` is how many words may be read or written at once from this one on, or 0. Order 0 is
+/// relaxed, 1 acquires and 2 releases; a full fence stands before the access or after it where that field is 1.
 #[repr(C)]
 #[derive(Clone, Copy)]
 pub struct Access {
     pub kind: u32,
     pub word: u32,
     pub value: u32,
+    pub count: u32,
+    pub order: u32,
+    pub fence_before: u32,
+    pub fence_after: u32,
 }
 
 /// A note of a step. Kind 0 is Over, 1 Saw, 2 Reclaim, 3 Full, 4 Accept, 5 Look, 6 Deliver, 7 Return, 8 Done, 9 Down and 10 Refuse; `field`
@@ -87,17 +92,41 @@ pub(crate) fn field_number(field: FieldName) -> u32
     }
 }
 
-pub(crate) fn access_crossed(access: steps::Access) -> Access
-    ensures { result ≡ access_crossed access }
+fn order_number(order: Order) -> u32
+    ensures { result ≡ order_number order }
 {
-    let (kind, word, value) = match access {
-        steps::Access::Nothing => (0, 0, 0),
-        steps::Access::Read(word) => (1, word, 0),
-        steps::Access::Write(word, value) => (2, word, value),
-        steps::Access::State(value) => (3, 0, value),
-        steps::Access::Ring { target, vector } => (4, target, vector),
+    match order {
+        Order::Relaxed => 0,
+        Order::Acquire => 1,
+        Order::Release => 2,
+    }
+}
+
+/// An access, with so many words ahead to be read or written at once, and its order.
+pub(crate) fn access_crossed(
+    access: steps::Access,
+    reads: u32,
+    writes: u32,
+    ordering: Ordering,
+) -> Access
+    ensures { result ≡ access_crossed access reads writes ordering }
+{
+    let (kind, word, value, count) = match access {
+        steps::Access::Nothing => (0, 0, 0, 0),
+        steps::Access::Read(word) => (1, word, 0, reads),
+        steps::Access::Write(word, value) => (2, word, value, writes),
+        steps::Access::State(value) => (3, 0, value, 0),
+        steps::Access::Ring { target, vector } => (4, target, vector, 0),
     };
-    Access { kind, word, value }
+    Access {
+        kind,
+        word,
+        value,
+        count,
+        order: order_number(ordering.order),
+        fence_before: if ordering.fence_before { 1 } else { 0 },
+        fence_after: if ordering.fence_after { 1 } else { 0 },
+    }
 }
 
 pub(crate) fn refusal_crossed(refused: Refused) -> Note
@@ -209,7 +238,7 @@ pub(crate) fn view_of(port: &Port) -> View
     }
 }
 
-/// Law: the numbers of an access, and those of a note, tell it apart from every other.
+/// Law: the numbers of an access, and those of a note, tell it apart from every other; those of an access tell its order too.
 #[tactic(auto, using(crate::proofs::Told::crossings_told))]
 pub fn crossings_are_told()
     ensures { CrossingsAreTold }

@@ -4,9 +4,9 @@ ghost use Rattle.ivshm_c.specs.Statuses.{number_of};
 ghost use Rattle.ivshm_c.specs.declared.status.Status.{Status as Answer};
 ghost use Rattle.link_endpoint.specs.Engine.{delivered};
 ghost use Rattle.ivshm_c.specs.Crossing.{view_of};
-ghost use Rattle.ivshm_c.specs.Answers.{answer_at, Leads, begin_answer, offer_answer, step_answer, frame_answer, done_answer, BeginsAnswered, OffersAnswered, TellsNext, TakesAnswered, CopiesFrame, Renews, MakesAnswered};
+ghost use Rattle.ivshm_c.specs.Answers.{answer_at, Leads, begin_answer, offer_answer, step_answer, reads_answer, words_answer, writes_answer, frame_answer, done_answer, BeginsAnswered, OffersAnswered, TellsNext, TakesAnswered, TakesWords, TellsWords, TakesWritten, CopiesFrame, Renews, MakesAnswered};
 
-use crate::calls::{begun, framed, made, next, offered, took};
+use crate::calls::{begun, framed, made, next, offered, took, took_words, took_written, words};
 use crate::crossing::view_of;
 use crate::device::Found;
 use crate::status::Status;
@@ -110,6 +110,57 @@ pub extern "C" fn ivshm_end_took(alloc: Global, end: &mut End, value: u32, notes
         return Status::NoEnd.number();
     };
     let status = took(&mut port, value, notes);
+    end.put(port);
+    status.number()
+}
+
+/// Takes some of the steps of the reads that `ivshm_end_next` told, 1 up to its `count`, at once: `words` has what each read gave as four
+/// bytes, the lowest first.
+#[unsafe(no_mangle)]
+pub extern "C" fn ivshm_end_took_words(
+    alloc: Global,
+    end: &mut End,
+    words: &[u8],
+    notes: &mut Notes,
+) -> u32
+    ensures answer { result ≡ number_of (answer_at end.old.port (reads_answer (length words.now))) }
+    ensures step { Leads end.old.port (TakesWords words.now notes.old notes.new) end.new.port }
+    ensures untouched { end.old.port ≡ None → notes.new ≡ notes.old }
+{
+    let Some(mut port) = end.take(alloc) else {
+        return Status::NoEnd.number();
+    };
+    let status = took_words(&mut port, words, notes);
+    end.put(port);
+    status.number()
+}
+
+/// Tells the words of some of the writes that `ivshm_end_next` told, 1 up to its `count`: each as four bytes, the lowest first.
+#[unsafe(no_mangle)]
+pub extern "C" fn ivshm_end_words(alloc: Global, end: &mut End, into: &mut [u8]) -> u32
+    ensures answer { result ≡ number_of (answer_at end.old.port (words_answer (length into.old))) }
+    ensures words { IfSome end.old.port (λ port. TellsWords port into.old into.new) }
+    ensures untouched { end.old.port ≡ None → into.new ≡ into.old }
+    ensures kept { end.new.port ≡ end.old.port }
+{
+    let Some(port) = end.take(alloc) else {
+        return Status::NoEnd.number();
+    };
+    let status = words(&port, into);
+    end.put(port);
+    status.number()
+}
+
+/// Takes the steps of so many of the writes that `ivshm_end_next` told, 1 up to its `count`, at once. None of them has a note.
+#[unsafe(no_mangle)]
+pub extern "C" fn ivshm_end_took_written(alloc: Global, end: &mut End, count: u32) -> u32
+    ensures answer { result ≡ number_of (answer_at end.old.port (writes_answer count)) }
+    ensures step { Leads end.old.port (TakesWritten count) end.new.port }
+{
+    let Some(mut port) = end.take(alloc) else {
+        return Status::NoEnd.number();
+    };
+    let status = took_written(&mut port, count);
     end.put(port);
     status.number()
 }

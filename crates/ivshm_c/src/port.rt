@@ -1,8 +1,8 @@
 //! An end of the link, with the outcome of its last offer.
-ghost use Rattle.std.specs.Prelude.{◌≡◌, ℕ, ◌+◌, ◌≤◌, true, false, length};
-ghost use Rattle.link_endpoint.specs.Engine.{is_busy};
+ghost use Rattle.std.specs.Prelude.{◌≡◌, ℕ, ◌+◌, ◌*◌, ◌%◌, ◌<◌, ◌≤◌, true, false, length};
+ghost use Rattle.link_endpoint.specs.Engine.{is_busy, reads_ahead, writes_ahead};
 ghost use Rattle.link_endpoint.specs.declared.place.Call.TheVariants.{Stop};
-ghost use Rattle.ivshm_c.specs.Ports.{Begins, Offers, Steps, Restarts, outcome_after, outcome_cut, outcome_with, outcome_told, told_by};
+ghost use Rattle.ivshm_c.specs.Ports.{Begins, Offers, Steps, ReadsAtOnce, WritesAtOnce, Restarts, outcome_after, outcome_cut, outcome_with, outcome_told, told_by};
 
 use link_endpoint::{Call, Endpoint};
 use split_ring::steps::{Note, Notes};
@@ -74,6 +74,29 @@ impl Port {
         let notes = self.endpoint.took(value);
         self.outcome = outcome_after(notes.as_slice(), self.outcome);
         notes
+    }
+
+    /// Takes the reads that come, whose words are these.
+    pub(crate) fn took_words(&mut self, words: &[u8]) -> Notes
+        requires some { 0 < length words.now }
+        requires whole { length words.now % 4 ≡ 0 }
+        requires within { length words.now ≤ 4 * reads_ahead self.old.endpoint }
+        ensures steps { ReadsAtOnce self.old.endpoint words.now result.items self.new.endpoint }
+        ensures outcome { self.new.outcome ≡ outcome_after result.items self.old.outcome }
+    {
+        let notes = self.endpoint.took_words(words);
+        self.outcome = outcome_after(notes.as_slice(), self.outcome);
+        notes
+    }
+
+    /// Takes so many of the writes that come.
+    pub(crate) fn took_written(&mut self, count: u32)
+        requires some { 0 < count }
+        requires within { count ≤ writes_ahead self.old.endpoint }
+        ensures steps { WritesAtOnce self.old.endpoint count self.new.endpoint }
+        ensures outcome { self.new.outcome ≡ self.old.outcome }
+    {
+        self.endpoint.took_written(count);
     }
 
     /// The device was reset: the open call is cut, and the State step comes with which the end begins anew.

@@ -35,6 +35,8 @@ pub(crate) enum Status {
     Loop,
     BadVendorLength,
     NoVendor,
+    OtherAccess,
+    BadCount,
 }
 
 impl Status {
@@ -69,6 +71,8 @@ impl Status {
             Status::Loop => 23,
             Status::BadVendorLength => 24,
             Status::NoVendor => 25,
+            Status::OtherAccess => 26,
+            Status::BadCount => 27,
         }
     }
 }

@@ -3,7 +3,8 @@ ghost use Rattle.std.specs.Prelude.{◌≡◌};
 
 use crate::exports::{
     ivshm_end_begin, ivshm_end_frame, ivshm_end_free, ivshm_end_new, ivshm_end_next,
-    ivshm_end_offer, ivshm_end_reset, ivshm_end_took, ivshm_end_view,
+    ivshm_end_offer, ivshm_end_reset, ivshm_end_took, ivshm_end_took_words, ivshm_end_took_written,
+    ivshm_end_view, ivshm_end_words,
 };
 use crate::tables::{ivshm_layout, ivshm_limits, ivshm_walk};
 use crate::{Access, End, Found, Layout, Limits, Note, Notes, View};
@@ -30,6 +31,22 @@ const NO_NOTE: Note = Note {
     value: 0,
 };
 
+const NO_NOTES: Notes = Notes {
+    count: 0,
+    first: NO_NOTE,
+    second: NO_NOTE,
+};
+
+const NO_ACCESS: Access = Access {
+    kind: 0,
+    word: 0,
+    value: 0,
+    count: 0,
+    order: 0,
+    fence_before: 0,
+    fence_after: 0,
+};
+
 const NO_VIEW: View = View {
     refused_value: 0,
     delivered: 0,
@@ -46,16 +63,8 @@ fn first_steps(rt: HostRuntime) -> Result<(), Fail> {
     let alloc = rt.alloc();
     let mut end = End::empty(alloc);
     assert_eq!(rt; ivshm_end_new(alloc, &mut end, &FOUND, 2, 0, 256, 1), 0);
-    let mut access = Access {
-        kind: 0,
-        word: 0,
-        value: 0,
-    };
-    let mut notes = Notes {
-        count: 0,
-        first: NO_NOTE,
-        second: NO_NOTE,
-    };
+    let mut access = NO_ACCESS;
+    let mut notes = NO_NOTES;
     assert_eq!(rt; ivshm_end_begin(alloc, &mut end, 0), 3);
     assert_eq!(rt; ivshm_end_next(alloc, &mut end, &mut access), 0);
     assert_eq!(rt; access.kind, 3);
@@ -78,17 +87,57 @@ fn first_steps(rt: HostRuntime) -> Result<(), Fail> {
     Ok(())
 }
 
+/// A section of 4,096 words is cleared in three pieces; a read, a count of 0, half a word and a count beyond the section are answered so.
+#[test]
+fn a_section_cleared_at_once(rt: HostRuntime) -> Result<(), Fail> {
+    let alloc = rt.alloc();
+    let mut end = End::empty(alloc);
+    let mut access = NO_ACCESS;
+    let mut notes = NO_NOTES;
+    let mut words = [1; 8];
+    assert_eq!(rt; ivshm_end_took_written(alloc, &mut end, 1), 1);
+    assert_eq!(rt; ivshm_end_new(alloc, &mut end, &FOUND, 2, 0, 256, 1), 0);
+    assert_eq!(rt; ivshm_end_took_written(alloc, &mut end, 1), 26);
+    assert_eq!(rt; ivshm_end_took(alloc, &mut end, 0, &mut notes), 0);
+    assert_eq!(rt; ivshm_end_took_written(alloc, &mut end, 1), 4);
+    for _ in 0..2 {
+        assert_eq!(rt; ivshm_end_begin(alloc, &mut end, 0), 0);
+        assert_eq!(rt; ivshm_end_took(alloc, &mut end, 1, &mut notes), 0);
+        assert_eq!(rt; ivshm_end_next(alloc, &mut end, &mut access), 0);
+        if access.kind == 3 {
+            assert_eq!(rt; ivshm_end_took(alloc, &mut end, 0, &mut notes), 0);
+        }
+    }
+    assert_eq!(rt; access.kind, 2);
+    assert_eq!(rt; access.count, 4_096);
+    assert_eq!(rt; access.order, 0);
+    assert_eq!(rt;
+        ivshm_end_took_words(alloc, &mut end, &[0; 4], &mut notes),
+        26
+    );
+    assert_eq!(rt; ivshm_end_words(alloc, &mut end, &mut [1; 6]), 27);
+    assert_eq!(rt; ivshm_end_words(alloc, &mut end, &mut words), 0);
+    assert!(rt; words == [0; 8]);
+    assert_eq!(rt; ivshm_end_took_written(alloc, &mut end, 2), 0);
+    assert_eq!(rt; ivshm_end_took_written(alloc, &mut end, 0), 27);
+    assert_eq!(rt; ivshm_end_took_written(alloc, &mut end, 4_095), 27);
+    assert_eq!(rt; ivshm_end_took_written(alloc, &mut end, 4_094), 0);
+    assert_eq!(rt; ivshm_end_next(alloc, &mut end, &mut access), 0);
+    assert_eq!(rt; access.kind, 3);
+    assert_eq!(rt; access.value, 2);
+    assert_eq!(rt; access.order, 2);
+    assert_eq!(rt; access.fence_after, 1);
+    assert_eq!(rt; ivshm_end_free(alloc, &mut end), 0);
+    Ok(())
+}
+
 /// Outside RUN an offer is down, and nothing was delivered.
 #[test]
 fn an_offer_outside_run(rt: HostRuntime) -> Result<(), Fail> {
     let alloc = rt.alloc();
     let mut end = End::empty(alloc);
     assert_eq!(rt; ivshm_end_new(alloc, &mut end, &FOUND, 2, 1, 256, 1), 0);
-    let mut notes = Notes {
-        count: 0,
-        first: NO_NOTE,
-        second: NO_NOTE,
-    };
+    let mut notes = NO_NOTES;
     let mut view = NO_VIEW;
     assert_eq!(rt; ivshm_end_took(alloc, &mut end, 0, &mut notes), 0);
     assert_eq!(rt; ivshm_end_offer(alloc, &mut end, &[7; 13]), 7);

@@ -1,11 +1,11 @@
 -- An end that refused a value makes no offer and no poll.
-use Rattle.std.proofs.Common.{◌≡◌, ℕ, Bool, true, false, Some, None, List, refl, sym, ap, ◌∙◌, subst}
+use Rattle.std.proofs.Common.{◌≡◌, ℕ, Bool, true, false, Some, None, List, refl, sym, ap, ◌∙◌}
 use Rattle.std.specs.Prelude.{is_some}
 use Rattle.split_ring.specs.declared.ranges.Refused.{Refused}
 use Rattle.split_ring.specs.declared.steps.Note.{Note}
 use Rattle.link_handshake.specs.declared.Phase.{Phase}
 use Rattle.link_endpoint.specs.declared.place.Place.{Place}
-use Rattle.link_endpoint.specs.declared.place.Place.TheVariants.{Refusing, Offering, Polling}
+use Rattle.link_endpoint.specs.declared.place.Place.TheVariants.{Offering, Polling}
 use Rattle.link_endpoint.specs.Engine.{Engine, is_leaving, is_leaving_at, is_looking_at, refused_after}
 use Rattle.link_endpoint.specs.Leaving.{IsLeft, KeepsAway}
 

@@ -9,3 +9,5 @@ pub mod Seen
 pub mod Starting
 pub mod Away
 pub mod Running
+pub mod Stretching
+pub mod InOrder

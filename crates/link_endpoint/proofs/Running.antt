@@ -1,12 +1,11 @@
 -- The calls of an endpoint, step by step.
-use Rattle.std.proofs.Common.{◌≡◌, ℕ, Bool, true, false, List, [], ◌∷◌, refl, sym, ap, ◌∙◌, subst, arith}
+use Rattle.std.proofs.Common.{◌≡◌, ℕ, true, false, List, [], ◌∷◌, refl, sym, ap, ◌∙◌, subst, arith}
 use Rattle.std.proofs.lemmas.Grind.{common_steps}
 use Rattle.split_ring.specs.declared.steps.Access.{Access}
-use Rattle.split_ring.specs.declared.steps.Access.TheVariants as access
-use Rattle.call_grammar.specs.Steps.{Mark, Step, value_given, step_of}
+use Rattle.call_grammar.specs.Steps.{Mark, Step, value_given}
 use Rattle.call_grammar.specs.Trees.{CallTree, Goes, GoesAlong}
 use Rattle.call_grammar.specs.Ends.{End, end_after}
-use Rattle.call_grammar.specs.Calls.{Who, Call, tree_of, IsCall}
+use Rattle.call_grammar.specs.Calls.{Who}
 use Rattle.call_grammar.specs.Places as places
 use Rattle.call_grammar.specs.Plays.{IsPlayed}
 use Rattle.call_grammar.proofs.Playing.{playing}

@@ -1,5 +1,5 @@
 -- An endpoint as contracts see it.
-use Rattle.std.specs.Prelude.{ℕ, ◌==◌, Bool, true, false, not, if◌then◌else◌, Option, Some, None, is_some, List, [], ◌∷◌}
+use Rattle.std.specs.Prelude.{ℕ, ◌+◌, ◌-◌, ◌==◌, Bool, true, false, not, if◌then◌else◌, Option, Some, None, is_some, List, [], ◌∷◌}
 use Rattle.section_map.specs.Geometry.{Shape, section_start}
 use Rattle.split_ring.specs.Layout.{Sizes}
 use Rattle.split_ring.specs.declared.ranges.Refused.{Refused}
@@ -11,11 +11,13 @@ use Rattle.link_handshake.specs.Standing.{Standing}
 use Rattle.call_grammar.specs.Calls.{Who}
 use Rattle.call_grammar.specs.Calls as calls
 use Rattle.tx_engine.specs.Sender.{Sender, fresh_sender}
+use Rattle.tx_engine.specs.Sender as sender
 use Rattle.rx_engine.specs.Receiver.{Receiver, fresh_receiver, renewed}
+use Rattle.rx_engine.specs.Receiver as receiver
 use Rattle.link_endpoint.specs.declared.place.Call.{Call}
 use Rattle.link_endpoint.specs.declared.place.Call.TheVariants.{Tick, Poll, Stop}
 use Rattle.link_endpoint.specs.declared.place.Place.{Place}
-use Rattle.link_endpoint.specs.declared.place.Place.TheVariants.{Closed, Looking, Refusing, Downed, Offering, Polling}
+use Rattle.link_endpoint.specs.declared.place.Place.TheVariants.{Closed, Looking, Clearing, Refusing, Downed, Offering, Polling}
 
 -- the two ends of the link are peers 0 and 1 (profile)
 abbrev pub partner : ℕ → ℕ
@@ -88,6 +90,24 @@ is_looking_at _ = false
 
 abbrev pub is_looking : Engine → Bool
 is_looking e = is_looking_at e.place
+
+-- how many of the coming accesses read one word after the other, none before the last with a note; 0 where no read of several words comes
+abbrev pub reads_ahead_at : Place → Receiver → ℕ
+reads_ahead_at Polling rx = receiver.reads_ahead rx.place
+reads_ahead_at _ rx = 0
+
+abbrev pub reads_ahead : Engine → ℕ
+reads_ahead e = reads_ahead_at e.place e.receiver
+
+-- the same of writes, which have no note
+abbrev pub writes_ahead_at : Place → Who → Sender → Receiver → ℕ
+writes_ahead_at Offering who tx rx = sender.writes_ahead tx.place
+writes_ahead_at Polling who tx rx = receiver.writes_ahead rx.place
+writes_ahead_at (Clearing at state) who tx rx = who.own + who.words - at
+writes_ahead_at _ who tx rx = 0
+
+abbrev pub writes_ahead : Engine → ℕ
+writes_ahead e = writes_ahead_at e.place e.who e.sender e.receiver
 
 -- where its handshake stands: it bears the mark where it refused something
 abbrev pub standing_of : Engine → Standing

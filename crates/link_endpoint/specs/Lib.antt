@@ -1,6 +1,8 @@
 pub mod Engine
 pub mod Stands
 pub mod Leaving
+pub mod Stretches
+pub mod Orders
 pub mod Runs
 pub mod Kept
 pub mod Plan

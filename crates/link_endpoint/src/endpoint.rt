@@ -1,17 +1,22 @@
 //! One end of the link, which takes its calls step by step. It makes no access itself.
-ghost use Rattle.std.specs.Prelude.{◌≡◌, ℕ, ◌+◌, ◌*◌, ◌≤◌, ◌↔◌, not, is_some, None, [], ◌∷◌, true, false, IsTrue, IfOk, length};
+ghost use Rattle.std.specs.Prelude.{◌≡◌, ℕ, ◌+◌, ◌*◌, ◌%◌, ◌<◌, ◌≤◌, ◌↔◌, not, is_some, None, List, [], ◌∷◌, true, false, IsTrue, IfOk, length, flat_map};
 ghost use Rattle.link_handshake.specs.declared.Phase.TheVariants.{Run};
 ghost use Rattle.call_grammar.specs.Ends.{End, fresh, after_reset};
 ghost use Rattle.call_grammar.specs.Calls.{Who, Offer, in_run};
 ghost use Rattle.call_grammar.specs.Places as places;
 ghost use Rattle.call_grammar.specs.Reach.{InReach};
 ghost use Rattle.call_grammar.specs.Ticks.{other_state};
+ghost use Rattle.call_grammar.specs.Stretches.{Each, ReadsOn, WritesOn};
+ghost use Rattle.call_grammar.specs.Words.{word_bytes};
 ghost use Rattle.call_grammar.specs.StepBounds.{HasFewInFlight};
-ghost use Rattle.link_endpoint.specs.Engine.{who_of, fresh_engine, engine_after_reset, is_busy, is_down, is_leaving, is_looking, is_tick, offered, delivered, call_of, comes_down, refused_after};
+ghost use Rattle.link_endpoint.specs.Engine.{who_of, fresh_engine, engine_after_reset, is_busy, is_down, is_leaving, is_looking, is_tick, offered, delivered, call_of, comes_down, refused_after, reads_ahead, writes_ahead};
 ghost use Rattle.link_endpoint.specs.Stands.{StandsAt, Takes, Opens};
 ghost use Rattle.link_endpoint.specs.Leaving.{Refuses, Leaves, KeepsRefused, Stays, KeepsAway};
+ghost use Rattle.link_endpoint.specs.Stretches.{IsTaken};
+ghost use Rattle.link_endpoint.specs.Orders.{order_at, step_order};
 ghost use Rattle.link_endpoint.specs.Runs.{EndpointsMakeCalls};
 
+use crate::order::{Order, Ordering};
 use crate::place::{Call, Place};
 use ivs_base::NoMemory;
 use link_handshake::{Handshake, Move, Phase, phase_of};
@@ -221,6 +226,93 @@ impl Endpoint {
         }
     }
 
+    /// The order that the next access needs of the memory, where the words aren't all sequentially consistent.
+    pub fn order(&self) -> Ordering
+        ensures { (who : Who) (end : End) (place : places.Place) → StandsAt self.now who end place → result ≡ order_at place }
+    {
+        match self.place {
+            Place::Looking => plain(Order::Acquire),
+            Place::Setting(_) | Place::Refusing => Ordering {
+                order: Order::Release,
+                fence_before: false,
+                fence_after: true,
+            },
+            Place::Offering => step_order(self.tx.at_index(), self.tx.next()),
+            Place::Polling => step_order(self.rx.at_index(), self.rx.next()),
+            _ => plain(Order::Relaxed),
+        }
+    }
+
+    /// How many of the coming accesses read one word after the other, from that of `next` on, none before the last with a note; 0 where no
+    /// read of several words comes.
+    pub fn reads_ahead(&self) -> u32
+        ensures value { result ≡ reads_ahead self.now }
+        ensures reads { (who : Who) (end : End) (place : places.Place) (word : ℕ) → StandsAt self.now who end place →
+            places.access_at who place ≡ Access.Read word → ReadsOn who place word result }
+    {
+        match self.place {
+            Place::Polling => self.rx.reads_ahead(),
+            _ => 0,
+        }
+    }
+
+    /// Takes some of the steps that `reads_ahead` tells at once: `words` has what each read gave as four bytes, the lowest first.
+    ///
+    /// It is the same as `took` for each of these words in turn.
+    pub fn took_words(&mut self, words: &[u8]) -> Notes
+        requires some { 0 < length words.now }
+        requires whole { length words.now % 4 ≡ 0 }
+        requires within { length words.now ≤ 4 * reads_ahead self.old }
+        ensures { (values : List ℕ) → words.now ≡ flat_map word_bytes values → Each IsTaken self.old values result.items self.new }
+    {
+        self.rx.took_words(words)
+    }
+
+    /// How many of the coming accesses write one word after the other, from that of `next` on, none with a note; 0 where no write of several
+    /// words comes.
+    pub fn writes_ahead(&self) -> u32
+        ensures { result ≡ writes_ahead self.now }
+    {
+        match self.place {
+            Place::Offering => self.tx.writes_ahead(),
+            Place::Polling => self.rx.writes_ahead(),
+            Place::Clearing { at, .. } => self.own + self.words - at,
+            _ => 0,
+        }
+    }
+
+    /// Puts some of the words that `writes_ahead` tells into `into`, each as four bytes, the lowest first.
+    pub fn words(&self, into: &mut [u8])
+        requires whole { length into.old % 4 ≡ 0 }
+        requires within { length into.old ≤ 4 * writes_ahead self.now }
+        ensures writes { (who : Who) (end : End) (place : places.Place) (word value : ℕ) → StandsAt self.now who end place →
+            places.access_at who place ≡ Access.Write word value → WritesOn who place word into.new }
+        ensures sized { length into.new ≡ length into.old }
+    {
+        match self.place {
+            Place::Offering => self.tx.words(into),
+            Place::Polling => self.rx.words(into),
+            Place::Clearing { .. } => into.fill(0),
+            _ => {}
+        }
+    }
+
+    /// Takes the steps of so many of the writes that `writes_ahead` tells at once.
+    ///
+    /// It is the same as `took` so many times, each of which has no note.
+    pub fn took_written(&mut self, count: u32)
+        requires some { 0 < count }
+        requires within { count ≤ writes_ahead self.old }
+        ensures { (values : List ℕ) → length values ≡ count → Each IsTaken self.old values [] self.new }
+    {
+        match self.place {
+            Place::Offering => self.tx.took_written(count),
+            Place::Polling => self.rx.took_written(count),
+            Place::Clearing { at, then } => self.took_clears(at, then, count),
+            _ => unreachable!(),
+        }
+    }
+
     /// The end's own device was reset: the open call is cut, and what was refused is forgotten. The frame delivered last stays.
     pub fn reset(&mut self)
         ensures value { self.new ≡ engine_after_reset self.old }
@@ -276,6 +368,17 @@ impl Endpoint {
             Place::Clearing { at: at + 1, then }
         };
         Notes::new()
+    }
+
+    /// The writes of 0 to so many own words.
+    fn took_clears(&mut self, at: u32, then: u32, count: u32)
+        requires place { self.old.place ≡ Place.Clearing at then }
+        requires some { 0 < count }
+        requires within { at + count ≤ self.old.who.own + self.old.who.words }
+        ensures { (values : List ℕ) → length values ≡ count → Each IsTaken self.old values [] self.new }
+    {
+        let last = self.own + self.words;
+        self.place = clearing(at + count, last, then);
     }
 
     /// The State step of a Tick or a Stop.
@@ -359,6 +462,40 @@ impl Endpoint {
         }
         notes
     }
+}
+
+/// The place before the write of 0 to the own word `at`, where the last own word is before `end`, or after that last write.
+fn clearing(at: u32, end: u32, then: u32) -> Place
+    ensures word { at < end → result ≡ Place.Clearing at then }
+    ensures after { at ≡ end → result ≡ Place.Setting then }
+{
+    if at == end {
+        Place::Setting(then)
+    } else {
+        Place::Clearing { at, then }
+    }
+}
+
+/// This order, with no fence.
+fn plain(order: Order) -> Ordering
+    ensures { result ≡ record { order = order; fence_before = false; fence_after = false } }
+{
+    Ordering {
+        order,
+        fence_before: false,
+        fence_after: false,
+    }
+}
+
+/// The order of this access of an offer or a poll, which may be that of an index word.
+fn step_order(at_index: bool, access: Access) -> Ordering
+    ensures { result ≡ step_order at_index access }
+{
+    plain(match access {
+        _ if !at_index => Order::Relaxed,
+        Access::Read(_) => Order::Acquire,
+        _ => Order::Release,
+    })
 }
 
 /// What the last Refuse of these notes refused.

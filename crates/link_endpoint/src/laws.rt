@@ -1,5 +1,6 @@
 //! What holds of the calls of an end, and of two ends that make calls. Each law is the contract of a function that does nothing.
 ghost use Rattle.link_endpoint.specs.Stands.{RefusedEndsStay};
+ghost use Rattle.link_endpoint.specs.Stretches.{StretchesGoOn};
 
 pub use call_grammar::{
     calls_are_lists, calls_keep_rows, calls_meet_bounds, calls_stay_in_reach, calls_take_a_step,
@@ -13,4 +14,9 @@ pub use ends_pair::{
 /// An end that refused something stays, whatever its Ticks read, until its device is reset.
 pub fn refused_ends_stay()
     ensures { RefusedEndsStay }
+{}
+
+/// Steps that are taken at once are steps of the grammar, one after the other.
+pub fn stretches_go_on()
+    ensures { StretchesGoOn }
 {}

@@ -2,7 +2,8 @@
 ghost use Rattle.std.specs.Prelude.{◌≡◌, ◌≤◌, false, IfOk};
 ghost use Rattle.link_endpoint.specs.Engine.{is_busy};
 
-use crate::{Auto, Call, Choice, Endpoint};
+use crate::laws::stretches_go_on;
+use crate::{Auto, Call, Choice, Endpoint, Order, Ordering};
 use ivs_base::Frame;
 use link_handshake::Phase;
 use section_map::Geometry;
@@ -202,6 +203,113 @@ fn handshake_and_one_frame(rt: HostRuntime) -> Result<(), Fail> {
     };
     step(&rt, words, &mut second, 1, ring, 0, &[Note::Done]);
     assert!(rt; !second.busy());
+    Ok(())
+}
+
+/// Some writes of the open call at once: the first access, and the bytes of the words.
+fn writes(rt: &impl Abort, end: &mut Endpoint, access: Access, bytes: &[u8]) {
+    let mut room = [0xee; 16];
+    assert!(rt; end.busy());
+    assert_eq!(rt; end.next(), access);
+    assert!(rt; !bytes.is_empty() && bytes.len() <= 16);
+    let count = bytes.len() as u32 / 4;
+    assert!(rt; bytes.len() == 4 * count as usize);
+    assert!(rt; count <= end.writes_ahead());
+    let into = &mut room[..bytes.len()];
+    end.words(into);
+    assert!(rt; &*into == bytes);
+    end.took_written(count);
+}
+
+/// Some reads of the open call at once: their first access, the bytes that they give, and the notes of the last.
+fn reads(rt: &impl Abort, end: &mut Endpoint, access: Access, bytes: &[u8], notes: &[Note]) {
+    assert!(rt; end.busy());
+    assert_eq!(rt; end.next(), access);
+    assert!(rt; !bytes.is_empty() && bytes.len() <= 16);
+    assert!(rt; bytes.len().is_multiple_of(4));
+    assert!(rt; bytes.len() <= 4 * end.reads_ahead() as usize);
+    assert!(rt; end.took_words(bytes).as_slice() == notes);
+}
+
+/// This order, with or without a fence after the access.
+fn order_of(order: Order, fence_after: bool) -> Ordering {
+    Ordering {
+        order,
+        fence_before: false,
+        fence_after,
+    }
+}
+
+#[test]
+fn one_frame_at_once(rt: HostRuntime) -> Result<(), Fail> {
+    let mut words = vec![in rt.alloc(); 0; WORDS]?;
+    let mut first = example(&rt, rt.alloc(), 0)?;
+    let mut second = example(&rt, rt.alloc(), 1)?;
+    let words = words.as_mut_slice();
+    tick(&rt, words, &mut first, 0, 0, None, 1);
+    tick(&rt, words, &mut second, 1, 1, None, 1);
+    tick(&rt, words, &mut first, 0, 1, Some(1_024), 2);
+    assert!(rt; !second.busy());
+    second.begin(Call::Tick);
+    let saw = [Note::Saw(2)];
+    step(&rt, words, &mut second, 1, Access::Read(0), 2, &saw);
+    assert!(rt; second.writes_ahead() == 4_096);
+    writes(&rt, &mut second, Access::Write(5_120, 0), &[0; 16]);
+    assert!(rt; second.writes_ahead() == 4_092);
+    second.took_written(4_092);
+    assert_eq!(rt; second.order(), order_of(Order::Release, true));
+    let state = Access::State(2);
+    step(&rt, words, &mut second, 1, state, 0, &[Note::Over]);
+    tick(&rt, words, &mut first, 0, 2, None, 3);
+    tick(&rt, words, &mut second, 1, 3, None, 3);
+
+    assert!(rt; !first.busy());
+    first.offer(&FRAME);
+    let found = [Note::Reclaim(0)];
+    step(&rt, words, &mut first, 0, Access::Read(5_424), 0, &found);
+    assert_eq!(rt; first.order(), order_of(Order::Relaxed, false));
+    let data = [
+        0xff, 0xff, 0xff, 0xff, 0xff, 0xff, 0x02, 0, 0, 0, 0, 0x01, 0x08, 0, 0, 0,
+    ];
+    let start = Access::Write(1_472, 4_294_967_295);
+    writes(&rt, &mut first, start, &data);
+    let descriptor = [0, 7, 0, 0, 0, 0, 0, 0, 14, 0, 0, 0, 0, 0, 0, 0];
+    let start = Access::Write(1_024, 1_792);
+    writes(&rt, &mut first, start, &descriptor);
+    step(&rt, words, &mut first, 0, Access::Write(1_281, 0), 0, &[]);
+    let index = Access::Write(1_280, 65_536);
+    assert_eq!(rt; first.order(), order_of(Order::Release, false));
+    step(&rt, words, &mut first, 0, index, 0, &[Note::Accept]);
+
+    assert!(rt; !second.busy());
+    second.begin(Call::Poll);
+    let index = Access::Read(1_280);
+    assert_eq!(rt; second.order(), order_of(Order::Acquire, false));
+    step(&rt, words, &mut second, 1, index, 65_536, &[Note::Look(1)]);
+    assert_eq!(rt; second.order(), order_of(Order::Relaxed, false));
+    // the copies above went to no memory
+    assert!(rt; words.len() == WORDS);
+    words[1_024] = 1_792;
+    words[1_026] = 14;
+    for (word, value) in [
+        (1_281, 0),
+        (1_024, 1_792),
+        (1_025, 0),
+        (1_026, 14),
+        (1_027, 0),
+    ] {
+        step(&rt, words, &mut second, 1, Access::Read(word), value, &[]);
+    }
+    reads(&rt, &mut second, Access::Read(1_472), &data[..4], &[]);
+    let rest = &data[4..];
+    let delivers = [Note::Deliver];
+    reads(&rt, &mut second, Access::Read(1_473), rest, &delivers);
+    assert!(rt; second.delivered() == FRAME.as_slice());
+    let element = [0, 0, 0, 0, 1, 0, 0, 0];
+    writes(&rt, &mut second, Access::Write(5_425, 0), &element);
+    let index = Access::Write(5_424, 65_536);
+    step(&rt, words, &mut second, 1, index, 0, &[Note::Return]);
+    stretches_go_on();
     Ok(())
 }
 

@@ -1,7 +1,8 @@
 -- A receiver, as contracts see it.
-use Rattle.std.specs.Prelude.{ℕ, ◌≡◌, ◌*◌, ◌<◌, Bool, true, false, List, []}
+use Rattle.std.specs.Prelude.{ℕ, ◌≡◌, ◌-◌, ◌*◌, ◌<◌, ◌==◌, if◌then◌else◌, Bool, true, false, List, []}
 use Rattle.split_ring.specs.Layout.{Sizes}
 use Rattle.split_ring.specs.Ranges.{IsAvailEntry, IsDescAddress, IsDescLength}
+use Rattle.call_grammar.specs.Words.{words_for}
 use Rattle.rx_engine.specs.declared.place.Place.{Place}
 use Rattle.rx_engine.specs.declared.place.Place.TheVariants.{Closed, AtLow, AtHigh, AtLength, AtFlags, AtWord, GivingId, GivingLength, GivingIndex}
 
@@ -49,6 +50,20 @@ is_busy rx = is_open_at rx.place
 abbrev pub words_read : Place → ℕ
 words_read (AtWord more entry address bytes at) = at
 words_read _ = 0
+
+-- how many of the coming accesses read the words that are left of a frame
+abbrev pub reads_ahead : Place → ℕ
+reads_ahead (AtWord more entry address bytes at) = words_for bytes - at
+reads_ahead _ = 0
+
+-- how many of the coming accesses write the two words of a used element
+abbrev pub writes_ahead : Place → ℕ
+writes_ahead (GivingId more entry) = 2
+writes_ahead _ = 0
+
+-- the place after 1 or 2 of these writes
+abbrev pub given : (more count : ℕ) → Place
+given more count = if count == 1 then GivingLength more else GivingIndex more
 
 -- 1 where the frame delivered last isn't returned yet, else 0
 abbrev pub unreturned : Place → ℕ

@@ -73,6 +73,10 @@ pub record TakesAt (old : Receiver) (value : ℕ) (notes : List Note) (new : Rec
 abbrev pub Takes : Receiver → ℕ → List Note → Receiver → Type 0
 Takes old value notes new = (who : Who) (end : End) (place : laws.Place) → StandsAt old who end place → TakesAt old value notes new who end place
 
+-- and the poll is open still
+abbrev pub TakesOn : Receiver → ℕ → List Note → Receiver → Type 0
+TakesOn old value notes new = Takes old value notes new × (is_busy new ≡ true)
+
 -- a fresh session: no frame is delivered or returned
 pub record IsFreshSession (end : End) : Type 0 where
   pub delivered : end.delivered ≡ []

@@ -1,15 +1,17 @@
 //! The receiver.
-ghost use Rattle.std.specs.Prelude.{ℕ, ◌≡◌, ◌+◌, ◌-◌, ◌*◌, ◌≤◌, ◌<◌, ◌^◌, [], ◌∷◌, ◌++◌, true, false, IfOk, option_to_list, min, length, take};
+ghost use Rattle.std.specs.Prelude.{ℕ, ◌≡◌, ◌+◌, ◌-◌, ◌*◌, ◌%◌, ◌≤◌, ◌<◌, ◌^◌, ◌⊎◌, List, [], ◌∷◌, ◌++◌, true, false, IfOk, option_to_list, min, length, take, flat_map};
 ghost use Rattle.link_handshake.specs.declared.Phase.TheVariants.{Run};
 ghost use Rattle.split_ring.specs.Spelling.{entry_half};
 ghost use Rattle.call_grammar.specs.Ends.{End};
 ghost use Rattle.call_grammar.specs.Ticks.{Who};
 ghost use Rattle.call_grammar.specs.Calls.{Poll};
-ghost use Rattle.call_grammar.specs.Words.{word_bytes};
+ghost use Rattle.call_grammar.specs.Words.{word_bytes, words_for};
+ghost use Rattle.call_grammar.specs.Stretches.{Each, ReadsOn, WritesOn};
+ghost use Rattle.call_grammar.specs.Orders.{is_index};
 ghost use Rattle.call_grammar.specs.Places as laws;
 ghost use Rattle.call_grammar.specs.Reach.{HasSections, InReach};
-ghost use Rattle.rx_engine.specs.Receiver.{fresh_receiver, renewed, is_busy, words_read, IsReached, KeepsNumbers};
-ghost use Rattle.rx_engine.specs.Stands.{IsMadeFor, IsFreshSession, StandsAt, Takes, ClosedStays};
+ghost use Rattle.rx_engine.specs.Receiver.{fresh_receiver, renewed, is_busy, reads_ahead, writes_ahead, given, words_read, IsReached, KeepsNumbers};
+ghost use Rattle.rx_engine.specs.Stands.{IsMadeFor, IsFreshSession, StandsAt, Takes, TakesOn, ClosedStays};
 
 use crate::place::Place;
 use ivs_base::NoMemory;
@@ -65,15 +67,39 @@ fn entry_half(k: u16, word: u32) -> u16
     }
 }
 
-/// Puts word `at` of a frame of so many bytes to its place in the buffer: its four bytes, or the last ones of the frame.
-fn put_word(buffer: &mut [u8], bytes: usize, at: usize, word: u32)
+/// Puts some words from word `at` on of a frame of so many bytes to their place in the buffer, each by its four bytes: all of their bytes,
+/// or those up to the last one of the frame.
+fn put_words(buffer: &mut [u8], bytes: usize, at: usize, words: &[u8])
     requires within { 4 * at < bytes }
     requires room { bytes ≤ length buffer.old }
-    ensures { take (min bytes (4 * at + 4)) buffer.new ≡ take (4 * at) buffer.old ++ take (bytes - 4 * at) (word_bytes word) }
+    requires fits { 4 * at + length words.now < 2 ^ 32 }
+    ensures { take (min bytes (4 * at + length words.now)) buffer.new ≡ take (4 * at) buffer.old ++ take (bytes - 4 * at) words.now }
 {
     let start = 4 * at;
-    let count = (bytes - start).min(4);
-    buffer[start..start + count].copy_from_slice(&word.to_le_bytes()[..count]);
+    let count = (bytes - start).min(words.len());
+    buffer[start..start + count].copy_from_slice(&words[..count]);
+}
+
+/// Puts the first words of a used element, as many as fit.
+fn put_element(into: &mut [u8], entry: u32)
+    requires { length into.old ≤ 8 }
+    ensures bytes { into.new ≡ take (length into.old) (word_bytes entry ++ word_bytes 1) }
+    ensures fits { entry < 4294967296 }
+{
+    let id = entry.to_le_bytes();
+    let words = [id[0], id[1], id[2], id[3], 1, 0, 0, 0];
+    into.copy_from_slice(&words[..into.len()]);
+}
+
+/// The place after 1 or 2 writes of a used element's words.
+fn giving(more: u32, count: u32) -> Place
+    ensures { result ≡ given more count }
+{
+    if count == 1 {
+        Place::GivingLength { more }
+    } else {
+        Place::GivingIndex { more }
+    }
 }
 
 impl Rx {
@@ -190,19 +216,94 @@ impl Rx {
                 address,
                 bytes,
             } => self.took_flags(more, entry, address, bytes, value),
-            Place::AtWord {
-                more,
-                entry,
-                address,
-                bytes,
-                at,
-            } => self.took_word(more, entry, address, bytes, at, value),
+            Place::AtWord { .. } => self.took_words(&value.to_le_bytes()),
             Place::GivingId { more, .. } => self.go_on(Place::GivingLength { more }, None),
             Place::GivingLength { more } => self.go_on(Place::GivingIndex { more }, None),
             Place::GivingIndex { more } => self.gave_index(more),
             Place::Ringing => self.go_on(Place::Closed, Some(Note::Done)),
             Place::Refusing => self.left(),
             Place::Closed => unreachable!(),
+        }
+    }
+
+    /// Is the next access that of an index word?
+    pub fn at_index(&self) -> bool
+        ensures { (who : Who) (end : End) (place : laws.Place) → StandsAt self.now who end place → result ≡ is_index place }
+    {
+        matches!(self.place, Place::AtAvailIndex | Place::GivingIndex { .. })
+    }
+
+    /// How many of the coming accesses read the words of a frame, each the next word, with no note before the last of the frame; else 0.
+    pub fn reads_ahead(&self) -> u32
+        ensures value { result ≡ reads_ahead self.now.place }
+        ensures reads { (who : Who) (end : End) (place : laws.Place) (word : ℕ) → StandsAt self.now who end place →
+            laws.access_at who place ≡ Access.Read word → ReadsOn who place word result }
+    {
+        match self.place {
+            Place::AtWord { bytes, at, .. } => bytes.div_ceil(4) - at,
+            _ => 0,
+        }
+    }
+
+    /// Takes some of the steps that `reads_ahead` tells at once: each word that they read is in `words` by its four bytes, the lowest first.
+    ///
+    /// It is the same as `took` for each of these words in turn.
+    pub fn took_words(&mut self, words: &[u8]) -> Notes
+        requires some { 0 < length words.now }
+        requires whole { length words.now % 4 ≡ 0 }
+        requires within { length words.now ≤ 4 * reads_ahead self.old.place }
+        ensures steps { (values : List ℕ) → words.now ≡ flat_map word_bytes values → Each TakesOn self.old values result.items self.new }
+        ensures notes { (result.items ≡ []) ⊎ (result.items ≡ Note.Deliver ∷ []) }
+        ensures kept { KeepsNumbers self.old self.new }
+    {
+        match self.place {
+            Place::AtWord {
+                more,
+                entry,
+                address,
+                bytes,
+                at,
+            } => self.took_frame_words(more, entry, address, bytes, at, words),
+            _ => unreachable!(),
+        }
+    }
+
+    /// How many of the coming accesses write the words of a used element, each the next word and with no note; else 0.
+    pub fn writes_ahead(&self) -> u32
+        ensures { result ≡ writes_ahead self.now.place }
+    {
+        match self.place {
+            Place::GivingId { .. } => 2,
+            _ => 0,
+        }
+    }
+
+    /// Puts some of the words that `writes_ahead` tells into `into`, each as its four bytes, the lowest first.
+    pub fn words(&self, into: &mut [u8])
+        requires whole { length into.old % 4 ≡ 0 }
+        requires within { length into.old ≤ 4 * writes_ahead self.now.place }
+        ensures writes { (who : Who) (end : End) (place : laws.Place) (word value : ℕ) → StandsAt self.now who end place →
+            laws.access_at who place ≡ Access.Write word value → WritesOn who place word into.new }
+        ensures sized { length into.new ≡ length into.old }
+    {
+        match self.place {
+            Place::GivingId { entry, .. } => put_element(into, entry),
+            _ => {}
+        }
+    }
+
+    /// Takes the steps of so many of the writes that `writes_ahead` tells at once. It is the same as `took` so many times.
+    pub fn took_written(&mut self, count: u32)
+        requires some { 0 < count }
+        requires within { count ≤ writes_ahead self.old.place }
+        ensures steps { (values : List ℕ) → length values ≡ count → Each TakesOn self.old values [] self.new }
+        ensures kept { KeepsNumbers self.old self.new }
+    {
+        match self.place {
+            Place::GivingId { more, .. } => {
+                self.place = giving(more, count);
+            }
+            _ => unreachable!(),
         }
     }
 
@@ -353,22 +454,27 @@ impl Rx {
         }
     }
 
-    /// The read of a frame's word. On the last one the frame is delivered.
-    fn took_word(
+    /// The reads of some of a frame's words. On the last one of all the frame is delivered.
+    fn took_frame_words(
         &mut self,
         more: u32,
         entry: u32,
         address: u32,
         bytes: u32,
         at: u32,
-        value: u32,
+        words: &[u8],
     ) -> Notes
-        requires { self.old.place ≡ Place.AtWord more entry address bytes at }
-        ensures steps { Takes self.old value result.items self.new }
+        requires place { self.old.place ≡ Place.AtWord more entry address bytes at }
+        requires some { 0 < length words.now }
+        requires whole { length words.now % 4 ≡ 0 }
+        requires within { length words.now ≤ 4 * (words_for bytes - at) }
+        ensures steps { (values : List ℕ) → words.now ≡ flat_map word_bytes values → Each TakesOn self.old values result.items self.new }
+        ensures notes { (result.items ≡ []) ⊎ (result.items ≡ Note.Deliver ∷ []) }
         ensures kept { KeepsNumbers self.old self.new }
     {
-        put_word(&mut self.buffer, bytes as usize, at as usize, value);
-        let last = bytes - 4 * at <= 4;
+        put_words(&mut self.buffer, bytes as usize, at as usize, words);
+        let read = at + (words.len() / 4) as u32;
+        let last = bytes <= 4 * read;
         if last {
             swap(&mut self.buffer, &mut self.last);
             self.delivered = bytes as usize;
@@ -379,7 +485,7 @@ impl Rx {
             entry,
             address,
             bytes,
-            at: at + 1,
+            at: read,
         };
         Notes::new()
     }

@@ -5,3 +5,5 @@ pub mod Reading
 pub mod Fields
 pub mod Filling
 pub mod Entering
+pub mod Padding
+pub mod Stretching

@@ -7,7 +7,7 @@ use Rattle.frame_slots.specs.declared.slots.Slot as slots
 use Rattle.frame_slots.specs.Turns.{slot_at}
 use Rattle.call_grammar.specs.Words.{words_for, with_entry}
 use Rattle.tx_engine.specs.declared.place.Place.{Place}
-use Rattle.tx_engine.specs.declared.place.Place.TheVariants.{Closed, Refusing, AtUsedIndex, AtUsedId, Filling, WritingLow, WritingHigh, WritingLength, WritingFlags, WritingEntry, WritingIndex, Ringing}
+use Rattle.tx_engine.specs.declared.place.Place.TheVariants.{Closed, AtUsedIndex, AtUsedId, Filling, WritingLow, WritingHigh, WritingLength, WritingFlags, WritingEntry, WritingIndex}
 
 -- the sizes of the queue, the first words of the two sections, and whom it rings by which vector; the frames accepted modulo 65,536, the next
 -- descriptor and the frames in flight; the own copy of the entry words; the frame in hand, and its place in the open offer
@@ -28,6 +28,12 @@ pub record Sender : Type 0 where
 abbrev pub is_open : Place → Bool
 is_open Closed = false
 is_open _ = true
+
+-- how many of the coming accesses write the words that are left of the frame, or the four words of its descriptor
+abbrev pub writes_ahead : Place → ℕ
+writes_ahead (Filling slot at more) = more + 1
+writes_ahead (WritingLow slot) = 4
+writes_ahead _ = 0
 
 -- a frame that may be offered
 abbrev pub IsFrame : Sizes → List ℕ → Type 0

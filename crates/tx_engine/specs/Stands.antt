@@ -14,7 +14,7 @@ use Rattle.frame_slots.specs.declared.slots.Slot as slots
 use Rattle.frame_slots.specs.Turns.{slot_at}
 use Rattle.tx_engine.specs.declared.place.Place.{Place}
 use Rattle.tx_engine.specs.declared.place.Place.TheVariants.{Closed, Refusing, AtUsedIndex, AtUsedId, Filling, WritingLow, WritingHigh, WritingLength, WritingFlags, WritingEntry, WritingIndex, Ringing}
-use Rattle.tx_engine.specs.Sender.{Sender}
+use Rattle.tx_engine.specs.Sender.{Sender, IsSender, is_open}
 
 -- the sender was made for this peer: its numbers that never change are the peer's
 pub record IsMadeFor (tx : Sender) (who : Who) : Type 0 where
@@ -83,6 +83,12 @@ pub record Takes (old : Sender) (value : ℕ) (notes : List Note) (new : Sender)
   pub stands : (who : Who) (end : End) (place : laws.Place) → StandsAt old who end place →
       StandsAt new who (end_after end (laws.step_at who place value)) (laws.next_place who place value)
   pub kept : new ≡ record old { accepted = new.accepted; next = new.next; in_flight = new.in_flight; entries = new.entries; place = new.place }
+
+-- and the offer is open still
+pub record TakesOn (old : Sender) (value : ℕ) (notes : List Note) (new : Sender) : Type 0 where
+  pub takes : Takes old value notes new
+  pub opened : is_open new.place ≡ true
+  pub sender : IsSender new
 
 -- a fresh session: nothing is accepted or freed, and the words of the entries were written as 0 last
 pub record IsFreshSession (who : Who) (end : End) : Type 0 where

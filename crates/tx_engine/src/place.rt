@@ -1,6 +1,6 @@
 //! Where an offer is.
 ghost use Rattle.std.specs.Prelude.{◌≡◌, ◌+◌, ◌-◌, ◌<◌, ◌≤◌};
-ghost use Rattle.tx_engine.specs.Reads.{GoesOn};
+ghost use Rattle.tx_engine.specs.Reads.{GoesOn, described};
 
 use frame_slots::{Slot, Slots};
 
@@ -58,6 +58,19 @@ pub fn filling(slot: Slot, at: u32, count: u32) -> Place
         slot,
         at,
         more: count - 1,
+    }
+}
+
+/// The place after so many writes of a descriptor's words.
+pub fn describing(slot: Slot, count: u32) -> Place
+    ensures { result ≡ described slot count }
+{
+    match count {
+        0 => Place::WritingLow(slot),
+        1 => Place::WritingHigh(slot),
+        2 => Place::WritingLength(slot),
+        3 => Place::WritingFlags(slot),
+        _ => Place::WritingEntry(slot),
     }
 }
 

@@ -1,17 +1,19 @@
 //! The sender of an end.
-ghost use Rattle.std.specs.Prelude.{◌≡◌, ℕ, ◌+◌, ◌-◌, ◌*◌, ◌%◌, ◌<◌, ◌≤◌, ◌^◌, IfOk, true, false, [], ◌∷◌, length, take};
+ghost use Rattle.std.specs.Prelude.{◌≡◌, ℕ, ◌+◌, ◌-◌, ◌*◌, ◌%◌, ◌<◌, ◌≤◌, ◌^◌, IfOk, true, false, List, [], ◌∷◌, ◌++◌, length, take, replicate};
 ghost use Rattle.split_ring.specs.Layout.{size_of, limit_of};
 ghost use Rattle.call_grammar.specs.Ends.{End};
 ghost use Rattle.call_grammar.specs.Ticks.{Who};
 ghost use Rattle.call_grammar.specs.Calls.{Offer};
 ghost use Rattle.call_grammar.specs.Places as laws;
 ghost use Rattle.call_grammar.specs.Reach.{HasSections, InReach};
-ghost use Rattle.call_grammar.specs.Words.{words_for, frame_word};
+ghost use Rattle.call_grammar.specs.Words.{words_for, frame_word, word_bytes};
+ghost use Rattle.call_grammar.specs.Stretches.{Each, WritesOn};
+ghost use Rattle.call_grammar.specs.Orders.{is_index};
 ghost use Rattle.link_handshake.specs.declared.Phase.TheVariants.{Run};
-ghost use Rattle.tx_engine.specs.Sender.{IsSender, fresh_sender, is_open, IsFrame, IsPlace, IsInReach, entry_word_of};
-ghost use Rattle.tx_engine.specs.Stands.{StandsAt, Takes, IsMadeFor, IsFreshSession, ClosedStays};
+ghost use Rattle.tx_engine.specs.Sender.{IsSender, fresh_sender, is_open, writes_ahead, IsFrame, IsPlace, IsInReach, entry_word_of};
+ghost use Rattle.tx_engine.specs.Stands.{StandsAt, Takes, TakesOn, IsMadeFor, IsFreshSession, ClosedStays};
 
-use crate::place::{Place, filling, offer_after_ids};
+use crate::place::{Place, describing, filling, offer_after_ids};
 use frame_slots::{Slot, Slots};
 use ivs_base::{NoMemory, plus, word_of};
 use split_ring::steps::{Access, Note, Notes, leaving, left, noted, refusal};
@@ -180,6 +182,61 @@ impl Tx {
         }
     }
 
+    /// Is the next access that of an index word?
+    pub fn at_index(&self) -> bool
+        ensures { (who : Who) (end : End) (place : laws.Place) → StandsAt self.now who end place → result ≡ is_index place }
+    {
+        matches!(self.place, Place::AtUsedIndex | Place::WritingIndex)
+    }
+
+    /// How many of the coming accesses write the words of the frame, or those of its descriptor, each the next word and with no note;
+    /// else 0.
+    pub fn writes_ahead(&self) -> u32
+        ensures { result ≡ writes_ahead self.now.place }
+    {
+        match self.place {
+            Place::Filling { more, .. } => more + 1,
+            Place::WritingLow(_) => 4,
+            _ => 0,
+        }
+    }
+
+    /// Puts some of the words that `writes_ahead` tells into `into`, each as its four bytes, the lowest first.
+    pub fn words(&self, into: &mut [u8])
+        requires whole { length into.old % 4 ≡ 0 }
+        requires within { length into.old ≤ 4 * writes_ahead self.now.place }
+        ensures writes { (who : Who) (end : End) (place : laws.Place) (word value : ℕ) → StandsAt self.now who end place →
+            laws.access_at who place ≡ Access.Write word value → WritesOn who place word into.new }
+        ensures sized { length into.new ≡ length into.old }
+    {
+        match self.place {
+            Place::Filling { at, .. } => {
+                let length = self.length as usize;
+                let start = 4 * at as usize;
+                copy_padded(into, &self.buffer[start..length]);
+            }
+            Place::WritingLow(slot) => put_descriptor(into, slot.address, self.length),
+            _ => {}
+        }
+    }
+
+    /// Takes the steps of so many of the writes that `writes_ahead` tells at once. It is the same as `took` so many times.
+    pub fn took_written(&mut self, count: u32)
+        requires some { 0 < count }
+        requires within { count ≤ writes_ahead self.old.place }
+        ensures { (values : List ℕ) → length values ≡ count → Each TakesOn self.old values [] self.new }
+    {
+        match self.place {
+            Place::Filling { slot, at, more } => {
+                self.place = filling(slot, at + count, more + 1 - count);
+            }
+            Place::WritingLow(slot) => {
+                self.place = describing(slot, count);
+            }
+            _ => unreachable!(),
+        }
+    }
+
     /// Forgets the offer, the frames and the entries: a session begins.
     pub fn reset(&mut self)
         ensures value { self.new ≡ fresh_sender self.old.sizes self.old.own self.old.theirs self.old.target self.old.vector }
@@ -342,6 +399,30 @@ fn put_first(buffer: &mut [u8], frame: &[u8])
     ensures { take (length frame.now) buffer.new ≡ frame.now }
 {
     buffer[..frame.len()].copy_from_slice(frame);
+}
+
+/// Copies the first bytes of these, as many as fit, and 0 after them.
+fn copy_padded(into: &mut [u8], bytes: &[u8])
+    ensures { into.new ≡ take (length into.old) bytes.now ++ replicate (length into.old - length bytes.now) 0 }
+{
+    let count = bytes.len().min(into.len());
+    let (front, rest) = into.split_at_mut(count);
+    front.copy_from_slice(&bytes[..count]);
+    rest.fill(0);
+}
+
+/// Puts the first words of a descriptor, as many as fit.
+fn put_descriptor(into: &mut [u8], address: u32, bytes: u32)
+    requires { length into.old ≤ 16 }
+    ensures { into.new ≡ take (length into.old) (word_bytes address ++ (word_bytes 0 ++ (word_bytes bytes ++ word_bytes 0))) }
+{
+    let low = address.to_le_bytes();
+    let count = bytes.to_le_bytes();
+    let words = [
+        low[0], low[1], low[2], low[3], 0, 0, 0, 0, count[0], count[1], count[2], count[3], 0, 0,
+        0, 0,
+    ];
+    into.copy_from_slice(&words[..into.len()]);
 }
 
 /// Law: a closed sender stands for an end as long as its session goes on: Ticks, Stops and Polls change nothing of it.

@@ -1,0 +1,243 @@
+/* orders RUNS STEPS SEED [--without ROW]: random runs of two ends over a memory that is weaker than sequentially consistent, with each access in the
+ * order that the library tells of it. ROW takes one order away: state-release, state-fence, state-acquire, available-release, available-acquire,
+ * used-release or used-acquire. It ends with 0 where each run was as it is to be, and with 1 at the first that isn't.
+ *
+ * The memory: each word has a list of messages. A store adds one; a load may give any message that its thread's view doesn't rule out, and the view
+ * goes on to it. A releasing store carries its thread's view along, and an acquiring load takes over the view that its message carries. A full fence
+ * joins the thread's view with that of all fences before it. Loads don't see stores that come later. Each word has one writer and one reader.
+ *
+ * What is to hold: nothing is refused; and in each of its sessions an end delivers a beginning of what the other accepted in one session, whole, in
+ * order, each session of the other once at most, and these rising. */
+#include <inttypes.h>
+#include <stdbool.h>
+#include <stdio.h>
+#include <stdlib.h>
+#include <string.h>
+
+#include "ivshm_c.h"
+
+enum { OUT = 16384, MTU = 256, WORDS = 1024 + 2 * OUT / 4, SESSIONS = 4096 };
+enum row { NONE, STATE_RELEASE, STATE_FENCE, STATE_ACQUIRE, AVAILABLE_RELEASE, AVAILABLE_ACQUIRE, USED_RELEASE, USED_ACQUIRE, ROWS };
+
+static const char *const rows[ROWS] = {"none", "state-release", "state-fence", "state-acquire", "available-release", "available-acquire",
+                                       "used-release", "used-acquire"};
+
+struct view { uint32_t at[WORDS]; }; /* the number of the oldest message of each word that may be read still */
+
+struct message {
+    uint32_t value;
+    struct view *carried;
+};
+
+struct word {
+    uint32_t first, count, room; /* the number of the first message kept, and how many there are */
+    struct message *list;
+};
+
+struct peer {
+    ivshm_end end;
+    struct view view;
+    uint32_t me, own, theirs, ready, accepted[SESSIONS]; /* `ready`: sessions of its own so far; `accepted`: frames in each */
+    uint32_t attended, taken, last;                      /* the other's session whose frames it takes, how many, and the one before */
+    bool fencing;                                        /* a full fence is due after its last access: a step of its own */
+};
+
+static struct word region[WORDS];
+static struct view fences;
+static struct peer peers[2];
+static ivshm_words layout;
+static enum row without;
+static uint64_t generator, delivered, sessions;
+static uint32_t resets, ticks; /* one step in so many is a reset, and one call in so many a Tick: drawn for each run */
+static const char *wrong;
+
+static uint32_t draw(uint32_t below) {
+    generator ^= generator << 13;
+    generator ^= generator >> 7;
+    generator ^= generator << 17;
+    return (uint32_t)((generator >> 16) % below);
+}
+
+static void join(struct view *into, const struct view *from) {
+    for (size_t i = 0; i < WORDS; i++) into->at[i] = into->at[i] > from->at[i] ? into->at[i] : from->at[i];
+}
+
+static void forget(struct word *w, uint32_t before) {
+    uint32_t gone = before - w->first;
+    for (uint32_t i = 0; i < gone; i++) free(w->list[i].carried);
+    memmove(w->list, w->list + gone, (w->count - gone) * sizeof *w->list);
+    w->first = before;
+    w->count -= gone;
+}
+
+static void store(struct peer *p, uint32_t at, uint32_t value, bool release) {
+    struct word *w = &region[at];
+    if (w->count == w->room) w->list = realloc(w->list, (w->room = 2 * w->room + 2) * sizeof *w->list);
+    struct message *m = &w->list[w->count];
+    *m = (struct message){value, NULL};
+    p->view.at[at] = w->first + w->count++;
+    if (!release) return;
+    m->carried = malloc(sizeof p->view);
+    *m->carried = p->view;
+}
+
+/* The newest message in half of all loads, and else any. */
+static uint32_t load(struct peer *p, uint32_t at, bool acquire) {
+    struct word *w = &region[at];
+    uint32_t oldest = p->view.at[at] > w->first ? p->view.at[at] : w->first, newest = w->first + w->count - 1;
+    uint32_t picked = draw(2) ? newest : oldest + draw(newest - oldest + 1);
+    p->view.at[at] = picked;
+    struct message *m = &w->list[picked - w->first];
+    if (acquire && m->carried) join(&p->view, m->carried);
+    uint32_t value = m->value;
+    forget(w, picked);
+    return value;
+}
+
+static void fence(struct peer *p) {
+    join(&p->view, &fences);
+    fences = p->view;
+}
+
+/* Frame `number` that peer `from` offers in this session of its own: from 14 to 123 bytes that come of the three. */
+static size_t make(uint8_t *frame, uint32_t from, uint32_t session, uint32_t number) {
+    uint32_t x = session * 2654435761u ^ number * 40503u ^ from << 7;
+    size_t length = 14 + x % 110;
+    memset(frame, (int)from, 6);
+    memcpy(frame + 6, &session, 4);
+    memcpy(frame + 10, &number, 4);
+    for (size_t i = 14; i < length; i++) frame[i] = (uint8_t)(x = x * 1664525u + 1013904223u, x >> 24);
+    return length;
+}
+
+static void take(struct peer *p) {
+    uint8_t frame[300], expected[300];
+    size_t length = 0;
+    uint32_t session, number;
+    if (ivshm_end_frame(&p->end, frame, sizeof frame, &length) != IVSHM_DONE) { wrong = "a frame that is too long was delivered"; return; }
+    memcpy(&session, frame + 6, 4);
+    memcpy(&number, frame + 10, 4);
+    delivered++;
+    if (p->taken == 0) p->attended = session;
+    if (length != make(expected, 1 - p->me, session, number) || memcmp(frame, expected, length)) wrong = "a frame was delivered that was never offered";
+    else if (session != p->attended || session <= p->last) wrong = "a frame of another session was delivered";
+    else if (number != p->taken) wrong = "a frame was lost, or delivered again";
+    else if (session > peers[1 - p->me].ready || number >= peers[1 - p->me].accepted[session]) wrong = "a frame was delivered before it was accepted";
+    p->taken++;
+}
+
+/* The own State is stored: at READY a session begins. */
+static void enter(struct peer *p, uint32_t state) {
+    if (state != IVSHM_READY) return;
+    if (p->taken) p->last = p->attended;
+    p->taken = 0;
+    p->accepted[++p->ready] = 0;
+    sessions++;
+}
+
+static enum row row_of(const struct peer *p, const ivshm_access *access) {
+    bool stores = access->kind == IVSHM_WRITE;
+    if (access->kind == IVSHM_STATE) return STATE_RELEASE;
+    if (access->kind == IVSHM_READ && access->word == 1 - p->me) return STATE_ACQUIRE;
+    uint32_t at = access->word - (stores ? p->own : p->theirs);
+    if (at == layout.available_index) return stores ? AVAILABLE_RELEASE : AVAILABLE_ACQUIRE;
+    if (at == layout.used_index) return stores ? USED_RELEASE : USED_ACQUIRE;
+    return NONE;
+}
+
+/* Makes one access of the open call, or as many as may be made at once. */
+static void step(struct peer *p) {
+    static uint32_t room[OUT / 4];
+    ivshm_access access;
+    ivshm_notes notes = {.count = 0};
+    if (ivshm_end_next(&p->end, &access) != IVSHM_DONE) abort();
+    enum row row = row_of(p, &access);
+    bool ordered = access.order != IVSHM_RELAXED && (without == NONE || row != without);
+    uint32_t value = 0, count = access.count;
+    if (access.fence_before) fence(p);
+    if (count > 1 && draw(4)) {
+        count = access.kind == IVSHM_READ || draw(2) ? count : 1 + draw(count);
+        if (access.kind == IVSHM_READ) {
+            for (uint32_t i = 0; i < count; i++) room[i] = load(p, access.word + i, false);
+            ivshm_end_took_words(&p->end, (const uint8_t *)room, 4 * (size_t)count, &notes);
+        } else {
+            ivshm_end_words(&p->end, (uint8_t *)room, 4 * (size_t)count);
+            for (uint32_t i = count; i-- > 0;) store(p, access.word + i, room[i], false);
+            ivshm_end_took_written(&p->end, count);
+        }
+    } else {
+        if (access.kind == IVSHM_READ) value = load(p, access.word, ordered);
+        if (access.kind == IVSHM_WRITE) store(p, access.word, access.value, ordered);
+        if (access.kind == IVSHM_STATE) {
+            store(p, p->me, access.value, ordered);
+            enter(p, access.value);
+        }
+        ivshm_end_took(&p->end, value, &notes);
+    }
+    p->fencing = access.fence_after && without != STATE_FENCE;
+    for (uint32_t i = 0; i < notes.count; i++) {
+        if (notes.note[i].kind == IVSHM_REFUSE) wrong = "an honest peer was refused";
+        if (notes.note[i].kind == IVSHM_ACCEPT) p->accepted[p->ready]++;
+        if (notes.note[i].kind == IVSHM_DELIVER) take(p);
+    }
+}
+
+static void begin(struct peer *p) {
+    uint8_t frame[300];
+    uint32_t which = draw(100);
+    if (draw(ticks) == 0) ivshm_end_begin(&p->end, IVSHM_TICK);
+    else if (which < 50) ivshm_end_begin(&p->end, IVSHM_POLL);
+    else if (which < 99) ivshm_end_offer(&p->end, frame, make(frame, p->me, p->ready, p->ready ? p->accepted[p->ready] : 0));
+    else ivshm_end_begin(&p->end, IVSHM_STOP);
+}
+
+static void run(uint32_t steps) {
+    ivshm_found found = {.table = 4096, .out = OUT};
+    fences = (struct view){{0}};
+    for (uint32_t i = 0; i < WORDS; i++) {
+        if (region[i].count) forget(&region[i], region[i].first + region[i].count);
+        region[i].first = 0;
+        store(&peers[0], i, 0, false);
+    }
+    for (uint32_t me = 0; me < 2; me++) {
+        struct peer *p = &peers[me];
+        *p = (struct peer){.me = me, .own = layout.first + me * layout.words, .theirs = layout.first + (1 - me) * layout.words};
+        if (ivshm_end_new(&p->end, &found, 2, me, MTU, 1) != IVSHM_DONE) abort();
+    }
+    resets = 20u << draw(6);
+    ticks = 1 + draw(4);
+    for (uint32_t i = 0; i < steps && !wrong; i++) {
+        struct peer *p = &peers[draw(2)];
+        ivshm_access access;
+        if (p->fencing) {
+            fence(p);
+            p->fencing = false;
+        } else if (draw(resets) == 0) ivshm_end_reset(&p->end);
+        else if (ivshm_end_next(&p->end, &access) == IVSHM_DONE) step(p);
+        else begin(p);
+    }
+    for (uint32_t me = 0; me < 2; me++) ivshm_end_free(&peers[me].end);
+}
+
+int main(int argc, char **argv) {
+    ivshm_found found = {.table = 4096, .out = OUT};
+    if (argc == 6 && !strcmp(argv[4], "--without")) {
+        for (enum row row = STATE_RELEASE; row < ROWS; row++) if (!strcmp(argv[5], rows[row])) without = row;
+    }
+    if ((argc != 4 && argc != 6) || (argc == 6 && without == NONE)) {
+        fprintf(stderr, "usage: orders RUNS STEPS SEED [--without ROW]\n");
+        return 2;
+    }
+    if (ivshm_layout(&found, 2, MTU, &layout) != IVSHM_DONE) return 2;
+    uint64_t runs = strtoull(argv[1], NULL, 10);
+    uint32_t steps = (uint32_t)strtoul(argv[2], NULL, 10);
+    generator = strtoull(argv[3], NULL, 10) * 0x9e3779b97f4a7c15u + 1;
+    for (uint64_t i = 1; i <= runs; i++) {
+        run(steps);
+        if (!wrong) continue;
+        printf("without %s, run %" PRIu64 ": %s\n", rows[without], i, wrong);
+        return 1;
+    }
+    printf("without %s: %" PRIu64 " runs, %" PRIu64 " sessions, %" PRIu64 " frames delivered, nothing wrong\n", rows[without], runs, sessions, delivered);
+    return 0;
+}

@@ -1,0 +1,38 @@
+use Rattle.std.proofs.Common.{◌≡◌, ◌<◌, ℕ, List, ap, sym, refl, arith}
+use Rattle.std.specs.List.{flat_map}
+use Rattle.call_grammar.specs.Stretches.{Each}
+use Rattle.call_grammar.specs.Words.{word_bytes}
+use Rattle.call_grammar.proofs.Spelled.{spelled}
+use Rattle.link_endpoint.specs.declared.place.Place.{Place}
+use Rattle.link_endpoint.specs.declared.place.Place.TheVariants.{Closed, Looking, Clearing, Setting, Refusing, Downed, Offering, Polling}
+use Rattle.link_endpoint.specs.Engine.{reads_ahead_at, reads_ahead}
+use Rattle.link_endpoint.specs.Kept.{seen}
+use Rattle.link_endpoint.specs.Stretches.{IsTaken}
+use Rattle.rx_engine.specs.Receiver.{Receiver}
+use Rattle.link_endpoint.proofs.Stretching.{none_refused, polls_on, kept_polled}
+use Rattle.link_endpoint.proofs.endpoint.Endpoint.took_words.Goals as goal
+
+polls : (p : Place) (rx : Receiver) → 0 < reads_ahead_at p rx → p ≡ Polling
+polls Closed rx some = absurd (omega (arith, some))
+polls Looking rx some = absurd (omega (arith, some))
+polls (Clearing at state) rx some = absurd (omega (arith, some))
+polls (Setting state) rx some = absurd (omega (arith, some))
+polls Refusing rx some = absurd (omega (arith, some))
+polls Downed rx some = absurd (omega (arith, some))
+polls Offering rx some = absurd (omega (arith, some))
+polls Polling rx some = refl
+
+steps : (c : goal.After-took_words) (values : List ℕ) → c.args.words.now ≡ flat_map word_bytes values → Each IsTaken (seen c.self.inside) values c.took_words.result.items (seen (record (c.self.inside) { rx = c.took_words.new.self }))
+steps c values words_are =
+    let kept = c.self.invariant in
+    let ahead : reads_ahead c.args.self.now ≡ reads_ahead_at c.self.inside.place c.self.inside.rx = ap reads_ahead (sym c.self.view_is) in
+    let here = polls c.self.inside.place c.self.inside.rx (omega (arith, ahead, c.requires.some, c.requires.within)) in
+    polls_on (seen c.self.inside) values c.took_words.result.items c.took_words.new.self (seen c.self.inside).who kept.end kept.at here (c.took_words.ensures.steps values words_are) kept.stands (none_refused _ c.took_words.ensures.notes)
+
+pub returns : goal.returns
+returns c = λ values words_are. rw (← c.self.view_is) (steps c values words_are)
+
+pub invariant_of-self : goal.invariant_of-self
+invariant_of-self c =
+    let words = spelled c.args.words.now c.requires.whole (λ i. omega (arith, c.type_inv.words i)) in
+    kept_polled c.self.inside c.took_words.new.self words.0 c.took_words.result.items c.self.invariant c.took_words.ensures.kept (steps c words.0 words.1)

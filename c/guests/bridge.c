@@ -1,0 +1,242 @@
+/* bridge ME OUT MTU TAP [SPIN [IDLE]]: frames between a TAP device and the link, in a guest. It ticks each 5 milliseconds and polls, SPIN rounds
+ * without a frame at full speed; then it sleeps IDLE microseconds at most between two rounds, and a frame from the TAP device ends that sleep, or
+ * a doorbell, where there is a device that has them. The TAP device has its carrier while the link is in RUN. At SIGUSR1 the counts go to
+ * /tmp/counts, at SIGTERM the bridge leaves the link and ends. */
+#include "doorbell.h"
+#include "link.h"
+
+#include <errno.h>
+#include <linux/if.h>
+#include <linux/if_tun.h>
+#include <poll.h>
+#include <signal.h>
+
+/* A refusal is forgiven after half a second, so a peer that is refused gets two sessions a second. A peer that isn't, and only plays with its
+ * State, may open eight sessions at once, as a program that is started again and again does, and then two a second: each costs a store for each
+ * word of the own section, and without a bound a hostile peer would have this guest do nothing else. */
+static const double tick_time = 0.005, forgiven_after = 0.5, sessions_a_second = 2, sessions_at_once = 8;
+
+static const char *const fields[] = {"-", "AvailIndex", "AvailEntry", "DescAddress", "DescLength", "DescFlags", "UsedIndex", "UsedId"};
+static const char *const states[] = {"RESET", "INIT", "READY", "RUN"};
+static volatile sig_atomic_t over, asked;
+
+struct bridge {
+    struct link link;
+    struct doorbell bell;
+    int tap;
+    uint32_t spin, idle, quiet, state, longest;
+    double ticked, refused_at, allowed, counted_at;
+    uint64_t ticks, held, sessions, resets, from_tap, dropped, to_tap, lost, interrupts;
+    size_t waiting; /* bytes of the frame that found no room yet */
+    uint8_t frame[IVSHM_LONGEST];
+};
+
+static void stop(int number) {
+    (void)number;
+    over = 1;
+}
+
+static void ask(int number) {
+    (void)number;
+    asked = 1;
+}
+
+static void take(struct link *l, const uint8_t *frame, size_t length) {
+    struct bridge *b = l->context;
+    if (write(b->tap, frame, length) == (ssize_t)length) b->to_tap++;
+    else b->lost++;
+}
+
+static void ring(struct link *l, uint32_t peer, uint32_t vector) {
+    struct bridge *b = l->context;
+    b->bell.registers[DOORBELL] = peer << 16 | vector;
+}
+
+static void write_counts(struct bridge *b, FILE *to) {
+    struct link *l = &b->link;
+    fprintf(to, "bridge %u: %s; sessions %" PRIu64 ", accepted %" PRIu64 ", delivered %" PRIu64 ", full %" PRIu64 ", stray %" PRIu64, l->me,
+            states[b->state], b->sessions, l->accepted, l->delivered, l->full, l->stray);
+    fprintf(to, ", from the tap %" PRIu64 ", to the tap %" PRIu64 ", lost there %" PRIu64 ", dropped while down %" PRIu64, b->from_tap, b->to_tap, b->lost,
+            b->dropped);
+    fprintf(to, ", ticks %" PRIu64 ", held back %" PRIu64 ", accesses %" PRIu64 ", rings %" PRIu64 ", interrupts %" PRIu64, b->ticks, b->held, l->accesses,
+            l->rings, b->interrupts);
+    fprintf(to, ", mended %" PRIu64 ", resets %" PRIu64 ", refused %" PRIu64 ":", l->mended, b->resets, l->refusals);
+    for (int i = 1; i < 8; i++) fprintf(to, " %s %" PRIu64, fields[i], l->refused[i]);
+    fprintf(to, "\n");
+}
+
+static void tell(struct bridge *b) {
+    asked = 0;
+    FILE *file = fopen("/tmp/counts.new", "w");
+    if (!file) return;
+    write_counts(b, file);
+    fclose(file);
+    rename("/tmp/counts.new", "/tmp/counts");
+}
+
+static int open_tap(const char *name) {
+    struct ifreq request;
+    memset(&request, 0, sizeof request);
+    request.ifr_flags = IFF_TAP | IFF_NO_PI;
+    snprintf(request.ifr_name, sizeof request.ifr_name, "%s", name);
+    int file = open("/dev/net/tun", O_RDWR | O_NONBLOCK);
+    if (file < 0 || ioctl(file, TUNSETIFF, &request)) fail(name);
+    return file;
+}
+
+static void set_carrier(struct bridge *b, int on) {
+    if (ioctl(b->tap, TUNSETCARRIER, &on)) perror("TUNSETCARRIER");
+}
+
+/* What follows from the end's State, as it is by now. */
+static void follow(struct bridge *b) {
+    uint32_t state = view(&b->link).state, before = b->state;
+    b->state = state;
+    if (before == IVSHM_INIT && state != IVSHM_INIT) b->allowed -= 1;
+    if ((state == IVSHM_RUN) == (before == IVSHM_RUN)) return;
+    b->sessions += state == IVSHM_RUN;
+    set_carrier(b, state == IVSHM_RUN);
+    fprintf(stderr, "bridge %u: %s at %.3f\n", b->link.me, states[state], now());
+}
+
+/* May another session begin? */
+static bool is_allowed(struct bridge *b, double time) {
+    b->allowed += (time - b->counted_at) * sessions_a_second;
+    if (b->allowed > sessions_at_once) b->allowed = sessions_at_once;
+    b->counted_at = time;
+    return b->allowed >= 1;
+}
+
+/* An end in INIT begins a session with its next Tick, if the other is there: that Tick is held back when there were too many. */
+static void tick(struct bridge *b, double time) {
+    b->ticked = time;
+    mend(&b->link);
+    if (!is_allowed(b, time) && b->state == IVSHM_INIT) {
+        b->held++;
+        return;
+    }
+    call(&b->link, IVSHM_TICK);
+    b->ticks++;
+    follow(b);
+}
+
+/* Takes what the other published; did anything come? */
+static bool receive(struct bridge *b) {
+    if (b->state != IVSHM_RUN) return false;
+    uint64_t before = b->link.delivered;
+    call(&b->link, IVSHM_POLL);
+    follow(b);
+    return b->link.delivered != before;
+}
+
+/* The frame to be offered next is at hand; or there is none. Frames that can't be sent at all are dropped. */
+static bool has_frame(struct bridge *b) {
+    while (!b->waiting) {
+        ssize_t length = read(b->tap, b->frame, sizeof b->frame);
+        if (length <= 0) return false;
+        b->from_tap++;
+        if (b->state != IVSHM_RUN || length < IVSHM_SHORTEST || length > b->longest) b->dropped++;
+        else b->waiting = (size_t)length;
+    }
+    return true;
+}
+
+/* Offers frames of the TAP device, 32 at most and none after the link is full; was one accepted? A frame that finds no room waits, unless its session
+ * ends: the next one has only new frames. */
+static bool send_some(struct bridge *b) {
+    bool moved = false;
+    for (int i = 0; i < 32 && has_frame(b); i++) {
+        uint32_t outcome = offer(&b->link, b->frame, b->waiting);
+        if (outcome == IVSHM_WAS_FULL) break;
+        b->waiting = 0;
+        if (outcome != IVSHM_ACCEPTED) {
+            b->dropped++;
+            follow(b);
+            break;
+        }
+        moved = true;
+    }
+    return moved;
+}
+
+/* An end that refused something stays in RESET until it is reset, some time later. */
+static void forgive(struct bridge *b, double time) {
+    ivshm_view told = view(&b->link);
+    if (!told.refused_field) return;
+    if (!b->refused_at) {
+        b->refused_at = time;
+        fprintf(stderr, "bridge %u: refused %s %" PRIu64 " at %.3f\n", b->link.me, fields[told.refused_field % 8], told.refused_value, time);
+    }
+    if (time - b->refused_at < forgiven_after) return;
+    b->refused_at = 0;
+    b->resets++;
+    reset(&b->link);
+    follow(b);
+}
+
+/* Sleeps until a frame comes from the TAP device or a doorbell is rung, or for a while. */
+static void rest(struct bridge *b) {
+    struct pollfd files[2] = {{b->tap, b->waiting ? 0 : POLLIN, 0}, {b->bell.events, POLLIN, 0}};
+    uint32_t idle = b->state == IVSHM_RUN ? b->idle : 1000;
+    struct timespec time = {idle / 1000000, idle % 1000000 * 1000L};
+    uint64_t rung;
+    ppoll(files, 2, &time, NULL);
+    if (!files[1].revents || read(b->bell.events, &rung, sizeof rung) != sizeof rung) return;
+    b->interrupts++;
+    b->ticked = 0;
+}
+
+static void run(struct bridge *b) {
+    while (!over) {
+        double time = now();
+        if (asked) tell(b);
+        if (time - b->ticked > tick_time) tick(b, time);
+        bool moved = receive(b);
+        if (b->state != IVSHM_RUN) b->waiting = 0;
+        if (send_some(b)) moved = true;
+        forgive(b, time);
+        b->quiet = moved ? 0 : b->quiet + 1;
+        if (b->quiet > b->spin || b->state != IVSHM_RUN) rest(b);
+    }
+}
+
+/* Maps the words, and makes the end over them. Where there is no plain device, the one with doorbells has the memory too. */
+static void join(struct bridge *b, uint32_t me, size_t out, uint32_t mtu) {
+    struct devices found = find_devices();
+    struct bar bars[MOST_PLAIN];
+    int count = found.count;
+    if (me > 1) give_up("the peer isn't 0 or 1");
+    for (int i = 0; i < count; i++) bars[i] = open_bar(found.plain[i]);
+    b->bell.events = -1;
+    if (found.doorbell[0]) {
+        struct bar memory = open_doorbell(&b->bell, found.doorbell);
+        if (b->bell.registers[OWN_NUMBER] != me) give_up("the doorbell is another peer's");
+        if (count == 0) bars[count++] = memory;
+        b->link.ring = ring;
+    }
+    b->link.context = b;
+    b->link.deliver = take;
+    map_peers(b->link.peers, bars, count, out, (bool[2]){me == 0, me == 1});
+    attach(&b->link, me, out, mtu);
+    fprintf(stderr, "bridge %u: %s%s\n", me, count == 2 ? "apart" : "shared", found.doorbell[0] ? ", doorbells" : "");
+}
+
+int main(int argc, char **argv) {
+    static struct bridge b;
+    if (argc < 5 || argc > 7) return 2;
+    join(&b, (uint32_t)strtoul(argv[1], NULL, 10), strtoul(argv[2], NULL, 10), (uint32_t)strtoul(argv[3], NULL, 10));
+    b.spin = argc > 5 ? (uint32_t)strtoul(argv[5], NULL, 10) : 200;
+    b.idle = argc > 6 ? (uint32_t)strtoul(argv[6], NULL, 10) : 100;
+    b.longest = view(&b.link).longest;
+    b.allowed = sessions_at_once;
+    b.counted_at = now();
+    signal(SIGTERM, stop);
+    signal(SIGUSR1, ask);
+    b.tap = open_tap(argv[4]);
+    set_carrier(&b, 0);
+    run(&b);
+    receive(&b);
+    write_counts(&b, stderr);
+    detach(&b.link);
+    return b.link.stray != 0;
+}

@@ -4,6 +4,7 @@ pub mod Steps
 pub mod Devices
 pub mod EventKinds
 pub mod EntryWrites
+pub mod Quiet
 pub mod Rounds
 pub mod PlainRules
 pub mod RouteBits

@@ -45,6 +45,19 @@ impl Trigger {
         }
     }
 
+    /// Which of the first `peers` peers it may trigger: those from a number on, below another.
+    fn asked(self, peers: u32) -> (u32, u32)
+        ensures within { (result.0 ≤ result.1) × (result.1 ≤ peers) }
+        ensures before { (peer : ℕ) → peer < result.0 → vector_at self peer ≡ None }
+        ensures after { (peer : ℕ) → result.1 ≤ peer → peer < peers → vector_at self peer ≡ None }
+    {
+        match self {
+            Trigger::At { target, .. } if target < peers => (target, target + 1),
+            Trigger::Nobody | Trigger::At { .. } => (0, 0),
+            Trigger::Others { .. } => (0, peers),
+        }
+    }
+
     /// The vector that comes to a peer.
     fn vector_at(self, peer: u32) -> Option<u32>
         ensures { result ≡ vector_at self peer }
@@ -72,7 +85,8 @@ pub(crate) fn deliver(
     ensures came { result.items ≡ deliveries_below (delivery_among wiring trigger registers.old) peers }
 {
     let mut deliveries = ArrayVec::new();
-    for peer in 0..peers {
+    let (first, end) = trigger.asked(peers);
+    for peer in first..end {
         let taken = registers[peer as usize].take(wiring, trigger.vector_at(peer));
         if let Some(vector) = taken {
             deliveries.push(Delivery { peer, vector });

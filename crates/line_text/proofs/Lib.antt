@@ -12,3 +12,5 @@ pub mod RowLaws
 pub mod LengthLaws
 pub mod StepLaws
 pub mod FitLaws
+pub mod ShortLines
+pub mod Digits

@@ -1,5 +1,5 @@
 //! One field of a space, and the faults of a table of them.
-ghost use Rattle.std.specs.Prelude.{◌≡◌, ◌<◌, IsTrue};
+ghost use Rattle.std.specs.Prelude.{◌≡◌, ℕ, ◌+◌, ◌<◌, ◌≤◌, false, IsTrue};
 ghost use Rattle.pci_space.specs.Fields.{covers, shares, is_width, fits_width};
 
 use thiserror::Error;
@@ -42,6 +42,15 @@ impl Field {
     {
         let place = usize::from(self.place);
         place <= k && k < place + usize::from(self.width)
+    }
+
+    /// Has the field one of the `count` bytes from `at` on?
+    pub(crate) fn has_one_of(&self, at: usize, count: usize) -> bool
+        requires { at + count < 65536 }
+        ensures { result ≡ false → (k : ℕ) → at ≤ k → k < at + count → covers self.now k ≡ false }
+    {
+        let place = usize::from(self.place);
+        at < place + usize::from(self.width) && place < at + count
     }
 
     /// Does it share a byte with another?

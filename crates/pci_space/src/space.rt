@@ -119,10 +119,26 @@ fn write_bytes(bytes: &mut [u8], rows: &[Field], at: usize, count: usize, value:
     requires small { at + count < 65536 }
     ensures { (k : ℕ) → slice_index bytes.new k ≡ merged_byte rows.now at count value k (slice_index bytes.old k) }
 {
+    let near = rows_near(rows, at, count);
     for k in at..at + count {
         let new = byte_of(u64::from(value), k - at);
-        bytes[k] = merge(bytes[k], new, mask_at(rows, k));
+        bytes[k] = merge(bytes[k], new, mask_at(near, k));
     }
+}
+
+/// The rows from the first on that has one of `count` bytes.
+fn rows_near(rows: &[Field], at: usize, count: usize) -> &[Field]
+    requires { at + count < 65536 }
+    ensures { (k : ℕ) → at ≤ k → k < at + count → mask_byte result.now k ≡ mask_byte rows.now k }
+{
+    let mut near = rows;
+    while let [row, more @ ..] = near {
+        if row.has_one_of(at, count) {
+            return near;
+        }
+        near = more;
+    }
+    near
 }
 
 /// The masked bits of `new`, and the others of `old`.

@@ -7,6 +7,7 @@
 mod drafts;
 mod faults;
 mod forms;
+mod growing;
 mod laws;
 mod own_trace;
 mod own_traces;
@@ -22,7 +23,8 @@ mod trace;
 mod versions;
 
 pub use faults::{RecordCause, RecordFault};
-pub use laws::{bytes_after_end_are_bad_line, cut_is_no_end, fault_is_first};
+pub use growing::{put_count, put_front, put_lines};
+pub use laws::{bytes_after_end_are_bad_line, cut_is_no_end, fault_is_first, parts_are_the_record};
 pub use own_trace::OwnTrace;
 pub use own_traces::OwnTraces;
 pub use printing::print;

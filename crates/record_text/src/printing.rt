@@ -1,8 +1,8 @@
 //! Writing a record's text.
-ghost use Rattle.std.specs.Prelude.{◌≡◌, ℕ, ◌++◌, ◌<◌, ◌^◌, OnOk, IfOk, Ok, map, length, slice_index};
+ghost use Rattle.std.specs.Prelude.{◌≡◌, ℕ, [], ◌∷◌, ◌++◌, ◌<◌, ◌^◌, OnOk, IfOk, Ok, map, length, slice_index};
 ghost use Rattle.line_text.specs.Rows.{row, line_of_row, text_of};
 ghost use Rattle.record_text.specs.Table.{pieces_of};
-ghost use Rattle.record_text.specs.LineRows.{row_of_line, refuse_form};
+ghost use Rattle.record_text.specs.LineRows.{row_of_line};
 ghost use Rattle.record_text.specs.Spelling.{Fits, AllFit, record_of, spelling};
 ghost use Rattle.record_text.specs.Judge.{answer};
 
@@ -11,31 +11,32 @@ use crate::trace::Trace;
 use crate::versions::first_line;
 use ivs_base::{Frame, NoMemory};
 use lawful_history::Line;
-use line_text::put_line;
+use line_text::{put_four, put_line, put_named, put_one, put_three, put_two, put_with_bytes};
 use scenario_text::put_scenario;
 use split_ring::{FieldName, Refused};
 use std::alloc::{AllocError, Global};
 
-/// Puts the line of a form last.
+/// Puts the line of a form without a frame last.
 #[tactic(auto, unfolding(line_text::specs::Rows::line_of_row))]
-fn put(out: &mut Vec<u8>, form: LineForm, numbers: &[u64], frame: &[u8]) -> Result<(), AllocError>
-    ensures { OnOk result (out.new.items ≡ out.old.items ++ line_of_row pieces_of (row form numbers.now frame.now)) }
+fn put(out: &mut Vec<u8>, form: LineForm, numbers: &[u64]) -> Result<(), AllocError>
+    ensures { OnOk result (out.new.items ≡ out.old.items ++ line_of_row pieces_of (row form numbers.now [])) }
 {
-    put_line(out, form.slots(), numbers, frame)
+    put_line(out, form.slots(), numbers, &[])
 }
 
-/// The form of a refusal of this field.
-fn refuse_form(field: FieldName) -> LineForm
-    ensures { result ≡ refuse_form field }
+/// Puts the line of a refusal last.
+#[tactic(auto, unfolding(line_text::specs::Rows::line_of_row))]
+fn put_refusal(out: &mut Vec<u8>, peer: u32, refused: &Refused) -> Result<(), AllocError>
+    ensures { OnOk result (out.new.items ≡ out.old.items ++ line_of_row pieces_of (row_of_line (Line.Refuse peer refused.now))) }
 {
-    match field {
-        FieldName::AvailIndex => LineForm::RefuseAvailIndex,
-        FieldName::AvailEntry => LineForm::RefuseAvailEntry,
-        FieldName::DescAddress => LineForm::RefuseDescAddress,
-        FieldName::DescLength => LineForm::RefuseDescLength,
-        FieldName::DescFlags => LineForm::RefuseDescFlags,
-        FieldName::UsedIndex => LineForm::RefuseUsedIndex,
-        FieldName::UsedId => LineForm::RefuseUsedId,
+    match refused.field {
+        FieldName::AvailIndex => put_named(out, b"refuse", peer, b"AvailIndex", refused.value),
+        FieldName::AvailEntry => put_named(out, b"refuse", peer, b"AvailEntry", refused.value),
+        FieldName::DescAddress => put_named(out, b"refuse", peer, b"DescAddress", refused.value),
+        FieldName::DescLength => put_named(out, b"refuse", peer, b"DescLength", refused.value),
+        FieldName::DescFlags => put_named(out, b"refuse", peer, b"DescFlags", refused.value),
+        FieldName::UsedIndex => put_named(out, b"refuse", peer, b"UsedIndex", refused.value),
+        FieldName::UsedId => put_named(out, b"refuse", peer, b"UsedId", refused.value),
     }
 }
 
@@ -58,182 +59,76 @@ fn value_of(refused: &Refused) -> u64
 }
 
 /// Puts a history line last.
+#[tactic(auto, unfolding(line_text::specs::Rows::line_of_row))]
 pub fn put_history_line(out: &mut Vec<u8>, line: &Line) -> Result<(), AllocError>
     ensures put { OnOk result (out.new.items ≡ out.old.items ++ line_of_row pieces_of (row_of_line line.now)) }
     ensures fits { Fits line.now }
 {
     match line {
-        Line::Read { peer, word, value } => put(
-            out,
-            LineForm::Read,
-            &[u64::from(*peer), u64::from(*word), u64::from(*value)],
-            &[],
-        ),
-        Line::Write { peer, word, value } => put(
-            out,
-            LineForm::Write,
-            &[u64::from(*peer), u64::from(*word), u64::from(*value)],
-            &[],
-        ),
-        Line::Denied { peer, word } => put(
-            out,
-            LineForm::Denied,
-            &[u64::from(*peer), u64::from(*word)],
-            &[],
-        ),
-        Line::State { peer, value } => put(
-            out,
-            LineForm::State,
-            &[u64::from(*peer), u64::from(*value)],
-            &[],
-        ),
+        Line::Read { peer, word, value } => put_three(out, b"r", *peer, *word, *value),
+        Line::Write { peer, word, value } => put_three(out, b"w", *peer, *word, *value),
+        Line::Denied { peer, word } => put_two(out, b"denied", *peer, *word),
+        Line::State { peer, value } => put_two(out, b"s", *peer, *value),
         Line::Doorbell {
             peer,
             target,
             vector,
-        } => put(
-            out,
-            LineForm::Doorbell,
-            &[u64::from(*peer), u64::from(*target), u64::from(*vector)],
-            &[],
-        ),
-        Line::Interrupt { peer, vector } => put(
-            out,
-            LineForm::Interrupt,
-            &[u64::from(*peer), u64::from(*vector)],
-            &[],
-        ),
-        Line::Lost { peer, vector } => put(
-            out,
-            LineForm::Lost,
-            &[u64::from(*peer), u64::from(*vector)],
-            &[],
-        ),
-        Line::Reset { peer } => put(out, LineForm::Reset, &[u64::from(*peer)], &[]),
-        Line::Idle { peer } => put(out, LineForm::Idle, &[u64::from(*peer)], &[]),
+        } => put_three(out, b"d", *peer, *target, *vector),
+        Line::Interrupt { peer, vector } => put_two(out, b"i", *peer, *vector),
+        Line::Lost { peer, vector } => put_two(out, b"lost", *peer, *vector),
+        Line::Reset { peer } => put_one(out, b"x", *peer),
+        Line::Idle { peer } => put_one(out, b"idle", *peer),
         Line::ConfigRead {
             peer,
             offset,
             width,
             value,
-        } => put(
-            out,
-            LineForm::ConfigRead,
-            &[
-                u64::from(*peer),
-                u64::from(*offset),
-                u64::from(*width),
-                u64::from(*value),
-            ],
-            &[],
-        ),
+        } => put_four(out, b"cr", *peer, *offset, *width, *value),
         Line::ConfigWrite {
             peer,
             offset,
             width,
             value,
-        } => put(
-            out,
-            LineForm::ConfigWrite,
-            &[
-                u64::from(*peer),
-                u64::from(*offset),
-                u64::from(*width),
-                u64::from(*value),
-            ],
-            &[],
-        ),
+        } => put_four(out, b"cw", *peer, *offset, *width, *value),
         Line::RegisterRead {
             peer,
             offset,
             value,
-        } => put(
-            out,
-            LineForm::RegisterRead,
-            &[u64::from(*peer), u64::from(*offset), u64::from(*value)],
-            &[],
-        ),
+        } => put_three(out, b"mr", *peer, *offset, *value),
         Line::RegisterWrite {
             peer,
             offset,
             value,
-        } => put(
-            out,
-            LineForm::RegisterWrite,
-            &[u64::from(*peer), u64::from(*offset), u64::from(*value)],
-            &[],
-        ),
+        } => put_three(out, b"mw", *peer, *offset, *value),
         Line::MsixRead {
             peer,
             offset,
             value,
-        } => put(
-            out,
-            LineForm::MsixRead,
-            &[u64::from(*peer), u64::from(*offset), u64::from(*value)],
-            &[],
-        ),
+        } => put_three(out, b"tr", *peer, *offset, *value),
         Line::MsixWrite {
             peer,
             offset,
             value,
-        } => put(
-            out,
-            LineForm::MsixWrite,
-            &[u64::from(*peer), u64::from(*offset), u64::from(*value)],
-            &[],
-        ),
-        Line::Saw { peer, value } => put(
-            out,
-            LineForm::Saw,
-            &[u64::from(*peer), u64::from(*value)],
-            &[],
-        ),
-        Line::Reclaim { peer, count } => put(
-            out,
-            LineForm::Reclaim,
-            &[u64::from(*peer), u64::from(*count)],
-            &[],
-        ),
-        Line::Look { peer, count } => put(
-            out,
-            LineForm::Look,
-            &[u64::from(*peer), u64::from(*count)],
-            &[],
-        ),
-        Line::Full { peer } => put(out, LineForm::Full, &[u64::from(*peer)], &[]),
-        Line::Done { peer } => put(out, LineForm::Done, &[u64::from(*peer)], &[]),
-        Line::Over { peer } => put(out, LineForm::Over, &[u64::from(*peer)], &[]),
-        Line::Down { peer } => put(out, LineForm::Down, &[u64::from(*peer)], &[]),
-        Line::Accept { peer, frame } => put(
-            out,
-            LineForm::Accept,
-            &[u64::from(*peer)],
-            bytes_of(frame),
-        ),
-        Line::Deliver { peer, frame } => put(
-            out,
-            LineForm::Deliver,
-            &[u64::from(*peer)],
-            bytes_of(frame),
-        ),
-        Line::Return { peer } => put(out, LineForm::Return, &[u64::from(*peer)], &[]),
-        Line::Refuse { peer, refused } => put(
-            out,
-            refuse_form(refused.field),
-            &[u64::from(*peer), value_of(refused)],
-            &[],
-        ),
+        } => put_three(out, b"tw", *peer, *offset, *value),
+        Line::Saw { peer, value } => put_two(out, b"saw", *peer, *value),
+        Line::Reclaim { peer, count } => put_two(out, b"reclaim", *peer, *count),
+        Line::Look { peer, count } => put_two(out, b"look", *peer, *count),
+        Line::Full { peer } => put_one(out, b"full", *peer),
+        Line::Done { peer } => put_one(out, b"done", *peer),
+        Line::Over { peer } => put_one(out, b"over", *peer),
+        Line::Down { peer } => put_one(out, b"down", *peer),
+        Line::Accept { peer, frame } => put_with_bytes(out, b"accept", *peer, bytes_of(frame)),
+        Line::Deliver { peer, frame } => put_with_bytes(out, b"deliver", *peer, bytes_of(frame)),
+        Line::Return { peer } => put_one(out, b"return", *peer),
+        Line::Refuse { peer, refused } => {
+            let _value = value_of(refused);
+            put_refusal(out, *peer, refused)
+        }
         Line::Session {
             peer,
             opened,
             other,
-        } => put(
-            out,
-            LineForm::Session,
-            &[u64::from(*peer), u64::from(*opened), u64::from(*other)],
-            &[],
-        ),
+        } => put_three(out, b"session", *peer, *opened, *other),
     }
 }
 
@@ -258,7 +153,7 @@ fn put_record(out: &mut Vec<u8>, trace: &Trace) -> Result<(), AllocError>
     out.push(b'\n')?;
     put_scenario(out, &trace.scenario)?;
     put_history(out, lines)?;
-    put(out, LineForm::Count, &[lines.len() as u64], &[])?;
+    put(out, LineForm::Count, &[lines.len() as u64])?;
     Ok(())
 }
 

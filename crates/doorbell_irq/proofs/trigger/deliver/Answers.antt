@@ -1,8 +1,11 @@
-use Rattle.std.proofs.Common.{◌≡◌, ◌+◌, ◌≤◌, ◌++◌, ◌∙◌, sym, ap, arith}
+use Rattle.std.proofs.Common.{◌≡◌, ◌+◌, ◌≤◌, ◌++◌, ◌∙◌, length, refl, sym, ap, inl, inr, arith}
+use Rattle.std.proofs.lemmas.Bool.{cases_lt}
 use Rattle.std.proofs.lemmas.List.{append-nil}
 use Rattle.arrayvec.specs.ArrayVec.{ArrayVec, array_vec_len}
 use Rattle.doorbell_irq.specs.declared.effect.Delivery.{Delivery}
 use Rattle.doorbell_irq.specs.DeviceRules.{delivery_to}
+use Rattle.doorbell_irq.specs.Triggers.{delivery_among}
+use Rattle.doorbell_irq.proofs.Quiet.{quiet, no_more, stays}
 use Rattle.doorbell_irq.proofs.Rounds.{taken_more, left_more, came_more}
 use Rattle.doorbell_irq.proofs.trigger.deliver.Goals as goal
 use Rattle.doorbell_irq.proofs.trigger.deliver.Goals.{in-Some, in_default}
@@ -33,5 +36,25 @@ loop-peer-preserved c = record {
       c.loop-peer.invariant.left c.take-taken.new.self;
 }
 
+pub loop-peer-init : goal.loop-peer-init
+loop-peer-init c = record {
+  few = omega (arith, ap length c.new-deliveries.ensures);
+  came = c.new-deliveries.ensures ∙ no_more (delivery_among c.args.wiring c.args.trigger c.args.registers.now) 0 c.asked-first.result.0 (omega arith)
+      (λ p le lt. quiet c.args.wiring c.args.trigger c.args.registers.now p (c.asked-first.ensures.before p lt));
+  done = λ peer before after less. stays c.args.wiring c.args.trigger c.args.registers.now c.args.registers.now peer before after (c.asked-first.ensures.before peer less) refl;
+  left = λ peer le. refl;
+}
+
 pub returns-clause-takes : goal.returns-clause-takes
-returns-clause-takes c peer before after less = c.loop-peer.invariant.done peer before after (omega arith)
+returns-clause-takes c peer before after less =
+    elim (cases_lt peer c.loop-peer.peer) [
+      | inl below ↦ c.loop-peer.invariant.done peer before after below
+      | inr past ↦ stays c.args.wiring c.args.trigger c.args.registers.now c.loop-peer.registers peer before after
+          (c.asked-first.ensures.after peer (omega arith) less) (c.loop-peer.invariant.left peer past)
+    ]
+
+pub returns-clause-came : goal.returns-clause-came
+returns-clause-came c =
+    c.loop-peer.invariant.came
+    ∙ no_more (delivery_among c.args.wiring c.args.trigger c.args.registers.now) c.loop-peer.peer c.args.peers (omega arith)
+    (λ p le lt. quiet c.args.wiring c.args.trigger c.args.registers.now p (c.asked-first.ensures.after p (omega arith) lt))

@@ -1,0 +1,43 @@
+//! A record's text, put together part by part: what stands before the history, the lines of the history, and their count.
+ghost use Rattle.std.specs.Prelude.{◌≡◌, ◌++◌, OnOk, map, true};
+ghost use Rattle.scenario_text.specs.Spelling.{world_of};
+ghost use Rattle.lawful_history.specs.Versions.{is_version};
+ghost use Rattle.record_text.specs.Spelling.{AllFit};
+ghost use Rattle.record_text.specs.Growing.{front_text, history_text, count_text};
+
+use crate::forms::LineForm;
+use crate::printing::put_history_line;
+use crate::versions::first_line;
+use lawful_history::Line;
+use line_text::put_line;
+use scenario_text::{Scenario, put_scenario};
+use std::alloc::AllocError;
+
+/// Puts what stands before the history of a record of this version last: its first line and the scenario.
+pub fn put_front(out: &mut Vec<u8>, version: u32, scenario: &Scenario) -> Result<(), AllocError>
+    requires { is_version version ≡ true }
+    ensures { OnOk result (out.new.items ≡ out.old.items ++ front_text version (world_of scenario.now)) }
+{
+    out.extend_from_slice(first_line(version))?;
+    out.push(b'\n')?;
+    put_scenario(out, scenario)
+}
+
+/// Puts lines of a history last.
+pub fn put_lines(out: &mut Vec<u8>, lines: &[Line]) -> Result<(), AllocError>
+    ensures put { OnOk result (out.new.items ≡ out.old.items ++ history_text lines.now) }
+    ensures fits { OnOk result (AllFit lines.now) }
+{
+    for line in lines {
+        put_history_line(out, line)?;
+    }
+    Ok(())
+}
+
+/// Puts the line that says how many lines a history has last.
+#[tactic(auto, unfolding(line_text::specs::Rows::line_of_row))]
+pub fn put_count(out: &mut Vec<u8>, count: u64) -> Result<(), AllocError>
+    ensures { OnOk result (out.new.items ≡ out.old.items ++ count_text count) }
+{
+    put_line(out, LineForm::Count.slots(), &[count], &[])
+}

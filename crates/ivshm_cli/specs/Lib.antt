@@ -2,6 +2,7 @@ pub mod Exit
 pub mod Headline
 pub mod Configuration
 pub mod Load
+pub mod Counted
 pub mod Replay
 pub mod Capture
 pub mod Running

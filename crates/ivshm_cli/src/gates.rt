@@ -162,6 +162,37 @@ impl Gate for Assembly {
     fn ended(&self, _peer: u32) {}
 }
 
+/// Holds the first call of each of so many peers until all have called, and then peers 0 and 1 near each other.
+#[derive(Drop)]
+pub(crate) struct NearAssembly {
+    pub(crate) assembly: Assembly,
+    pub(crate) near: Near,
+}
+
+impl NearAssembly {
+    pub(crate) fn new(peers: u64, span: u64) -> Self {
+        NearAssembly {
+            assembly: Assembly::new(peers),
+            near: Near::new(span),
+        }
+    }
+}
+
+impl Gate for NearAssembly {
+    fn pass(&self, peer: u32, turn: u64) {
+        self.assembly.pass(peer, turn);
+        if peer < 2 {
+            self.near.pass(peer, turn);
+        }
+    }
+
+    fn ended(&self, peer: u32) {
+        if peer < 2 {
+            self.near.ended(peer);
+        }
+    }
+}
+
 /// Counts the calls of two peers, and those that come out of turn: another number than the next one, or a call after the end. It holds
 /// the peers near each other, so that neither spends its turns before the other has begun.
 #[derive(Drop)]

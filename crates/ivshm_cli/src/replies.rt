@@ -22,24 +22,24 @@ use crate::configuration::configuration;
 use crate::exit::Status;
 use crate::refusals::{Fault, refusal_line};
 use crate::runs::{Ran, RunReply, run};
-use crate::summary::summary;
+use crate::summary::{Counts, summary};
 use crate::verdicts::{difference_text, verdict_text};
 use crate::words::{Form, limit};
 use bridge_text::{BridgeFault, spelled_is_read};
 use frame_bridge::bridge;
 use ivs_base::{NoMemory, ReadEnd, Source, read_all};
-use lawful_history::one_history;
+use lawful_history::{one_history, records_tell_one_history};
 use peer_runner::Gate;
 use port_text::{PortsFault, printed_is_read_again};
-use record_text::{RecordFault, Trace, parse as parse_record, print};
+use record_text::{RecordFault, Trace, parse as parse_record};
 use sampling_port::ports;
 use scenario_text::{Scenario, ScenarioFault, load, parse};
 use section_dump::{DumpFault, dump};
-use sim_world::simulate;
+use sim_world::{play, simulate_text};
 use std::alloc::{AllocError, Global};
 use std::thread::Threads;
 use thiserror::Error;
-use trace_replay::{Verdict, replay};
+use trace_replay::{Verdict, replay, replay_text};
 
 /// A status and the text that is due with it, and what is left of peers that ran for it.
 #[derive(Drop)]
@@ -121,8 +121,7 @@ fn simulated(alloc: Global, bytes: &[u8]) -> Result<Vec<u8>, NoReply>
     ensures refused { (fault : Fault) → IsErrOf result (NoReply.Refused fault) → IsTextVerdict Form.Sim bytes.now (Some fault) }
 {
     let scenario = scenario_in(alloc, bytes)?;
-    let trace = simulate(alloc, scenario)?;
-    Ok(print(alloc, &trace)?)
+    Ok(simulate_text(alloc, &scenario)?)
 }
 
 /// The record that the bytes spell.
@@ -156,8 +155,11 @@ fn replayed(alloc: Global, bytes: &[u8]) -> Result<Reply, NoReply>
     ensures left { IfOk result (λ r. r.ran ≡ None) }
     ensures refused { (fault : Fault) → IsErrOf result (NoReply.Refused fault) → IsTextVerdict Form.Replay bytes.now (Some fault) }
 {
-    let trace = record_in(alloc, bytes)?;
-    let verdict = replay(alloc, &trace)?;
+    let verdict = match replay_text(alloc, bytes) {
+        Ok(verdict) => verdict,
+        Err(RecordFault::NoMemory) => return Err(NoReply::NoMemory),
+        Err(fault) => return Err(NoReply::Refused(Fault::Trace(fault))),
+    };
     let text = verdict_text(alloc, verdict)?;
     Ok(Reply {
         status: verdict_status(verdict),
@@ -176,10 +178,7 @@ fn renewed(alloc: Global, bytes: &[u8]) -> Result<Reply, NoReply>
     one_history();
     let trace = record_in(alloc, bytes)?;
     match replay(alloc, &trace)? {
-        Verdict::Same => {
-            let renewed = simulate(alloc, trace.scenario)?;
-            Ok(done(print(alloc, &renewed)?))
-        }
+        Verdict::Same => Ok(done(simulate_text(alloc, &trace.scenario)?)),
         Verdict::Differs(fault) => Ok(differs(difference_text(alloc, fault)?)),
     }
 }
@@ -261,9 +260,14 @@ fn loaded(alloc: Global, count: u32) -> Result<Vec<u8>, NoMemory>
     requires few { count ≤ 80000 }
     ensures { IfOk result (λ text. IsLoadOf count text.items) }
 {
+    records_tell_one_history();
     let scenario = load(alloc, count)?;
-    let trace = simulate(alloc, scenario)?;
-    Ok(summary(alloc, count, &trace)?)
+    let mut counts = Counts::none(&scenario);
+    match play(alloc, &scenario, 2, &mut counts) {
+        Ok(()) => {}
+        Err(_) => return Err(NoMemory),
+    }
+    Ok(summary(alloc, count, &counts)?)
 }
 
 /// The reply Done with this text.

@@ -1,6 +1,6 @@
 //! Running peers through the top call, under gates that hold them beside one another, judged by the record that is written.
 use super::{Ran, Status, ivshm};
-use crate::gates::{Assembly, Counter, Meeting, Near};
+use crate::gates::{Counter, Meeting, Near, NearAssembly};
 use crate::rows::{HONEST, HOSTILE};
 use crate::tests::owned;
 use ivs_base::{MemorySink, MemorySource};
@@ -230,11 +230,15 @@ fn eight(alloc: Global, wiring: &str, acts: &str) -> Result<String, AllocError> 
 fn eight_peers_run_at_once(rt: HostRuntime) -> Result<(), Fail> {
     let alloc = rt.alloc();
     let scenario = eight(alloc, "msix 2", "")?;
-    let gate = Assembly::new(8);
+    let gate = NearAssembly::new(8, 64);
     let told = run(&rt, alloc, scenario.as_str(), &gate)?;
-    assert!(rt; gate.was_passed());
+    assert!(rt; gate.assembly.was_passed() && !gate.near.is_spent());
     assert_eq!(rt; told.status, Status::Done);
     assert_eq!(rt; told.lines(b"turns 1000"), 6);
+    assert_eq!(rt; told.lines(b"finished"), 2);
+    for start in ["accept 0 ", "accept 1 ", "deliver 0 ", "deliver 1 "] {
+        assert_eq!(rt; told.count(start.as_bytes()), 5, "{start}");
+    }
     assert_eq!(rt; told.count(b"refuse "), 0);
     assert_eq!(rt; told.count(b"i "), 0);
     Ok(())

@@ -1,65 +1,89 @@
 //! The text of a load: what its history counts.
 
-ghost use Rattle.std.specs.Prelude.{◌≡◌, ◌++◌, IfOk, OnOk, count_by, string_bytes};
+ghost use Rattle.std.specs.Prelude.{◌≡◌, ◌+◌, ◌++◌, IfOk, OnOk, string_bytes};
 ghost use Rattle.lawful_history.specs.Sides.{world_of};
-ghost use Rattle.ivshm_cli.specs.Load.{is_accept, is_deliver, is_refuse, written_to, last_written, index_word, number_line, summary_of};
+ghost use Rattle.ivshm_cli.specs.Load.{index_word, number_line};
+ghost use Rattle.ivshm_cli.specs.Counted.{HasCounted, with_line, lines_of_counts, none_of};
 
 use lawful_history::Line;
-use record_text::Trace;
 use scenario_text::Scenario;
+use sim_world::{Listener, Stopped};
 use std::alloc::{AllocError, Global};
 
-/// How many frames were published.
-fn accepted(history: &[Line]) -> usize
-    ensures { result ≡ count_by is_accept history.now }
-{
-    history
-        .iter()
-        .filter(|line| matches!(line, Line::Accept { .. }))
-        .count()
+/// What was counted of a history, and what peer 0 wrote last to a word.
+#[derive(Drop)]
+pub(crate) struct Counts {
+    /// The word.
+    pub(crate) word: u32,
+    /// How many frames were published.
+    pub(crate) accepted: usize,
+    /// How many frames were read whole.
+    pub(crate) delivered: usize,
+    /// How many values were refused.
+    pub(crate) refused: usize,
+    /// What peer 0 wrote to the word last, 0 where nothing.
+    pub(crate) last: u32,
 }
 
-/// How many frames were read whole.
-fn delivered(history: &[Line]) -> usize
-    ensures { result ≡ count_by is_deliver history.now }
+/// One more. More lines than a usize counts can't be held.
+fn one_more(count: usize) -> Result<usize, Stopped>
+    ensures { IfOk result (λ more. more ≡ count + 1) }
 {
-    history
-        .iter()
-        .filter(|line| matches!(line, Line::Deliver { .. }))
-        .count()
-}
-
-/// How many values were refused.
-fn refused(history: &[Line]) -> usize
-    ensures { result ≡ count_by is_refuse history.now }
-{
-    history
-        .iter()
-        .filter(|line| matches!(line, Line::Refuse { .. }))
-        .count()
-}
-
-/// What peer 0 wrote to the word, where the line says so.
-fn written_to(word: u32, line: &Line) -> Option<u32>
-    ensures { result ≡ written_to word line.now }
-{
-    match line {
-        Line::Write {
-            peer: 0,
-            word: at,
-            value,
-        } if *at == word => Some(*value),
-        _ => None,
+    match count.checked_add(1) {
+        Some(more) => Ok(more),
+        None => Err(Stopped::NoMemory),
     }
 }
 
-/// What peer 0 wrote to the word last, 0 where nothing.
-fn last_written(word: u32, history: &[Line]) -> u32
-    ensures { result ≡ last_written word history.now }
-{
-    history
-        .iter()
-        .fold(0, |last, line| written_to(word, line).unwrap_or(last))
+impl Counts {
+    /// Nothing was counted of the history of this scenario.
+    pub(crate) fn none(scenario: &Scenario) -> Counts
+        ensures { result ≡ none_of (world_of scenario.now) }
+    {
+        Counts {
+            word: index_word(scenario),
+            accepted: 0,
+            delivered: 0,
+            refused: 0,
+            last: 0,
+        }
+    }
+
+    /// Counts a line.
+    fn count(&mut self, line: &Line) -> Result<(), Stopped>
+        ensures { OnOk result (self.new ≡ with_line self.old line.now) }
+    {
+        match line {
+            Line::Accept { .. } => self.accepted = one_more(self.accepted)?,
+            Line::Deliver { .. } => self.delivered = one_more(self.delivered)?,
+            Line::Refuse { .. } => self.refused = one_more(self.refused)?,
+            Line::Write {
+                peer: 0,
+                word,
+                value,
+            } if *word == self.word => self.last = *value,
+            _ => {}
+        }
+        Ok(())
+    }
+
+    /// Counts lines.
+    fn count_all(&mut self, lines: &[Line]) -> Result<(), Stopped>
+        ensures { OnOk result (HasCounted self.old self.new lines.now) }
+    {
+        for line in lines {
+            self.count(line)?;
+        }
+        Ok(())
+    }
+}
+
+impl Listener for Counts {
+    ghost heard = { HasCounted };
+
+    fn hear(&mut self, lines: &[Line]) -> Result<(), Stopped> {
+        self.count_all(lines)
+    }
 }
 
 /// The word with the flags and the index of peer 0's available ring.
@@ -77,17 +101,16 @@ fn put_number(text: &mut String, name: &str, number: usize) -> Result<(), AllocE
     writeln!(text, "{name} {number}")
 }
 
-/// The five lines of a load of so many frames, which count this history of it.
-pub(crate) fn summary(alloc: Global, count: u32, trace: &Trace) -> Result<Vec<u8>, AllocError>
-    ensures { IfOk result (λ text. text.items ≡ summary_of count (world_of trace.now.scenario) trace.now.lines) }
+/// The five lines of a load of so many frames, of whose history this was counted.
+pub(crate) fn summary(alloc: Global, count: u32, counts: &Counts) -> Result<Vec<u8>, AllocError>
+    ensures { IfOk result (λ text. text.items ≡ lines_of_counts count counts.now) }
 {
-    let history = trace.lines.items();
-    let index = last_written(index_word(&trace.scenario), history) >> 16;
+    let index = counts.last >> 16;
     let mut text = String::new(alloc);
     put_number(&mut text, "load", count as usize)?;
-    put_number(&mut text, "accepted", accepted(history))?;
-    put_number(&mut text, "delivered", delivered(history))?;
-    put_number(&mut text, "refused", refused(history))?;
+    put_number(&mut text, "accepted", counts.accepted)?;
+    put_number(&mut text, "delivered", counts.delivered)?;
+    put_number(&mut text, "refused", counts.refused)?;
     put_number(&mut text, "index", index as usize)?;
     Ok(text.into_bytes())
 }

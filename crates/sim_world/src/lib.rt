@@ -1,6 +1,7 @@
 //! The simulation: the lawful history of a scenario, made act by act on a stage. It stands on `stage` for the stage, and on
-//! `record_text` for the trace that it makes. The contract of `simulate` promises what a record of version 2 tells of the
-//! one lawful history of its scenario, whatever its acts are.
+//! `record_text` for the trace and the text that it makes. The contract of `simulate` promises what a record of version 2 tells of the
+//! one lawful history of its scenario, whatever its acts are. That of `simulate_text` promises the text of this record, made without
+//! the history in memory, and that of `play` that a listener hears the same lines part by part.
 #![tactic(auto)]
 
 ghost use Rattle.std.specs.Prelude.{◌≡◌, IfOk};
@@ -9,15 +10,21 @@ ghost use Rattle.lawful_history.specs.Sessions.{told_in};
 ghost use Rattle.lawful_history.specs.Lawful.{IsLawfulIn};
 ghost use Rattle.lawful_history.specs.History.{history};
 
+mod laws;
+mod playing;
+mod telling;
 #[cfg(test)]
 mod tests;
 
 use ivs_base::NoMemory;
 use lawful_history::history_is_lawful;
+pub use laws::writes_alike;
+pub use playing::{Listener, Stopped, play};
 use record_text::Trace;
 use scenario_text::{Act, Scenario};
 use stage::Stage;
 use std::alloc::Global;
+pub use telling::simulate_text;
 
 /// The version of the records that are made.
 const VERSION: u32 = 2;

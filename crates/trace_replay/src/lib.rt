@@ -1,18 +1,27 @@
 //! The check of a record: is its history the lawful one, and if not, which line is the first that differs, and which law
-//! does it break? It stands on `link_model` for the run that takes a history line by line, and on `record_text` for
-//! records; it simulates nothing. The contract of `replay` promises the verdict of `specs/Verdict`.
+//! does it break? It stands on `link_model` for the run that takes a history line by line, on `sim_world` for the lawful history that is
+//! played beside a text, and on `record_text` for records. The contracts of `replay` and of `replay_text` promise the verdict of
+//! `specs/Verdict`.
 #![tactic(auto)]
 
-ghost use Rattle.std.specs.Prelude.{IfOk};
+ghost use Rattle.std.specs.Prelude.{IfOk, IfErr};
 ghost use Rattle.scenario_text.specs.Spelling.{world_of};
+ghost use Rattle.record_text.specs.Judge.{answer};
+ghost use Rattle.record_text.specs.Answers.{Refuses};
+ghost use Rattle.trace_replay.specs.Texts.{IsVerdictOfText};
 ghost use Rattle.trace_replay.specs.Verdict.{IsVerdict};
 
+mod matching;
+#[cfg(test)]
+mod tests;
 mod verdict;
 
 use ivs_base::NoMemory;
+use lawful_history::records_tell_one_history;
 use link_model::{Run, StepFault};
 pub use link_model::{Law, Unlawful};
-use record_text::Trace;
+pub use matching::is_lawful_text;
+use record_text::{RecordFault, Trace, parse};
 use std::alloc::Global;
 pub use verdict::Verdict;
 
@@ -34,5 +43,28 @@ pub fn replay(alloc: Global, trace: &Trace) -> Result<Verdict, NoMemory>
     match run.close() {
         Ok(()) => Ok(Verdict::Same),
         Err(fault) => Ok(Verdict::Differs(fault)),
+    }
+}
+
+/// Whether the history of the record that the text spells is what a record of its version tells of the lawful one; or the first fault of the
+/// text. NoMemory comes only where memory ran out. The lawful history is played once and held to the text; the lines are read only where the
+/// two differ.
+pub fn replay_text(alloc: Global, bytes: &[u8]) -> Result<Verdict, RecordFault>
+    ensures verdict { IfOk result (IsVerdictOfText bytes.now) }
+    ensures refused { IfErr result (λ fault. Refuses fault (answer bytes.now)) }
+{
+    records_tell_one_history();
+    match is_lawful_text(alloc, bytes) {
+        Ok(true) => return Ok(Verdict::Same),
+        Ok(false) => {}
+        Err(_) => return Err(RecordFault::NoMemory),
+    }
+    let trace = match parse(alloc, bytes) {
+        Ok(trace) => trace,
+        Err(fault) => return Err(fault),
+    };
+    match replay(alloc, &trace) {
+        Ok(verdict) => Ok(verdict),
+        Err(_) => Err(RecordFault::NoMemory),
     }
 }

@@ -1,10 +1,10 @@
-use Rattle.std.proofs.Common.{ℕ, List, ◌≡◌, ◌∙◌, sym, ap, subst, Ok}
-use Rattle.scenario_text.specs.declared.scenarios.Scenario.{Scenario}
+use Rattle.std.proofs.Common.{List, ◌≡◌, ◌∙◌, sym, ap, subst, Ok}
 use Rattle.scenario_text.specs.Spelling.{world_of}
 use Rattle.lawful_history.specs.declared.line.Line.{Line}
 use Rattle.lawful_history.specs.Sessions.{told_in}
 use Rattle.lawful_history.specs.Lawful.{IsLawfulIn}
-use Rattle.record_text.specs.Spelling.{Record, record_of, spelling}
+use Rattle.record_text.specs.Spelling.{Record, spelling}
+use Rattle.sim_world.specs.Telling.{lawful_record}
 use Rattle.trace_replay.specs.declared.verdict.Verdict.{Verdict}
 use Rattle.trace_replay.specs.Verdict.{IsVerdict}
 use Rattle.ivshm_cli.specs.declared.words.Form.TheVariants.{Renew}
@@ -13,28 +13,25 @@ use Rattle.ivshm_cli.specs.Replay.{Spells, IsRenewed}
 use Rattle.ivshm_cli.specs.Forms.{Replies}
 use Rattle.ivshm_cli.proofs.replies.renewed.Goals as goal
 
-pub returns-in_ok-print-in-Same-clause-verdict : goal.returns-in_ok-print-in-Same-clause-verdict
-returns-in_ok-print-in-Same-clause-verdict c =
+pub returns-in-Same-clause-verdict : goal.returns-in-Same-clause-verdict
+returns-in-Same-clause-verdict c =
     let bytes = c.args.bytes.now in
     let trace = c.in_ok-trace.trace in
-    let new = c.in_ok-renewed-in-Same.renewed in
-    let text = c.in_ok-print-in-Same.field-0.items in
+    let text = c.in_ok-simulate_text-in-Same.field-0.items in
     let world = world_of trace.scenario in
     let told : IsLawfulIn world trace.version trace.lines = subst (λ (v : Verdict). IsVerdict world trace.version trace.lines v) c.in-Same.is c.in_ok-replay.ensures in
-    let again : IsLawfulIn world 2 new.lines = c.in_ok-renewed-in-Same.ensures.lawful in
-    let lines : new.lines ≡ told_in world 2 told.0 =
+    let again : IsLawfulIn world 2 (lawful_record 2 world).lines = c.in_ok-simulate_text-in-Same.ensures.lawful in
+    let lines : (lawful_record 2 world).lines ≡ told_in world 2 told.0 =
     again.2 ∙ ap (told_in world 2) (sym (c.one_history.ensures world told.0 again.0 told.1 again.1)) in
-    let is : record_of new ≡ record { version = 2; world = world; lines = told_in world 2 told.0 } =
-    ap (λ (n : ℕ). record { version = n; world = world_of new.scenario; lines = new.lines }) c.in_ok-renewed-in-Same.ensures.version
-    ∙ (ap (λ (s : Scenario). record { version = 2; world = world_of s; lines = new.lines }) c.in_ok-renewed-in-Same.ensures.scenario
-    ∙ ap (λ (ls : List Line). record { version = 2; world = world; lines = ls }) lines) in
+    let is : lawful_record 2 world ≡ record { version = 2; world = world; lines = told_in world 2 told.0 } =
+    ap (λ (ls : List Line). record { version = 2; world = world; lines = ls }) lines in
     let renewed : IsRenewed bytes text = record {
       world = world;
       version = trace.version;
       history = told.0;
       spelled = subst (λ (ls : List Line). Spells bytes world trace.version ls) told.2 c.in_ok-trace.ensures.spelled;
       lawful = told.1;
-      printed = c.in_ok-print-in-Same.ensures.text ∙ ap spelling is;
-      again = c.in_ok-print-in-Same.ensures.again ∙ ap (λ (r : Record). Ok r) is;
+      printed = c.in_ok-simulate_text-in-Same.ensures.spelled.1 ∙ ap spelling is;
+      again = c.in_ok-simulate_text-in-Same.ensures.again ∙ ap (λ (r : Record). Ok r) is;
     } in
     subst (λ (r : Reply). Replies Renew bytes r.status r.text.items) (sym c.done.ensures) renewed

@@ -20,9 +20,10 @@ use Rattle.lawful_history.specs.Peers.{Auto, Driver, Chooses, Peer, with_choice,
 use Rattle.stage.specs.declared.link.Waiting.{Waiting}
 use Rattle.stage.specs.declared.link.Waiting.TheVariants as waiting
 use Rattle.stage.specs.declared.link.Link.{Link}
-use Rattle.stage.specs.Seats.{call_of, IsPlanOf, DriverIs, LinkStands, IsOffered, MayWait, PlanFits, LinkFits}
+use Rattle.step_lines.specs.Plans.{IsPlanOf}
+use Rattle.stage.specs.Seats.{call_of, DriverIs, LinkStands, IsOffered, MayWait, PlanFits, LinkFits}
 use Rattle.stage.proofs.Openings.{waiting_opened}
-use Rattle.stage.proofs.Framing.{first_frames}
+use Rattle.step_lines.proofs.Framing.{first_frames}
 
 -- a call that was opened
 pub opens_as : PlacesFollowTrees → (who : Who) (peer : Peer) (end : Engine) (call : calls.Call) (waiting : List Waiting) (waits : List calls.Call) (plan : Option Plan) (driver : Driver) →

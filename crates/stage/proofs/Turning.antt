@@ -33,11 +33,13 @@ use Rattle.stage.specs.Scene.{SceneAfter, IsRemark, CanPerform, GaveLast, access
 use Rattle.stage.specs.declared.scene.Scene.{Scene}
 use Rattle.stage.specs.declared.link.Link.{Link}
 use Rattle.stage.specs.declared.link.Waiting.TheVariants as waiting
-use Rattle.lawful_history.specs.Storm.{next_number, draw, drawn_access, storm_step, storm_after}
-use Rattle.lawful_history.proofs.Exists.{ring_words, storm_does}
-use Rattle.stage.specs.Seats.{call_of, IsPlanOf, DriverIs, LinkStands, SitsBy, IsPlaced}
+use Rattle.lawful_history.specs.Storm.{storm_step, storm_after}
+use Rattle.step_lines.specs.Plans.{IsPlanOf}
+use Rattle.step_lines.specs.Storms.{IsDrawn, DrawsIn}
+use Rattle.step_lines.proofs.Framing.{marks_frames, next_frames}
+use Rattle.step_lines.proofs.Marks.{marks_now}
+use Rattle.stage.specs.Seats.{call_of, DriverIs, LinkStands, SitsBy, IsPlaced}
 use Rattle.stage.proofs.AtPlaces.{rings_other}
-use Rattle.stage.proofs.Framing.{marks_after, marks_frames, next_frames}
 use Rattle.stage.proofs.Steps.{lines_are, step_taken}
 use Rattle.stage.proofs.Openings.{shut_left}
 
@@ -81,57 +83,7 @@ one_note me one other notes i note past inside is =
     ∙ ap (λ ls. reverse ls ++ past) (map-append (mark_line me) (marks_between one other (take i notes)) (mark_between one other note ∷ []))
     ∙ ap (λ ls. ls ++ past) (reverse-append first (f note ∷ []))
 
--- one count more
-counted-snoc : (auto : Auto) (marks : List Mark) (mark : Mark) → counted_all auto (marks ++ mark ∷ []) ≡ counted (counted_all auto marks) mark
-counted-snoc auto [] mark = refl
-counted-snoc auto (x ∷ marks) mark = counted-snoc (counted auto x) marks mark
-
-pub one_count : (auto : Auto) (one other : List ℕ) (notes : List Note) (i : ℕ) (note : Note) → i < length notes → note ≡ get_or notes i note →
-    counted_all auto (marks_between one other (take (i + 1) notes)) ≡ counted (counted_all auto (marks_between one other (take i notes))) (mark_between one other note)
-one_count auto one other notes i note inside is =
-    let taken : take (i + 1) notes ≡ take i notes ++ note ∷ [] = take_more notes i note inside ∙ ap (λ (n : Note). take i notes ++ n ∷ []) (sym is) in
-    ap (λ ns. counted_all auto (marks_between one other ns)) taken ∙ ap (λ ms. counted_all auto ms) (map-append (mark_between one other) (take i notes) (note ∷ []))
-    ∙ counted-snoc auto (marks_between one other (take i notes)) (mark_between one other note)
-
--- the plan after the accepted head, or where there is none
-pub head_gone : (plan new : Plan) (auto : Auto) (frame : List ℕ) → IsPlanOf plan auto → plan.frames ≡ frame ∷ new.frames → new ≡ record plan { frames = new.frames } → IsPlanOf new (record auto { frames = drop 1 auto.frames })
-head_gone plan new auto frame is head kept =
-    let frames : new.frames ≡ drop 1 auto.frames = ap (λ fs. drop 1 fs) (sym head) ∙ ap (λ fs. drop 1 fs) is.frames in
-    record {
-      frames = frames;
-      expected = ap (λ (p : Plan). p.expected) kept ∙ is.expected;
-      delivered = rw kept is.delivered;
-      round = ap (λ (p : Plan). p.round) kept ∙ is.round;
-    }
-
-pub no_head_gone : (plan : Plan) (auto : Auto) → IsPlanOf plan auto → plan.frames ≡ [] → IsPlanOf plan (record auto { frames = drop 1 auto.frames })
-no_head_gone plan auto is none =
-    let frames : auto.frames ≡ [] = sym is.frames ∙ none in
-    record { frames = none ∙ ap (λ fs. drop 1 fs) (sym frames); expected = is.expected; delivered = is.delivered; round = is.round }
-
 -- The next step
-
-goes_open : (place : Place) → goes_on place ≡ true → true ≡ is_open place
-goes_open Closed is = absurd (cc)
-goes_open places.Refusing is = absurd (cc)
-goes_open _ is = refl
-
-open_at : (at : ends.Place) (e : Engine) (who : Who) (end : End) (place : Place) → IsAt at e who end place → is_open_at at ≡ is_open place
-open_at seats.Closed e who end place is = ap is_open (sym is.0)
-open_at seats.Looking e who end place is = ap is_open (sym is.0)
-open_at (seats.Clearing at state) e who end place is = ap is_open (sym is.0)
-open_at (seats.Setting state) e who end place is = ap is_open (sym is.0)
-open_at seats.Refusing e who end place is = ap is_open (sym is.0)
-open_at seats.Downed e who end place is = ap is_open (sym is.0)
-open_at seats.Offering e who end place is = goes_open place is.0
-open_at seats.Polling e who end place is = goes_open place is.0
-
--- an endpoint is busy where a call is open
-pub busy_is : (e : Engine) (who : Who) (end : End) (place : Place) → StandsAt e who end place → is_busy e ≡ is_open place
-busy_is e who end place stands = open_at e.place e who end place stands.at
-
-pub busy_next : (e e' : Engine) (value : ℕ) (notes : List Note) (who : Who) (end : End) (place : Place) → Takes e value notes e' → StandsAt e who end place → is_busy e' ≡ is_open (next_place who place value)
-busy_next e e' value notes who end place took stands = busy_is e' who (end_after end (step_at who place value)) (next_place who place value) (took.stands who end place stands)
 
 section_fits : (other peers out : ℕ) → other < peers → other * out + out ≤ peers * out
 section_fits other peers out below = let h : (other + 1) * out ≤ peers * out = mul-le-mul_right out (omega arith) in omega arith
@@ -159,11 +111,6 @@ can scene me who access.Nothing placed reach rings = tt
 
 pub rings_of : (who : Who) (place : Place) (a : Access) → a ≡ access_at who place → (t v : ℕ) → a ≡ access.Ring t v → (t ≡ who.other) × (v ≡ who.vector)
 rings_of who place a is t v rings = rings_other who place t v (sym is ∙ rings)
-
--- the marks of the step after it
-pub marks_now : (e e' : Engine) (value : ℕ) (notes : List Note) (who : Who) (end : End) (place : Place) → Takes e value notes e' → StandsAt e who end place → is_busy e' ≡ is_open (next_place who place value) →
-    marks_between (offered e') (delivered e') notes ≡ marks_at who place value
-marks_now e e' value notes who end place took stands busy = marks_after who place value (offered e) (offered e') (delivered e') notes (is_busy e') (took.marked who end place stands) busy took.offered
 
 pub frames_now : (me : ℕ) (e e' : Engine) (value : ℕ) (notes : List Note) (who : Who) (peer : Peer) (link : Link) (stands : LinkStands who peer link) → Takes link.end value notes e' → is_busy e' ≡ is_open (next_place who stands.place value) →
     HaveFrames (map (mark_line me) (marks_between (offered e') (delivered e') notes))
@@ -285,27 +232,19 @@ storm_turn world output past losses me x next peer scene sits next_is after =
       subst (λ (p : Peer). SitsBy (Storms next) p) (sym turned_is) (record { left = sits.left; waiting = sits.waiting; driver = ap Storms (sym next_is) }),
     )
 
--- what three draws do is no read, and nothing is given by it
-draws_nothing : (world : World) (p kind place value v : ℕ) → IsWorld world → value_given (drawn_access world p kind place value) v ≡ value_given (drawn_access world p kind place value) 0
-draws_nothing world p kind place value v is =
-    let ring = ring_words world.queue is.queue in
-    let least = ring.0 in
-    let most = ring.1 in
-    let out = is.out in
-    let page = is.geometry.out_page in
-    storm_does world p kind place value _ _ _ refl refl refl (omega arith) (omega arith) (omega arith) (λ (a : Access). value_given a v ≡ value_given a 0) (λ word low high. refl) (λ state. refl) (λ target vector. refl)
+-- nothing is given by what a storm does
+draws_nothing : (world : World) (p v : ℕ) (a : Access) → IsDrawn world p a → value_given a v ≡ value_given a 0
+draws_nothing world p v (access.Write word value) is = refl
+draws_nothing world p v (access.State state) is = refl
+draws_nothing world p v (access.Ring target vector) is = refl
+draws_nothing world p v (access.Read word) is = elim is [ ]
+draws_nothing world p v access.Nothing is = elim is [ ]
 
 -- the step of a storm that was performed
-pub storm_performed : (world : World) (output : Output) (past : List Line) (losses : ℕ → ℕ) (me x : ℕ) (scene : Scene) (a : Access) (value : ℕ) → IsWorld world →
-    a ≡ drawn_access world me (draw (next_number x)) (draw (next_number (next_number x))) (draw (next_number (next_number (next_number x)))) →
+pub storm_performed : (world : World) (output : Output) (past : List Line) (losses : ℕ → ℕ) (me x : ℕ) (scene : Scene) (a : Access) (value : ℕ) → DrawsIn world me (storm_step world me x) a →
     SceneAfter world output (reverse (accessed world past losses me a value) ++ past) losses scene →
     SceneAfter world output (reverse (turn_lines me (Some (storm_step world me x)) (step_interrupts world past losses me (Some (storm_step world me x)))) ++ past) losses scene
-storm_performed world output past losses me x scene a value is a_is after =
-    let kind = draw (next_number x) in
-    let place = draw (next_number (next_number x)) in
-    let drawn = draw (next_number (next_number (next_number x))) in
-    let access_is = drawn_access world me kind place drawn in
-    let step_is : step_of a value [] ≡ storm_step world me x =
-    ap (λ (b : Access). step_of b value []) a_is ∙ ap (λ v. record { access = access_is; value = v; marks = [] }) (draws_nothing world me kind place drawn value is) in
+storm_performed world output past losses me x scene a value draws after =
+    let step_is : step_of a value [] ≡ storm_step world me x = ap (λ v. record { access = a; value = v; marks = [] }) (draws_nothing world me value a draws.drawn) ∙ sym draws.is in
     subst (λ (s : Step). SceneAfter world output (reverse (turn_lines me (Some s) (step_interrupts world past losses me (Some s))) ++ past) losses scene) step_is
     (subst (λ (ls : List Line). SceneAfter world output ls losses scene) (lines_are world past losses me a value []) after)

@@ -5,11 +5,12 @@ use Rattle.scenario_text.specs.Scenario.{World, IsWorld}
 use Rattle.call_grammar.specs.Trees.{Ended}
 use Rattle.call_grammar.specs.Calls.{Who}
 use Rattle.call_grammar.specs.Calls as calls
-use Rattle.call_grammar.specs.Places as places
 use Rattle.call_grammar.specs.Places.{Place, remaining}
 use Rattle.link_endpoint.specs.Stands.{StandsAt}
-use Rattle.link_endpoint.specs.Plan.{Plan, HasCounted}
+use Rattle.link_endpoint.specs.Plan.{Plan}
 use Rattle.lawful_history.specs.Peers.{Auto, Driver, Waits, Chooses, Storms, Peer}
+use Rattle.step_lines.specs.Plans.{IsPlanOf}
+use Rattle.step_lines.specs.Places.{HasFrames}
 use Rattle.stage.specs.declared.link.Waiting.{Waiting}
 use Rattle.stage.specs.declared.link.Waiting.TheVariants.{Tick, Poll, Stop, Offer}
 use Rattle.stage.specs.declared.link.Link.{Link}
@@ -24,32 +25,10 @@ call_of Poll = calls.Poll
 call_of Stop = calls.Stop
 call_of (Offer frame) = calls.Offer frame
 
--- a plan is that of an automatic peer; its deliveries are counted up to the number expected
-pub record IsPlanOf (plan : Plan) (auto : Auto) : Type 0 where
-  pub frames : plan.frames ≡ auto.frames
-  pub expected : plan.expected ≡ auto.expected
-  pub delivered : HasCounted plan auto.delivered
-  pub round : plan.round ≡ auto.round
-
 -- an end with a plan is an automatic peer, and one without waits for its calls
 abbrev pub DriverIs : Option Plan → Driver → Type 0
 DriverIs None driver = driver ≡ Waits
 DriverIs (Some plan) driver = (auto : Auto) × (driver ≡ Chooses auto) × IsPlanOf plan auto
-
--- the frames that a call has at a place have 14 bytes at least
-abbrev pub HasFrames : Place → Type 0
-HasFrames (places.AtUsedIndex job freed) = 14 ≤ length job.frame
-HasFrames (places.AtUsedId job freed more) = 14 ≤ length job.frame
-HasFrames (places.Filling job at more) = 14 ≤ length job.frame
-HasFrames (places.WritingLow job) = 14 ≤ length job.frame
-HasFrames (places.WritingHigh job) = 14 ≤ length job.frame
-HasFrames (places.WritingLength job) = 14 ≤ length job.frame
-HasFrames (places.WritingFlags job) = 14 ≤ length job.frame
-HasFrames (places.WritingEntry job) = 14 ≤ length job.frame
-HasFrames (places.WritingIndex job) = 14 ≤ length job.frame
-HasFrames (places.AtFlags number more entry address bytes) = 14 ≤ bytes
-HasFrames (places.AtWord number more entry address bytes read words) = 14 ≤ bytes
-HasFrames _ = Unit {0}
 
 -- the link stands where this peer of the history is: its end, what is left of its open call, the calls that wait, and its driver
 pub record LinkStands (who : Who) (peer : Peer) (link : Link) : Type 0 where

@@ -1,5 +1,5 @@
 //! An honest end of the link, the calls that wait for it, and its turns.
-ghost use Rattle.std.specs.Prelude.{◌≡◌, ℕ, ◌<◌, List, [], ◌∷◌, ◌++◌, true, false, All, OnOk, IfOk, MatchOption, reverse, map, None};
+ghost use Rattle.std.specs.Prelude.{◌≡◌, ℕ, ◌<◌, List, [], ◌∷◌, ◌++◌, true, false, All, OnOk, MatchOption, reverse, map, None};
 ghost use Rattle.scenario_text.specs.Scenario.{World};
 ghost use Rattle.call_grammar.specs.Steps.{step_of};
 ghost use Rattle.call_grammar.specs.Ends.{End};
@@ -7,8 +7,7 @@ ghost use Rattle.call_grammar.specs.Calls.{Who};
 ghost use Rattle.call_grammar.specs.Places as places;
 ghost use Rattle.lawful_history.specs.Sides.{who_of};
 ghost use Rattle.lawful_history.specs.Entries.{mark_line, turn_lines};
-ghost use Rattle.lawful_history.specs.Peers.{Peer, asked, automated, was_reset, chosen, opened, counted, counted_all};
-ghost use Rattle.lawful_history.specs.Peers as peers;
+ghost use Rattle.lawful_history.specs.Peers.{Peer, asked, automated, was_reset, chosen, opened};
 ghost use Rattle.lawful_history.specs.Device.{step_interrupts};
 ghost use Rattle.lawful_history.specs.History.{turn_step, turned, step_by, moved};
 ghost use Rattle.link_endpoint.specs.Engine.{is_busy, offered, delivered};
@@ -16,7 +15,7 @@ ghost use Rattle.link_endpoint.specs.Stands.{StandsAt, mark_between, marks_betwe
 ghost use Rattle.lawful_history.specs.Frames.{has_frame, HaveFrames};
 ghost use Rattle.stage.specs.Log.{Output};
 ghost use Rattle.stage.specs.Scene.{SceneAfter, IsSeated};
-ghost use Rattle.stage.specs.Seats.{call_of, IsPlanOf, LinkStands, MayWait, LinkFits, IsPlaced};
+ghost use Rattle.stage.specs.Seats.{call_of, LinkStands, MayWait, LinkFits, IsPlaced};
 
 use crate::scene::Scene;
 use call_grammar::places_follow_trees;
@@ -26,6 +25,7 @@ use link_endpoint::{Auto, Call, Choice, Endpoint};
 use split_ring::steps::Note;
 use std::alloc::Global;
 use std::collections::VecDeque;
+use step_lines::{count_notes, line_of};
 
 /// A call that waits.
 #[derive(Debug, Drop)]
@@ -109,31 +109,6 @@ fn open_next(link: &mut Link)
     }
 }
 
-/// The line of a note.
-fn line_of(alloc: Global, me: u32, end: &Endpoint, note: Note) -> Result<Line, NoMemory>
-    ensures { IfOk result (λ line. line ≡ mark_line me (mark_between (offered end.now) (delivered end.now) note)) }
-{
-    Ok(match note {
-        Note::Saw(value) => Line::Saw { peer: me, value },
-        Note::Reclaim(count) => Line::Reclaim { peer: me, count },
-        Note::Full => Line::Full { peer: me },
-        Note::Accept => Line::Accept {
-            peer: me,
-            frame: Frame::of(alloc, end.offered())?,
-        },
-        Note::Look(count) => Line::Look { peer: me, count },
-        Note::Deliver => Line::Deliver {
-            peer: me,
-            frame: Frame::of(alloc, end.delivered())?,
-        },
-        Note::Return => Line::Return { peer: me },
-        Note::Done => Line::Done { peer: me },
-        Note::Down => Line::Down { peer: me },
-        Note::Refuse(refused) => Line::Refuse { peer: me, refused },
-        Note::Over => Line::Over { peer: me },
-    })
-}
-
 /// Tells a note.
 fn tell_note(
     alloc: Global,
@@ -168,38 +143,6 @@ fn tell_notes(
         tell_note(alloc, me, end, note, scene)?;
     }
     Ok(())
-}
-
-/// Tells an automatic peer of one note.
-fn count_note(auto: &mut Auto, note: &Note)
-    ensures { (plan : peers.Auto) (one other : List ℕ) → IsPlanOf auto.old plan → IsPlanOf auto.new (counted plan (mark_between one other note.now)) }
-{
-    match note {
-        Note::Accept => {
-            if auto.head().is_some() {
-                auto.accepted();
-            }
-        }
-        Note::Deliver => auto.delivered(),
-        Note::Saw(_)
-        | Note::Reclaim(_)
-        | Note::Full
-        | Note::Look(_)
-        | Note::Return
-        | Note::Done
-        | Note::Down
-        | Note::Refuse(_)
-        | Note::Over => {}
-    }
-}
-
-/// Tells an automatic peer of the frames that were accepted and delivered.
-fn count_notes(auto: &mut Auto, notes: &[Note])
-    ensures { (plan : peers.Auto) (one other : List ℕ) → IsPlanOf auto.old plan → IsPlanOf auto.new (counted_all plan (marks_between one other notes.now)) }
-{
-    for note in notes {
-        count_note(auto, note);
-    }
 }
 
 /// The next step of the open call.

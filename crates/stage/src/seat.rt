@@ -3,7 +3,7 @@ ghost use Rattle.std.specs.Prelude.{◌≡◌, ℕ, ◌+◌, ◌*◌, ◌/◌, �
 ghost use Rattle.scenario_text.specs.Scenario.{World, IsWorld};
 ghost use Rattle.call_grammar.specs.Calls.{Who};
 ghost use Rattle.lawful_history.specs.Sides.{who_of};
-ghost use Rattle.lawful_history.specs.Storm.{next_number, draw, drawn_access, storm_step, storm_after};
+ghost use Rattle.lawful_history.specs.Storm.{storm_step, storm_after};
 ghost use Rattle.lawful_history.specs.Entries.{turn_lines};
 ghost use Rattle.lawful_history.specs.Peers.{Peer, was_reset};
 ghost use Rattle.lawful_history.specs.Device.{step_interrupts};
@@ -18,8 +18,8 @@ use ivs_base::NoMemory;
 use lawful_history::Line;
 use section_map::Geometry;
 use split_ring::Queue;
-use split_ring::steps::Access;
 use std::alloc::Global;
+use step_lines::Storm;
 
 /// What a peer does when its turn comes.
 #[derive(Drop)]
@@ -41,38 +41,6 @@ pub struct StormSizes {
     pub queue: Queue,
 }
 
-/// The generator's next number.
-fn next(x: u64) -> u64
-    ensures { result ≡ next_number x }
-{
-    x.wrapping_mul(6364136223846793005)
-        .wrapping_add(1442695040888963407)
-}
-
-/// The 32 bits that are drawn from a number.
-fn drawn(x: u64) -> u32
-    ensures { result ≡ draw x }
-{
-    (x / 0x1_0000_0000) as u32
-}
-
-/// What three draws do.
-fn access_of(sizes: &StormSizes, me: u32, kind: u32, place: u32, value: u32) -> Access
-    requires { (world : World) × AreSizesOf world me sizes.now }
-    ensures { (world : World) → AreSizesOf world me sizes.now → result ≡ drawn_access world me kind place value }
-{
-    let start = sizes.geometry.section_start(me);
-    match kind % 4 {
-        0 => Access::Write(start + place % sizes.geometry.out_words(), value),
-        1 => Access::Write(start + place % (sizes.queue.payload() / 4), value),
-        2 => Access::State(value % 8),
-        _ => Access::Ring {
-            target: place % sizes.geometry.peers(),
-            vector: value % 4,
-        },
-    }
-}
-
 /// A step of a storm. Returns where its generator is then.
 fn storm(sizes: &StormSizes, me: u32, x: u64, scene: &mut Scene) -> Result<u64, NoMemory>
     requires sizes { (world : World) × AreSizesOf world me sizes.now × (scene.old.region.shape ≡ world.geometry) }
@@ -81,12 +49,15 @@ fn storm(sizes: &StormSizes, me: u32, x: u64, scene: &mut Scene) -> Result<u64, 
         IfOk result (λ next. (next ≡ storm_after x) × SceneAfter world output (reverse (turn_lines me (Some (storm_step world me x)) (step_interrupts world past losses me (Some (storm_step world me x)))) ++ past) losses scene.new) }
     ensures seated { (q : ℕ) → IsSeated scene.old q → IsSeated scene.new q }
 {
-    let first = next(x);
-    let second = next(first);
-    let third = next(second);
-    let access = access_of(sizes, me, drawn(first), drawn(second), drawn(third));
+    let mut storm = Storm {
+        peer: me,
+        geometry: sizes.geometry,
+        queue: sizes.queue,
+        at: x,
+    };
+    let access = storm.step();
     scene.perform(me, access)?;
-    Ok(third)
+    Ok(storm.at)
 }
 
 /// A turn of the peer of a seat.

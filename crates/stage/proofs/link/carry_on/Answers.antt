@@ -8,7 +8,8 @@ use Rattle.lawful_history.specs.Sides.{who_of}
 use Rattle.lawful_history.specs.Entries.{mark_line}
 use Rattle.lawful_history.specs.Frames.{HaveFrames}
 use Rattle.stage.specs.Seats.{DriverIs}
-use Rattle.stage.proofs.Turning.{can, rings_of, busy_is, busy_next, frames_now, carried, driver_counts, driver_waits}
+use Rattle.step_lines.proofs.Marks.{busy_is, busy_next}
+use Rattle.stage.proofs.Turning.{can, rings_of, frames_now, carried, driver_counts, driver_waits}
 use Rattle.stage.proofs.link.carry_on.Goals as goal
 
 pub perform-requires-clause-can : goal.perform-requires-clause-can

@@ -100,6 +100,72 @@ impl Gate for After {
     }
 }
 
+/// Lets peers 0 and 1 run one after the other, leg by leg: in each, peer 0 goes on up to its turn of the first number, and then peer 1 up
+/// to its turn of the second one. After the last leg both go on freely.
+#[derive(Drop)]
+struct Relay {
+    legs: [[u64; 2]; 3],
+    begun: [AtomicU64; 2],
+    ended: [AtomicU64; 2],
+    opened: AtomicU64,
+}
+
+impl Relay {
+    fn new(legs: [[u64; 2]; 3]) -> Relay {
+        Relay {
+            legs,
+            begun: [AtomicU64::new(0), AtomicU64::new(0)],
+            ended: [AtomicU64::new(0), AtomicU64::new(0)],
+            opened: AtomicU64::new(0),
+        }
+    }
+
+    /// How many turns the other one has to have ended before this turn of peer 0 or of peer 1.
+    fn due(&self, peer: u32, turn: u64) -> u64 {
+        let mut due = 0;
+        let mut before = 0;
+        for [first, second] in self.legs {
+            if peer == 0 && turn > first {
+                due = second;
+            }
+            if peer == 1 && turn > before {
+                due = first;
+            }
+            before = second;
+        }
+        due
+    }
+}
+
+impl Gate for Relay {
+    fn pass(&self, peer: u32, turn: u64) {
+        if peer >= 2 {
+            return;
+        }
+        let (own, other) = if peer == 0 { (0, 1) } else { (1, 0) };
+        self.begun[own].store(turn, SeqCst);
+        let due = self.due(peer, turn);
+        for _ in 0..SPINS {
+            if due < self.begun[other].load(SeqCst)
+                || due == 0
+                || self.ended[other].load(SeqCst) > 0
+                || self.opened.load(SeqCst) > 0
+            {
+                return;
+            }
+        }
+        self.opened.store(1, SeqCst);
+    }
+
+    fn ended(&self, peer: u32) {
+        if peer >= 2 {
+            return;
+        }
+        let own = if peer == 0 { 0 } else { 1 };
+        self.ended[own].store(1, SeqCst);
+    }
+}
+
 /// The run of a scenario in running form.
 fn run<R: Threads + Sync, G: Gate + Sync>(
     rt: &R,
@@ -279,6 +345,37 @@ fn a_one_shot_peer_hears_once(rt: HostRuntime) -> Result<(), Fail> {
     assert!(rt; matches!(lines[0], Line::Interrupt { peer: 0, vector: 0 }));
     let storm = parts[1].lines.items();
     assert!(rt; parts[1].turns == 9 && storm.len() == 8 && bells(storm) == 2);
+    Ok(())
+}
+
+/// Two honest peers of the link, of which peer 1 hears the vector of frames alone. Peer 0 rings for its first frame before peer 1 goes on,
+/// and for its second one once the first was taken: one interrupt comes for each, before its frame.
+#[test]
+fn each_doorbell_between_honest_peers_is_heard(rt: HostRuntime) -> Result<(), Fail> {
+    let text =
+        b"ivshm 1\npeers 2\ntable 4096\ncommon 0\nout 16384\nmtu 256\nirq msix 2\npeer 0 honest\npeer 1 honest\nbegin\ncfg 1 w 4 2 6\ncfg 1 w 98 2 32768\nmsix 1 w 28 0\nmmio 1 w 8 1\nauto 0 0\nauto 1 2\noffer 0 ffffffffffff0200000000010800\noffer 0 ffffffffffff0200000000010801\nturn 0 10000\nturn 1 10000\nend\n";
+    let gate = Relay::new([[5000, 4110], [9113, 4150], [9127, 4250]]);
+    let Some(trace) = run(&rt, rt.alloc(), text, &gate)? else {
+        panic!(rt; "the scenario can be run");
+    };
+    assert!(rt; gate.opened.load(SeqCst) == 0);
+    let parts = trace.peers.items();
+    assert!(rt; parts.len() == 2);
+    assert!(rt; parts[0].turns == 9127 && parts[0].finished && parts[1].finished);
+    let lines = parts[1].lines.items();
+    assert!(rt; interrupts(lines) == 2 && frames(lines) == (0, 2));
+    let mut heard: u64 = 0;
+    let mut taken: u64 = 0;
+    for line in lines.iter() {
+        if let Line::Interrupt { vector, .. } = line {
+            assert!(rt; *vector == 1 && heard == taken);
+            heard = heard.saturating_add(1);
+        }
+        if let Line::Deliver { .. } = line {
+            taken = taken.saturating_add(1);
+            assert!(rt; heard == taken);
+        }
+    }
     Ok(())
 }
 

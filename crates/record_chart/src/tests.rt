@@ -12,6 +12,10 @@ const PAIR: &[u8] =
 const STORM: &[u8] =
     b"record 1\nivshm 1\npeers 2\ntable 4096\ncommon 0\nout 16384\nmtu 256\nirq msix 2\npeer 0 honest\npeer 1 hostile\nbegin\nstorm 1 7\nend\n";
 
+/// The same in a record of version 2.
+const MARKED: &[u8] =
+    b"record 2\nivshm 1\npeers 2\ntable 4096\ncommon 0\nout 16384\nmtu 256\nirq msix 2\npeer 0 honest\npeer 1 honest\nbegin\nend\n";
+
 /// A history, which lines of it are shown, and what the picture has: the rows by first line and count, the lines left out, and the arrows.
 #[derive(Drop)]
 struct Worked {
@@ -53,9 +57,13 @@ const SESSIONS: &[u8] =
 const BESIDE: &[u8] =
     b"s 0 2\naccept 0 aa\nw 1 5120 9\nw 1 5500 0\nw 1 5120 7\nw 0 1024 9\nw 0 1025 9\ndeliver 0 ee\ns 1 7\nend 9\n";
 
+/// Both peers come to a session, each with its mark, and a frame in it.
+const MARKS: &[u8] =
+    b"s 0 3\nsession 0 1 1\nover 0\ns 1 3\nsession 1 1 1\nover 1\naccept 0 aa\ndeliver 1 aa\nend 8\n";
+
 #[test]
 fn worked_records(rt: HostRuntime) -> Result<(), Fail> {
-    let cases: [Worked; 4] = [
+    let cases: [Worked; 5] = [
         Worked {
             head: PAIR,
             history: SESSIONS,
@@ -104,6 +112,23 @@ fn worked_records(rt: HostRuntime) -> Result<(), Fail> {
             last: 9,
             rows: &[(1, 1), (2, 1), (3, 3), (6, 1), (7, 1), (8, 1), (9, 1)],
             arrows: &[],
+        },
+        Worked {
+            head: MARKED,
+            history: MARKS,
+            first: 1,
+            last: 8,
+            rows: &[
+                (1, 1),
+                (2, 1),
+                (3, 1),
+                (4, 1),
+                (5, 1),
+                (6, 1),
+                (7, 1),
+                (8, 1),
+            ],
+            arrows: &[(7, 8)],
         },
     ];
     for worked in &cases {

@@ -1,6 +1,6 @@
 -- A finished call meets its bound.
 use Rattle.std.proofs.Common.{◌≡◌, ℕ, zero, suc, ◌+◌, ◌*◌, ◌<◌, ◌≤◌, inl, inr, List, [], ◌∷◌, ◌++◌, length, refl, ap, arith, length-append, ne_eqb}
-use Rattle.std.specs.Prelude.{◌==◌, if◌then◌else◌, flat_map}
+use Rattle.std.specs.Prelude.{◌==◌, Bool, true, false, not, ◌||◌, if◌then◌else◌, flat_map}
 use Rattle.std.proofs.lemmas.List.{length-take-le}
 use Rattle.link_handshake.specs.declared.Phase.{Phase}
 use Rattle.link_handshake.specs.declared.Phase.TheVariants.{Reset, Init, Ready, Run}
@@ -8,13 +8,13 @@ use Rattle.link_handshake.specs.declared.Move.{Move}
 use Rattle.link_handshake.specs.declared.Move.TheVariants.{Stay, Set, ClearThenSet}
 use Rattle.link_handshake.specs.Standing.{move_of}
 use Rattle.split_ring.specs.declared.ranges.FieldName.TheVariants as field_name
-use Rattle.split_ring.specs.declared.steps.Access.TheVariants.{Ring}
-use Rattle.split_ring.specs.Layout.{limit_of}
-use Rattle.call_grammar.specs.Steps.{Mark, Deliver, Done, Step, step_of}
+use Rattle.split_ring.specs.Spelling.{low_half}
+use Rattle.split_ring.specs.Layout.{has_events, limit_of}
+use Rattle.call_grammar.specs.Steps.{Mark, Deliver, Done, Over, Step}
 use Rattle.call_grammar.specs.Words.{word_bytes, words_for, frame_in}
 use Rattle.call_grammar.specs.Ticks.{Who, clear_steps, tick_steps, state_step}
-use Rattle.call_grammar.specs.Offers.{Job, refusal, refused_steps, id_step, id_steps, fill_steps, publish_steps, full_marks, returned_by, IsOffer}
-use Rattle.call_grammar.specs.Polls.{Item, item_entry, item_address, word_steps, return_steps, IsGood, item_steps, AreGood, items_steps, IsRefusedItem, IsPoll}
+use Rattle.call_grammar.specs.Offers.{Job, refusal, refused_steps, id_step, id_steps, fill_steps, publish_steps, asks_for, ring_step, event_step, tell_steps, full_marks, returned_by, IsOffer}
+use Rattle.call_grammar.specs.Polls.{Item, item_entry, item_address, word_steps, return_steps, IsGood, item_steps, AreGood, items_steps, IsRefusedItem, is_last, IsLook, FindsNothing, LooksAgain, IsPoll}
 use Rattle.call_grammar.specs.Calls.{Tick, Stop, Offer, Poll, RunsOrIsDown, job_of}
 use Rattle.call_grammar.proofs.OfferLists.{no}
 use Rattle.call_grammar.specs.StepBounds.{marks_bound, items_bound, CallsMeetBounds, OtherCallsMeetBounds}
@@ -36,16 +36,34 @@ fill_length : (who : Who) (job : Job) (at count : ℕ) → length (fill_steps wh
 fill_length who job at zero = refl
 fill_length who job at (suc more) = let e = fill_length who job (at + 1) more in omega arith
 
-offer_length : (who : Who) (job : Job) (freed : ℕ) (steps : List Step) → job.number ≤ freed + limit_of who.sizes → IsOffer who job freed steps → length steps ≤ limit_of who.sizes + words_for (length job.frame) + 8
-offer_length who job freed steps room (inl r) = let e = ap length r.steps_are in omega arith
-offer_length who job freed steps room (inr (inl r)) = let within = r.within in let before = r.before in omega (arith, ap length r.steps_are, ids_length who freed r.passed [], length-append (id_steps who freed r.passed []) (refused_steps (id_step who (freed + r.passed) r.id (refusal field_name.UsedId r.id))))
-offer_length who job freed steps room (inr (inr (inl r))) = let within = r.within in omega (arith, ap length r.steps_are, ids_length who freed (returned_by freed r.value) (full_marks who job (freed + returned_by freed r.value)))
-offer_length who job freed steps room (inr (inr (inr r))) = let within = r.within in omega (
+-- what an offer tells has a step, or two in a link with events
+abbrev tell_bound : Bool → ℕ
+tell_bound b = if b then 2 else 1
+
+told_length : (who : Who) (number value : ℕ) (b asks : Bool) → length (if b then event_step who number value ∷ (if asks then ring_step who (Over ∷ []) ∷ [] else []) else ring_step who (Over ∷ []) ∷ []) ≤ tell_bound b
+told_length who number value true true = omega arith
+told_length who number value true false = omega arith
+told_length who number value false asks = omega arith
+
+-- an offer has so many steps but for what it tells
+abbrev offer_bound : Bool → ℕ
+offer_bound b = if b then 9 else 8
+
+offer_bounds : (b : Bool) → offer_bound b ≡ 7 + tell_bound b
+offer_bounds true = refl
+offer_bounds false = refl
+
+offer_length : (who : Who) (job : Job) (freed : ℕ) (steps : List Step) → job.number ≤ freed + limit_of who.sizes → IsOffer who job freed steps → length steps ≤ limit_of who.sizes + words_for (length job.frame) + offer_bound (has_events who.sizes)
+offer_length who job freed steps room (inl r) = let e = ap length r.steps_are in let more = offer_bounds (has_events who.sizes) in omega arith
+offer_length who job freed steps room (inr (inl r)) = let within = r.within in let more = offer_bounds (has_events who.sizes) in let before = r.before in omega (arith, ap length r.steps_are, ids_length who freed r.passed [], length-append (id_steps who freed r.passed []) (refused_steps (id_step who (freed + r.passed) r.id (refusal field_name.UsedId r.id))))
+offer_length who job freed steps room (inr (inr (inl r))) = let within = r.within in let more = offer_bounds (has_events who.sizes) in omega (arith, ap length r.steps_are, ids_length who freed (returned_by freed r.value) (full_marks who job (freed + returned_by freed r.value)))
+offer_length who job freed steps room (inr (inr (inr r))) = let within = r.within in let more = offer_bounds (has_events who.sizes) in omega (
   arith,
   ap length r.steps_are,
   ids_length who freed (returned_by freed r.value) (full_marks who job (freed + returned_by freed r.value)),
-  length-append (id_steps who freed (returned_by freed r.value) (full_marks who job (freed + returned_by freed r.value))) (fill_steps who job 0 (words_for (length job.frame)) ++ publish_steps who job),
-  length-append (fill_steps who job 0 (words_for (length job.frame))) (publish_steps who job),
+  length-append (id_steps who freed (returned_by freed r.value) (full_marks who job (freed + returned_by freed r.value))) (fill_steps who job 0 (words_for (length job.frame)) ++ (publish_steps who job ++ tell_steps who job.number r.event)),
+  length-append (fill_steps who job 0 (words_for (length job.frame))) (publish_steps who job ++ tell_steps who job.number r.event),
+  told_length who job.number r.event (has_events who.sizes) (asks_for (low_half r.event) job.number),
   fill_length who job 0 (words_for (length job.frame)),
 )
 
@@ -90,13 +108,30 @@ refused_length who number read steps (inr (inl is)) = let n = ap length is.2 in 
 refused_length who number read steps (inr (inr (inl is))) = let n = ap length is.3 in let b = ap items_bound is.3 in omega arith
 refused_length who number read steps (inr (inr (inr is))) = let n = ap length is.4 in let b = ap items_bound is.4 in omega arith
 
-poll_length : (who : Who) (taken : ℕ) (steps : List Step) → IsPoll who taken steps → length steps ≤ 2 + items_bound steps
-poll_length who taken steps (inl r) = let n = ap length r.steps_are in omega arith
-poll_length who taken steps (inr (inl r)) = let n = ap length r.steps_are in omega arith
-poll_length who taken steps (inr (inr (inl r))) = let n = ap length r.steps_are in let b = ap items_bound r.steps_are in let items = items_length who taken r.reads r.good in
-    omega (arith, length-append (items_steps who taken r.reads) (step_of (Ring who.other who.vector) 0 (Done ∷ []) ∷ []), bound-append (items_steps who taken r.reads) (step_of (Ring who.other who.vector) 0 (Done ∷ []) ∷ []))
-poll_length who taken steps (inr (inr (inr r))) = let n = ap length r.steps_are in let b = ap items_bound r.steps_are in let items = items_length who taken r.reads r.good in let last = refused_length who (taken + length r.reads) r.last r.last_steps r.refused in
+look_length : (who : Who) (taken : ℕ) (FindsNone : List Step → Type 0) (steps : List Step) (bound : ℕ) → 2 ≤ bound → (FindsNone steps → length steps ≤ bound + items_bound steps) → IsLook who taken FindsNone steps → length steps ≤ bound + items_bound steps
+look_length who taken FindsNone steps bound two none (inl r) = let n = ap length r.steps_are in omega arith
+look_length who taken FindsNone steps bound two none (inr (inl r)) = none r
+look_length who taken FindsNone steps bound two none (inr (inr (inl r))) = let n = ap length r.steps_are in let b = ap items_bound r.steps_are in let items = items_length who taken r.reads r.good in
+    omega (arith, length-append (items_steps who taken r.reads) (ring_step who (Done ∷ []) ∷ []), bound-append (items_steps who taken r.reads) (ring_step who (Done ∷ []) ∷ []))
+look_length who taken FindsNone steps bound two none (inr (inr (inr r))) = let n = ap length r.steps_are in let b = ap items_bound r.steps_are in let items = items_length who taken r.reads r.good in let last = refused_length who (taken + length r.reads) r.last r.last_steps r.refused in
     omega (arith, length-append (items_steps who taken r.reads) r.last_steps, bound-append (items_steps who taken r.reads) r.last_steps)
+
+nothing_length : (who : Who) (taken : ℕ) (steps : List Step) → FindsNothing who taken steps → length steps ≤ 2 + items_bound steps
+nothing_length who taken steps r = let n = ap length r.steps_are in omega arith
+
+again_length : (who : Who) (taken : ℕ) (steps : List Step) → LooksAgain who taken steps → length steps ≤ 4 + items_bound steps
+again_length who taken steps r = let n = ap length r.steps_are in let b = ap items_bound r.steps_are in
+    let rest = look_length who taken (FindsNothing who taken) r.rest 2 (omega arith) (nothing_length who taken r.rest) r.again in omega arith
+
+-- a poll whose first look is not its last is one of a link with events
+poll_length : (who : Who) (taken : ℕ) (events found_none : Bool) (steps : List Step) → IsPoll who taken (not events || found_none) steps → length steps ≤ (if events then 4 else 2) + items_bound steps
+poll_length who taken false found_none steps is = look_length who taken (FindsNothing who taken) steps 2 (omega arith) (nothing_length who taken steps) is
+poll_length who taken true true steps is = let n = look_length who taken (FindsNothing who taken) steps 2 (omega arith) (nothing_length who taken steps) is in omega arith
+poll_length who taken true false steps is = look_length who taken (LooksAgain who taken) steps 4 (omega arith) (again_length who taken steps) is
+
+poll_some : (b : Bool) (n : ℕ) → 1 ≤ (if b then 4 else 2) + n
+poll_some true n = omega arith
+poll_some false n = omega arith
 
 -- a call that is down has one step
 by_phase : (phase : Phase) (Runs : Type 0) (steps : List Step) (bound : ℕ) → 1 ≤ bound → (Runs → length steps ≤ bound) → RunsOrIsDown phase Runs steps → length steps ≤ bound
@@ -110,10 +145,10 @@ pub others_bounding : OtherCallsMeetBounds
 others_bounding who end Tick steps no_offer is = let n = ap length is.1 in omega (arith, tick_length who is.0 (move_of end.handshake is.0))
 others_bounding who end Stop steps no_offer is = let n = ap length is in omega arith
 others_bounding who end (Offer frame) steps no_offer is = absurd (cc)
-others_bounding who end Poll steps no_offer is = by_phase end.handshake.phase (IsPoll who (length end.delivered) steps) steps (2 + items_bound steps) (omega arith) (poll_length who (length end.delivered) steps) is
+others_bounding who end Poll steps no_offer is = by_phase end.handshake.phase (IsPoll who (length end.delivered) (is_last who end.found_none) steps) steps ((if has_events who.sizes then 4 else 2) + items_bound steps) (poll_some (has_events who.sizes) (items_bound steps)) (poll_length who (length end.delivered) (has_events who.sizes) end.found_none steps) is
 
 pub bounding : CallsMeetBounds
-bounding who end (Offer frame) steps room is = by_phase end.handshake.phase (IsOffer who (job_of who end frame) end.freed steps) steps (limit_of who.sizes + words_for (length frame) + 8) (omega arith) (offer_length who (job_of who end frame) end.freed steps room) is
+bounding who end (Offer frame) steps room is = by_phase end.handshake.phase (IsOffer who (job_of who end frame) end.freed steps) steps (limit_of who.sizes + words_for (length frame) + offer_bound (has_events who.sizes)) (let more = offer_bounds (has_events who.sizes) in omega arith) (offer_length who (job_of who end frame) end.freed steps room) is
 bounding who end Tick steps room is = others_bounding who end Tick steps refl is
 bounding who end Stop steps room is = others_bounding who end Stop steps refl is
 bounding who end Poll steps room is = others_bounding who end Poll steps refl is

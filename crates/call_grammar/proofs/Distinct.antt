@@ -5,12 +5,14 @@ use native.Mathlib.Decide.{dec_lt}
 use Rattle.std.proofs.Math.Nat.{mul-le-mul_left}
 use Rattle.std.proofs.lemmas.Nat.{mod_below}
 use Rattle.split_ring.specs.declared.ranges.FieldName.TheVariants as field_name
-use Rattle.split_ring.specs.Layout.{size_of, limit_of, payload_of, word_place, Id, UsedIndex}
+use Rattle.split_ring.specs.Layout.{has_events, size_of, limit_of, payload_of, word_place, Id, UsedIndex, AvailableEvent}
+use Rattle.split_ring.specs.Spelling.{low_half}
+use Rattle.std.specs.Prelude.{Bool, true, false, if◌then◌else◌}
 use Rattle.split_ring.proofs.Bounds.{bounds}
-use Rattle.call_grammar.specs.Steps.{Mark, Deliver, Step}
+use Rattle.call_grammar.specs.Steps.{Mark, Deliver, Over, Step}
 use Rattle.call_grammar.specs.Words.{words_for, frame_in}
 use Rattle.call_grammar.specs.Ticks.{Who}
-use Rattle.call_grammar.specs.Offers.{Job, entry_of, refusal, refused_steps, full_marks, returned_by, reclaim_marks, used_step, id_step, id_steps, fill_steps, publish_steps, IsOffer}
+use Rattle.call_grammar.specs.Offers.{Job, entry_of, refusal, refused_steps, full_marks, returned_by, reclaim_marks, used_step, id_step, id_steps, fill_steps, publish_steps, asks_for, ring_step, event_step, tell_steps, IsOffer}
 use Rattle.call_grammar.specs.Polls.{Item, item_entry, item_address, word_steps, return_steps, IsGood, item_steps, IsRefusedItem}
 use Rattle.call_grammar.proofs.OfferLists.{append_nil}
 use Rattle.call_grammar.specs.Reach.{HasSections}
@@ -90,21 +92,45 @@ ids_distinct who has freed (suc more) total marks tail is few none others = (
   ids_distinct who has (freed + 1) more total marks tail (omega arith) (omega arith) (λ k low high. none k (omega arith) high) others,
 )
 
--- writes and the doorbell read nothing
-fill_reads : (who : Who) (job : Job) (at count : ℕ) → reads_of (fill_steps who job at count ++ publish_steps who job) ≡ []
-fill_reads who job at zero = refl
-fill_reads who job at (suc more) = fill_reads who job (at + 1) more
+-- writes and the doorbell read nothing, and what an offer tells reads the other's event at most
+abbrev event_word : Who → ℕ
+event_word who = who.theirs + word_place who.sizes AvailableEvent
+
+fill_reads : (who : Who) (job : Job) (at count : ℕ) (tail : List Step) → reads_of (fill_steps who job at count ++ (publish_steps who job ++ tail)) ≡ reads_of tail
+fill_reads who job at zero tail = refl
+fill_reads who job at (suc more) tail = fill_reads who job (at + 1) more tail
+
+abbrev told : Who → (number value : ℕ) → (b asks : Bool) → List Step
+told who number value b asks = if b then event_step who number value ∷ (if asks then ring_step who (Over ∷ []) ∷ [] else []) else ring_step who (Over ∷ []) ∷ []
+
+told_none : (who : Who) (number value word : ℕ) (b asks : Bool) → word ≢ event_word who → IsNone word (reads_of (told who number value b asks))
+told_none who number value word true true other = (other, tt)
+told_none who number value word true false other = (other, tt)
+told_none who number value word false asks other = tt
+
+told_distinct : (who : Who) (number value : ℕ) (b asks : Bool) → AreDistinct (reads_of (told who number value b asks))
+told_distinct who number value true true = (tt, tt)
+told_distinct who number value true false = (tt, tt)
+told_distinct who number value false asks = tt
 
 used_low : (who : Who) (k : ℕ) → who.theirs + word_place who.sizes UsedIndex ≢ id_word who k
 used_low who k same = omega arith
 
-reads_distinct : (who : Who) → HasSections who → (job : Job) (freed value count : ℕ) (marks id_marks : List Mark) (tail : List Step) → count ≤ limit_of who.sizes → reads_of tail ≡ [] →
+-- the event stands after the index and the ids
+event_high : (who : Who) → HasSections who → (k : ℕ) → id_word who k ≢ event_word who
+event_high who has k same =
+    let least = (bounds who.sizes has.queue).size_least in let low = mod_below k (size_of who.sizes) (omega arith) in omega arith
+
+event_apart : (who : Who) → HasSections who → who.theirs + word_place who.sizes UsedIndex ≢ event_word who
+event_apart who has same = let least = (bounds who.sizes has.queue).size_least in omega arith
+
+reads_distinct : (who : Who) → HasSections who → (job : Job) (freed value count : ℕ) (marks id_marks : List Mark) (tail : List Step) → count ≤ limit_of who.sizes →
+    ((w : ℕ) → w ≢ event_word who → IsNone w (reads_of tail)) → AreDistinct (reads_of tail) →
     AreDistinct (reads_of (used_step who value marks ∷ (id_steps who freed count id_marks ++ tail)))
-reads_distinct who has job freed value count marks id_marks tail few quiet = let most = (bounds who.sizes has.queue).limit_most in
-    let none : (w : ℕ) → IsNone w (reads_of tail) = λ w. subst (IsNone w) (sym quiet) tt in (
-      ids_none who _ freed count id_marks tail (λ k low high. used_low who k) (none _),
-      ids_distinct who has freed count (freed + count) id_marks tail refl (omega arith) (λ k low high. none _) (subst AreDistinct (sym quiet) tt),
-    )
+reads_distinct who has job freed value count marks id_marks tail few none others = let most = (bounds who.sizes has.queue).limit_most in (
+  ids_none who _ freed count id_marks tail (λ k low high. used_low who k) (none _ (event_apart who has)),
+  ids_distinct who has freed count (freed + count) id_marks tail refl (omega arith) (λ k low high. none _ (event_high who has k)) others,
+)
 
 offered_lem : (who : Who) (job : Job) (freed : ℕ) (steps : List Step) → HasSections who → job.number ≤ freed + limit_of who.sizes → IsOffer who job freed steps → AreDistinct (reads_of steps)
 offered_lem who job freed steps has room (inl r) = subst (λ (l : List Step). AreDistinct (reads_of l)) (sym r.steps_are) (tt, tt)
@@ -115,10 +141,13 @@ offered_lem who job freed steps has room (inr (inl r)) = let within = r.within i
     )
 offered_lem who job freed steps has room (inr (inr (inl r))) = let within = r.within in
     subst (λ (l : List Step). AreDistinct (reads_of l)) (ap (λ (l : List Step). used_step who r.value (reclaim_marks who job freed (returned_by freed r.value)) ∷ l) (append_nil (id_steps who freed (returned_by freed r.value) (full_marks who job (freed + returned_by freed r.value)))) ∙ sym r.steps_are)
-    (reads_distinct who has job freed r.value (returned_by freed r.value) (reclaim_marks who job freed (returned_by freed r.value)) (full_marks who job (freed + returned_by freed r.value)) [] (omega arith) refl)
-offered_lem who job freed steps has room (inr (inr (inr r))) = let within = r.within in
+    (reads_distinct who has job freed r.value (returned_by freed r.value) (reclaim_marks who job freed (returned_by freed r.value)) (full_marks who job (freed + returned_by freed r.value)) [] (omega arith) (λ w other. tt) tt)
+offered_lem who job freed steps has room (inr (inr (inr r))) = let within = r.within in let b = has_events who.sizes in let asks = asks_for (low_half r.event) job.number in
+    let tail = tell_steps who job.number r.event in let quiet = fill_reads who job 0 (words_for (length job.frame)) tail in
     subst (λ (l : List Step). AreDistinct (reads_of l)) (sym r.steps_are)
-    (reads_distinct who has job freed r.value (returned_by freed r.value) (reclaim_marks who job freed (returned_by freed r.value)) (full_marks who job (freed + returned_by freed r.value)) (fill_steps who job 0 (words_for (length job.frame)) ++ publish_steps who job) (omega arith) (fill_reads who job 0 (words_for (length job.frame))))
+    (reads_distinct who has job freed r.value (returned_by freed r.value) (reclaim_marks who job freed (returned_by freed r.value)) (full_marks who job (freed + returned_by freed r.value))
+    (fill_steps who job 0 (words_for (length job.frame)) ++ (publish_steps who job ++ tail)) (omega arith)
+    (λ w other. subst (IsNone w) (sym quiet) (told_none who job.number r.event w b asks other)) (subst AreDistinct (sym quiet) (told_distinct who job.number r.event b asks)))
 
 pub distinct : FieldsAreReadOnce
 distinct = record { taken = taken_lem; refused = refused_lem; offered = offered_lem; indexes = indexes_lem }

@@ -1,14 +1,13 @@
 -- The values that an item reads, as words of a section.
-use Rattle.std.proofs.Common.{◌≡◌, ℕ, zero, suc, ◌+◌, ◌-◌, ◌*◌, ◌/◌, ◌%◌, ◌^◌, ◌<◌, ◌≤◌, List, [], ◌∷◌, ◌++◌, length, take, refl, sym, ap, ◌∙◌, arith}
+use Rattle.std.proofs.Common.{◌≡◌, ℕ, zero, suc, ◌+◌, ◌-◌, ◌*◌, ◌/◌, ◌%◌, ◌^◌, ◌<◌, List, [], ◌∷◌, ◌++◌, length, take, refl, sym, ap, ◌∙◌, arith}
 use Rattle.std.specs.List.{flat_map}
 use Rattle.split_ring.specs.Layout.{word_place, Address, Length, Flags, Entry}
-use Rattle.split_ring.specs.Ranges.{IsDescAddress, IsDescLength, IsDescFlags}
-use Rattle.split_ring.specs.Spelling.{low_half, entry_half, byte_at, bytes_from, address_at, length_at, flags_at}
+use Rattle.split_ring.specs.Spelling.{entry_half, byte_at, bytes_from, address_at}
 use Rattle.call_grammar.specs.Steps.{Mark, Deliver, Step}
 use Rattle.call_grammar.specs.Ticks.{Who}
-use Rattle.call_grammar.specs.Words.{address_of, word_bytes, words_for, frame_in}
+use Rattle.call_grammar.specs.Words.{word_bytes, words_for, frame_in}
 use Rattle.call_grammar.specs.Offers.{entry_of}
-use Rattle.call_grammar.specs.Polls.{Item, item_entry, item_address, word_steps, return_steps, IsGood, item_steps}
+use Rattle.call_grammar.specs.Polls.{item_entry, item_address, word_steps, return_steps}
 use Rattle.call_grammar.specs.ItemSpelling.{AreMet, ReadItemsAreSpelled}
 
 -- the word at a place after the first of the section

@@ -1,5 +1,5 @@
 -- A call as a tree and as a list.
-use Rattle.std.proofs.Common.{◌≡◌, List, [], ◌∷◌, refl, sym, subst, length}
+use Rattle.std.proofs.Common.{◌≡◌, ℕ, List, [], ◌∷◌, refl, sym, subst, length}
 use Rattle.link_handshake.specs.declared.Phase.{Phase}
 use Rattle.link_handshake.specs.declared.Phase.TheVariants.{Reset, Init, Ready, Run}
 use Rattle.link_handshake.specs.Standing.{move_of}
@@ -9,7 +9,7 @@ use Rattle.call_grammar.specs.Trees.{CallTree, Ended, Makes}
 use Rattle.call_grammar.specs.Ends.{End}
 use Rattle.call_grammar.specs.Ticks.{Who, set_state, tick_steps}
 use Rattle.call_grammar.specs.Offers.{offer, IsOffer}
-use Rattle.call_grammar.specs.Polls.{poll, IsPoll}
+use Rattle.call_grammar.specs.Polls.{is_last, poll, IsPoll}
 use Rattle.call_grammar.specs.Calls.{Call, Tick, Stop, Offer, Poll, in_run, job_of, down, down_step, tree_of, RunsOrIsDown, IsCall, CallsAreLists, CallsTakeAStep}
 use Rattle.call_grammar.proofs.TickLists.{set_listed, tick_listed, ticks_by, tick_made}
 use Rattle.call_grammar.proofs.OfferLists.{offer_listed, offer_made}
@@ -37,14 +37,14 @@ listed_lem who end Tick [] makes = absurd makes
 listed_lem who end Tick (step ∷ steps) makes = (makes.0, tick_listed who makes.0 (move_of end.handshake makes.0) step steps makes.1 makes.2)
 listed_lem who end Stop steps makes = set_listed 0 steps makes
 listed_lem who end (Offer frame) steps makes = by_phase end.handshake.phase (offer who (job_of who end frame) end.freed) (IsOffer who (job_of who end frame) end.freed steps) steps (offer_listed who (job_of who end frame) end.freed steps) makes
-listed_lem who end Poll steps makes = by_phase end.handshake.phase (poll who (length end.delivered)) (IsPoll who (length end.delivered) steps) steps (poll_listed who (length end.delivered) steps) makes
+listed_lem who end Poll steps makes = by_phase end.handshake.phase (poll who (length end.delivered) (is_last who end.found_none)) (IsPoll who (length end.delivered) (is_last who end.found_none) steps) steps (poll_listed who (length end.delivered) (is_last who end.found_none) steps) makes
 
 made_lem : (who : Who) (end : End) (call : Call) (steps : List Step) → IsCall who end call steps → Makes (tree_of who end call) steps
 made_lem who end Tick steps is =
     subst (λ (list : List Step). Makes (tree_of who end Tick) list) (sym is.1) (tick_made who end is.0 (tick_steps who is.0 (move_of end.handshake is.0)) (ticks_by who is.0 (move_of end.handshake is.0)))
 made_lem who end Stop steps is = subst (λ (list : List Step). Makes (set_state 0) list) (sym is) (refl, refl)
 made_lem who end (Offer frame) steps is = from_phase end.handshake.phase (offer who (job_of who end frame) end.freed) (IsOffer who (job_of who end frame) end.freed steps) steps (offer_made who (job_of who end frame) end.freed steps) is
-made_lem who end Poll steps is = from_phase end.handshake.phase (poll who (length end.delivered)) (IsPoll who (length end.delivered) steps) steps (poll_made who (length end.delivered) steps) is
+made_lem who end Poll steps is = from_phase end.handshake.phase (poll who (length end.delivered) (is_last who end.found_none)) (IsPoll who (length end.delivered) (is_last who end.found_none) steps) steps (poll_made who (length end.delivered) (is_last who end.found_none) steps) is
 
 pub lists : CallsAreLists
 lists = record { listed = listed_lem; made = made_lem }
@@ -54,8 +54,12 @@ either_steps : (b : Bool) (tree other : CallTree) → tree ≢ Ended → other �
 either_steps true tree other more more' = more
 either_steps false tree other more more' = more'
 
+poll_steps : (who : Who) (taken : ℕ) (last : Bool) → poll who taken last ≢ Ended
+poll_steps who taken true = λ is. cc
+poll_steps who taken false = λ is. cc
+
 pub takes_a_step : CallsTakeAStep
 takes_a_step who end Tick = λ is. cc
 takes_a_step who end Stop = λ is. cc
 takes_a_step who end (Offer frame) = either_steps (in_run end.handshake.phase) (offer who (job_of who end frame) end.freed) down (λ is. cc) (λ is. cc)
-takes_a_step who end Poll = either_steps (in_run end.handshake.phase) (poll who (length end.delivered)) down (λ is. cc) (λ is. cc)
+takes_a_step who end Poll = either_steps (in_run end.handshake.phase) (poll who (length end.delivered) (is_last who end.found_none)) down (poll_steps who (length end.delivered) (is_last who end.found_none)) (λ is. cc)

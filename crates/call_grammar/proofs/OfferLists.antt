@@ -5,13 +5,13 @@ use Rattle.std.proofs.lemmas.Bool.Decides.{nat_tests}
 use mathlib.Core.Logic.{dite}
 use native.Mathlib.Decide.{dec_lt}
 use Rattle.split_ring.specs.declared.ranges.FieldName.TheVariants as field_name
-use Rattle.split_ring.specs.Layout.{limit_of}
-use Rattle.split_ring.specs.Spelling.{high_half}
-use Rattle.call_grammar.specs.Steps.{Step, Mark, Full}
+use Rattle.split_ring.specs.Layout.{has_events, limit_of}
+use Rattle.split_ring.specs.Spelling.{low_half, high_half}
+use Rattle.call_grammar.specs.Steps.{Step, Mark, Full, Over}
 use Rattle.call_grammar.specs.Trees.{CallTree, Ended, Makes}
 use Rattle.call_grammar.specs.Ticks.{Who, set_state, state_step}
 use Rattle.call_grammar.specs.Words.{words_for}
-use Rattle.call_grammar.specs.Offers.{Job, descriptor_of, refusal, full_marks, describe, fill, after_ids, read_ids, returned_by, reclaim_marks, offer, used_step, id_step, id_steps, refused_steps, fill_steps, publish_steps, IsOffer}
+use Rattle.call_grammar.specs.Offers.{Job, descriptor_of, refusal, full_marks, ring, asks_for, hear, describe, fill, after_ids, read_ids, returned_by, reclaim_marks, offer, used_step, id_step, id_steps, refused_steps, fill_steps, publish_steps, ring_step, event_step, tell_steps, IsOffer}
 use Rattle.call_grammar.proofs.TickLists.{set_listed}
 
 -- a test that holds or fails chooses
@@ -27,32 +27,63 @@ pub decide : (b : Bool) → (b ≡ true) ⊎ (b ≡ false)
 decide true = inl refl
 decide false = inr refl
 
-publish_listed : (who : Who) (job : Job) (steps : List Step) → Makes (describe who job) steps → steps ≡ publish_steps who job
+-- the doorbell, and the read of the other's event before it
+ring_listed : (who : Who) (steps : List Step) → Makes (ring who) steps → steps ≡ ring_step who (Over ∷ []) ∷ []
+ring_listed who [] m = absurd m
+ring_listed who (step ∷ steps) m = let first = m.0 in let none = m.1 in cc
+
+abbrev heard_steps : Who → (number value : ℕ) → Bool → List Step
+heard_steps who number value b = event_step who number value ∷ (if b then ring_step who (Over ∷ []) ∷ [] else [])
+
+after_event : (who : Who) (b : Bool) (steps : List Step) → Makes (if b then ring who else Ended) steps → steps ≡ (if b then ring_step who (Over ∷ []) ∷ [] else [])
+after_event who true steps m = ring_listed who steps m
+after_event who false steps m = m
+
+event_makes : (who : Who) (b : Bool) → Makes (if b then ring who else Ended) (if b then ring_step who (Over ∷ []) ∷ [] else [])
+event_makes who true = (refl, refl)
+event_makes who false = refl
+
+tell_listed : (who : Who) (number : ℕ) (b : Bool) (steps : List Step) → Makes (if b then hear who number else ring who) steps →
+    (value : ℕ) × (steps ≡ (if b then heard_steps who number value (asks_for (low_half value) number) else ring_step who (Over ∷ []) ∷ []))
+tell_listed who number true [] m = absurd m
+tell_listed who number true (step ∷ steps) m = (m.0, (let first = m.1 in let later = after_event who (asks_for (low_half m.0) number) steps m.2 in cc))
+tell_listed who number false steps m = (0, ring_listed who steps m)
+
+tell_made : (who : Who) (number value : ℕ) (b : Bool) →
+    Makes (if b then hear who number else ring who) (if b then heard_steps who number value (asks_for (low_half value) number) else ring_step who (Over ∷ []) ∷ [])
+tell_made who number value true = (value, refl, event_makes who (asks_for (low_half value) number))
+tell_made who number value false = (refl, refl)
+
+-- what an offer makes from its descriptor on, and from its words on
+abbrev Published : Who → Job → (before : List Step) → List Step → Type 0
+Published who job before steps = (event : ℕ) × (steps ≡ before ++ (publish_steps who job ++ tell_steps who job.number event))
+
+publish_listed : (who : Who) (job : Job) (steps : List Step) → Makes (describe who job) steps → Published who job [] steps
 publish_listed who job [] m = absurd m
 publish_listed who job (a ∷ []) m = absurd m.1
 publish_listed who job (a ∷ (b ∷ [])) m = absurd m.1.1
 publish_listed who job (a ∷ (b ∷ (c ∷ []))) m = absurd m.1.1.1
 publish_listed who job (a ∷ (b ∷ (c ∷ (d ∷ [])))) m = absurd m.1.1.1.1
 publish_listed who job (a ∷ (b ∷ (c ∷ (d ∷ (e ∷ []))))) m = absurd m.1.1.1.1.1
-publish_listed who job (a ∷ (b ∷ (c ∷ (d ∷ (e ∷ (f ∷ [])))))) m = absurd m.1.1.1.1.1.1
-publish_listed who job (a ∷ (b ∷ (c ∷ (d ∷ (e ∷ (f ∷ (g ∷ h))))))) m =
-    let a1 = m.0 in let b1 = m.1.0 in let c1 = m.1.1.0 in let d1 = m.1.1.1.0 in let e1 = m.1.1.1.1.0 in let f1 = m.1.1.1.1.1.0 in let g1 = m.1.1.1.1.1.1.0 in let h1 = m.1.1.1.1.1.1.1 in cc
+publish_listed who job (a ∷ (b ∷ (c ∷ (d ∷ (e ∷ (f ∷ g)))))) m =
+    let told = tell_listed who job.number (has_events who.sizes) g m.1.1.1.1.1.1 in
+    (told.0, (let a1 = m.0 in let b1 = m.1.0 in let c1 = m.1.1.0 in let d1 = m.1.1.1.0 in let e1 = m.1.1.1.1.0 in let f1 = m.1.1.1.1.1.0 in let g1 = told.1 in cc))
 
-publish_made : (who : Who) (job : Job) → Makes (describe who job) (publish_steps who job)
-publish_made who job = (refl, (refl, (refl, (refl, (refl, (refl, (refl, refl)))))))
+publish_made : (who : Who) (job : Job) (event : ℕ) → Makes (describe who job) (publish_steps who job ++ tell_steps who job.number event)
+publish_made who job event = (refl, (refl, (refl, (refl, (refl, (refl, tell_made who job.number event (has_events who.sizes)))))))
 
-fill_listed : (who : Who) (job : Job) (at more : ℕ) (steps : List Step) → Makes (fill who job at more) steps → steps ≡ fill_steps who job at more ++ publish_steps who job
+fill_listed : (who : Who) (job : Job) (at more : ℕ) (steps : List Step) → Makes (fill who job at more) steps → Published who job (fill_steps who job at more) steps
 fill_listed who job at zero steps m = publish_listed who job steps m
 fill_listed who job at (suc more) [] m = absurd m
-fill_listed who job at (suc more) (step ∷ steps) m = let first = m.0 in let others = fill_listed who job (at + 1) more steps m.1 in cc
+fill_listed who job at (suc more) (step ∷ steps) m = let first = m.0 in let others = fill_listed who job (at + 1) more steps m.1 in (others.0, (let rest = others.1 in cc))
 
-fill_made : (who : Who) (job : Job) (at more : ℕ) → Makes (fill who job at more) (fill_steps who job at more ++ publish_steps who job)
-fill_made who job at zero = publish_made who job
-fill_made who job at (suc more) = (refl, fill_made who job (at + 1) more)
+fill_made : (who : Who) (job : Job) (at more event : ℕ) → Makes (fill who job at more) (fill_steps who job at more ++ (publish_steps who job ++ tell_steps who job.number event))
+fill_made who job at zero event = publish_made who job event
+fill_made who job at (suc more) event = (refl, fill_made who job (at + 1) more event)
 
 -- what an offer makes after its ids
 abbrev IsEnding : Who → Job → ℕ → List Step → Type 0
-IsEnding who job freed steps = ((job.number ≡ freed + limit_of who.sizes) × (steps ≡ [])) ⊎ ((job.number ≢ freed + limit_of who.sizes) × (steps ≡ fill_steps who job 0 (words_for (length job.frame)) ++ publish_steps who job))
+IsEnding who job freed steps = ((job.number ≡ freed + limit_of who.sizes) × (steps ≡ [])) ⊎ ((job.number ≢ freed + limit_of who.sizes) × Published who job (fill_steps who job 0 (words_for (length job.frame))) steps)
 
 -- what an offer makes from so many ids on: the rest of a good offer, or the ids up to one that is wrong
 abbrev IdsListed : Who → Job → (freed count total : ℕ) → List Step → Type 0
@@ -122,7 +153,7 @@ offer_ids : (who : Who) (job : Job) (freed value : ℕ) (step : Step) (steps : L
     step ≡ used_step who value (reclaim_marks who job freed (returned_by freed value)) → IdsListed who job freed (returned_by freed value) (freed + returned_by freed value) steps → IsOffer who job freed (step ∷ steps)
 offer_ids who job freed value step steps within first (inl good) = elim good.1 as (λ _. IsOffer who job freed (step ∷ steps)) [
   | inl full ↦ inr (inr (inl record { value = value; within = within; full = full.0; steps_are = let none : good.0 ≡ [] = full.1 in let tail = good.2 in let e = append_nil (id_steps who freed (returned_by freed value) (full_marks who job (freed + returned_by freed value))) in cc }))
-  | inr room ↦ inr (inr (inr record { value = value; within = within; room = room.0; steps_are = let rest = room.1 in let tail = good.2 in cc }))
+  | inr room ↦ inr (inr (inr record { value = value; within = within; room = room.0; event = room.1.0; steps_are = let rest = room.1.1 in let tail = good.2 in cc }))
 ]
 offer_ids who job freed value step steps within first (inr bad) = inr (inl record {
   value = value;
@@ -196,9 +227,10 @@ beyond_test d n beyond = dite (dec_lt n d) (λ lt. grind (arith, nat_tests)) (λ
 full_ends : (who : Who) (job : Job) (freed : ℕ) → job.number ≡ freed + limit_of who.sizes → Makes (after_ids who job freed) []
 full_ends who job freed is = subst (λ (t : CallTree). Makes t []) (sym (yes (job.number == freed + limit_of who.sizes) Ended (fill who job 0 (words_for (length job.frame))) (eq-eqb _ _ is))) refl
 
-room_fills : (who : Who) (job : Job) (freed : ℕ) → job.number ≢ freed + limit_of who.sizes → Makes (after_ids who job freed) (fill_steps who job 0 (words_for (length job.frame)) ++ publish_steps who job)
-room_fills who job freed ne = subst (λ (t : CallTree). Makes t (fill_steps who job 0 (words_for (length job.frame)) ++ publish_steps who job))
-    (sym (no (job.number == freed + limit_of who.sizes) Ended (fill who job 0 (words_for (length job.frame))) (ne_eqb _ _ ne))) (fill_made who job 0 (words_for (length job.frame)))
+room_fills : (who : Who) (job : Job) (freed event : ℕ) → job.number ≢ freed + limit_of who.sizes →
+    Makes (after_ids who job freed) (fill_steps who job 0 (words_for (length job.frame)) ++ (publish_steps who job ++ tell_steps who job.number event))
+room_fills who job freed event ne = subst (λ (t : CallTree). Makes t (fill_steps who job 0 (words_for (length job.frame)) ++ (publish_steps who job ++ tell_steps who job.number event)))
+    (sym (no (job.number == freed + limit_of who.sizes) Ended (fill who job 0 (words_for (length job.frame))) (ne_eqb _ _ ne))) (fill_made who job 0 (words_for (length job.frame)) event)
 
 pub offer_made : (who : Who) (job : Job) (freed : ℕ) (steps : List Step) → IsOffer who job freed steps → Makes (offer who job freed) steps
 offer_made who job freed steps (inl r) = subst (λ (l : List Step). Makes (offer who job freed) l) (sym r.steps_are)
@@ -210,4 +242,4 @@ offer_made who job freed steps (inr (inr (inl r))) = let total = freed + returne
     (offer_from who job freed r.value _ _ true (within_test _ _ r.within) refl (ids_good who job freed (returned_by freed r.value) total [] refl (full_ends who job total r.full)))
 offer_made who job freed steps (inr (inr (inr r))) = let total = freed + returned_by freed r.value in subst (λ (l : List Step). Makes (offer who job freed) l) (sym r.steps_are)
     (offer_from who job freed r.value _ _ true (within_test _ _ r.within) refl
-    (ids_good who job freed (returned_by freed r.value) total (fill_steps who job 0 (words_for (length job.frame)) ++ publish_steps who job) refl (room_fills who job total r.room)))
+    (ids_good who job freed (returned_by freed r.value) total (fill_steps who job 0 (words_for (length job.frame)) ++ (publish_steps who job ++ tell_steps who job.number r.event)) refl (room_fills who job total r.event r.room)))

@@ -5,7 +5,7 @@ use Rattle.std.proofs.lemmas.Bool.Decides.{nat_tests}
 use mathlib.Core.Logic.{dite}
 use native.Mathlib.Decide.{dec_lt}
 use Rattle.split_ring.specs.declared.ranges.FieldName.TheVariants as field_name
-use Rattle.split_ring.specs.declared.steps.Access.TheVariants.{Read, Ring}
+use Rattle.split_ring.specs.declared.steps.Access.TheVariants.{Read}
 use Rattle.split_ring.specs.Layout.{Sizes, size_of, word_place, Address, Length, Flags, Entry}
 use Rattle.split_ring.specs.Ranges.{IsAvailEntry, IsDescAddress, IsDescLength, IsDescFlags}
 use Rattle.split_ring.specs.Spelling.{low_half, high_half, entry_half}
@@ -13,8 +13,8 @@ use Rattle.call_grammar.specs.Steps.{Step, Mark, Look, Deliver, Done, step_of}
 use Rattle.call_grammar.specs.Trees.{CallTree, Ended, Reads, Makes}
 use Rattle.call_grammar.specs.Ticks.{Who, set_state, state_step}
 use Rattle.call_grammar.specs.Words.{address_of, words_for, frame_in}
-use Rattle.call_grammar.specs.Offers.{entry_of, refusal, refused_steps}
-use Rattle.call_grammar.specs.Polls.{is_entry, is_address, is_length, give_back, read_words, read_flags, read_length, read_high, read_low, item, items, published_by, look_marks, poll, Item, item_entry, item_address, entry_step, low_step, high_step, length_step, word_steps, return_steps, IsGood, item_steps, AreGood, items_steps, IsRefusedItem, look_step, IsPoll}
+use Rattle.call_grammar.specs.Offers.{entry_of, refusal, refused_steps, ring_step}
+use Rattle.call_grammar.specs.Polls.{is_entry, is_address, is_length, give_back, read_words, read_flags, read_length, read_high, read_low, item, items, published_by, look_marks, ask, look, poll, ask_step, IsLook, FindsNothing, LooksAgain, Item, item_entry, item_address, entry_step, low_step, high_step, length_step, word_steps, return_steps, IsGood, item_steps, AreGood, items_steps, IsRefusedItem, look_step, IsPoll}
 use Rattle.call_grammar.proofs.TickLists.{set_listed}
 use Rattle.call_grammar.proofs.OfferLists.{yes, no, within_test, beyond_test}
 
@@ -226,7 +226,7 @@ item_listed who number after steps m = entry_item who number after steps
 
 abbrev ItemsListed : Who → (number count : ℕ) → List Step → Type 0
 ItemsListed who number count steps =
-    ((reads : List Item) × AreGood who number reads × (length reads ≡ count) × (steps ≡ items_steps who number reads ++ step_of (Ring who.other who.vector) 0 (Done ∷ []) ∷ [])) ⊎
+    ((reads : List Item) × AreGood who number reads × (length reads ≡ count) × (steps ≡ items_steps who number reads ++ ring_step who (Done ∷ []) ∷ [])) ⊎
     ((reads : List Item) × AreGood who number reads × (length reads < count) × (at : ℕ) × (at ≡ number + length reads) × (last : Item) × (last_steps : List Step) × IsRefusedItem who at last last_steps × (steps ≡ items_steps who number reads ++ last_steps))
 
 items_listed : (who : Who) (number count : ℕ) (steps : List Step) → Makes (items who number count) steps → ItemsListed who number count steps
@@ -235,25 +235,40 @@ items_listed who number zero (step ∷ steps) m = inl ([], tt, refl, (let first 
 items_listed who number (suc more) steps m = elim (item_listed who number (items who (number + 1) more) steps m) as (λ _. ItemsListed who number (suc more) steps) [
   | inr refused ↦ inr ([], tt, omega arith, number, omega arith, refused.0, steps, refused.1, refl)
   | inl good ↦ elim (items_listed who (number + 1) more good.2 good.3) as (λ _. ItemsListed who number (suc more) steps) [
-    | inl all ↦ inl (good.0 ∷ all.0, (good.1, all.1), (let n = all.2 in omega arith), (let here = good.4 in let rest = all.3 in let seam = append_assoc (item_steps who number good.0) (items_steps who (number + 1) all.0) (step_of (Ring who.other who.vector) 0 (Done ∷ []) ∷ []) in cc))
+    | inl all ↦ inl (good.0 ∷ all.0, (good.1, all.1), (let n = all.2 in omega arith), (let here = good.4 in let rest = all.3 in let seam = append_assoc (item_steps who number good.0) (items_steps who (number + 1) all.0) (ring_step who (Done ∷ []) ∷ []) in cc))
     | inr some ↦ inr (good.0 ∷ some.0, (good.1, some.1), (let n = some.2 in omega arith), some.3, (let e = some.4 in omega arith), some.5, some.6, some.7, (let here = good.4 in let rest = some.8 in let seam = append_assoc (item_steps who number good.0) (items_steps who (number + 1) some.0) some.6 in cc))
   ]
 ]
 
-poll_by : (who : Who) (taken value : ℕ) (step : Step) (steps : List Step) (b c : Bool) → nat_le (published_by taken value) (size_of who.sizes) ≡ b → (published_by taken value == 0) ≡ c →
-    step ≡ look_step who value (if b then (if c then Look 0 ∷ Done ∷ [] else Look (published_by taken value) ∷ []) else refusal field_name.AvailIndex (high_half value)) →
-    Makes (if b then (if c then Ended else items who taken (published_by taken value)) else set_state 0) steps → IsPoll who taken (step ∷ steps)
-poll_by who taken value step steps false c test zero_test first later = inl record { value = value; beyond = λ within. grind (arith, nat_tests); steps_are = let tail = set_listed 0 steps later in cc }
-poll_by who taken value step steps true true test zero_test first later = inr (inl record { value = value; none = grind (arith, nat_tests); steps_are = let none = later in cc })
-poll_by who taken value step steps true false test zero_test first later = let within : published_by taken value ≤ size_of who.sizes = grind (arith, nat_tests) in
-    let some : published_by taken value ≢ 0 = λ e. grind (arith, nat_tests) in elim (items_listed who taken (published_by taken value) steps later) as (λ _. IsPoll who taken (step ∷ steps)) [
+look_by : (who : Who) (taken : ℕ) (last : Bool) (none : CallTree) (FindsNone : List Step → Type 0) (value : ℕ) (step : Step) (steps : List Step) (b c : Bool) → nat_le (published_by taken value) (size_of who.sizes) ≡ b → (published_by taken value == 0) ≡ c →
+    (published_by taken value ≡ 0 → step ≡ look_step who value (if last then Look 0 ∷ Done ∷ [] else Look 0 ∷ []) → Makes none steps → FindsNone (step ∷ steps)) →
+    step ≡ look_step who value (if b then (if c then (if last then Look 0 ∷ Done ∷ [] else Look 0 ∷ []) else Look (published_by taken value) ∷ []) else refusal field_name.AvailIndex (high_half value)) →
+    Makes (if b then (if c then none else items who taken (published_by taken value)) else set_state 0) steps → IsLook who taken FindsNone (step ∷ steps)
+look_by who taken last none FindsNone value step steps false c test zero_test found first later = inl record { value = value; beyond = λ within. grind (arith, nat_tests); steps_are = let tail = set_listed 0 steps later in cc }
+look_by who taken last none FindsNone value step steps true true test zero_test found first later = inr (inl (found (grind (arith, nat_tests)) first later))
+look_by who taken last none FindsNone value step steps true false test zero_test found first later = let within : published_by taken value ≤ size_of who.sizes = grind (arith, nat_tests) in
+    let some : published_by taken value ≢ 0 = λ e. grind (arith, nat_tests) in elim (items_listed who taken (published_by taken value) steps later) as (λ _. IsLook who taken FindsNone (step ∷ steps)) [
       | inl all ↦ inr (inr (inl record { value = value; within = within; some = some; reads = all.0; all = all.2; good = all.1; steps_are = let rest = all.3 in cc }))
       | inr bad ↦ inr (inr (inr record { value = value; within = within; reads = bad.0; before = bad.2; good = bad.1; last = bad.5; last_steps = bad.6; refused = subst (λ k. IsRefusedItem who k bad.5 bad.6) bad.4 bad.7; steps_are = let rest = bad.8 in cc }))
     ]
 
-pub poll_listed : (who : Who) (taken : ℕ) (steps : List Step) → Makes (poll who taken) steps → IsPoll who taken steps
-poll_listed who taken [] m = absurd m
-poll_listed who taken (step ∷ steps) m = poll_by who taken m.0 step steps (nat_le (published_by taken m.0) (size_of who.sizes)) (published_by taken m.0 == 0) refl refl m.1 m.2
+-- the last look of a poll finds nothing
+nothing_listed : (who : Who) (taken value : ℕ) (step : Step) (steps : List Step) → published_by taken value ≡ 0 → step ≡ look_step who value (Look 0 ∷ Done ∷ []) → Makes Ended steps → FindsNothing who taken (step ∷ steps)
+nothing_listed who taken value step steps none first later = record { value = value; none = none; steps_are = cc }
+
+last_listed : (who : Who) (taken : ℕ) (steps : List Step) → Makes (poll who taken true) steps → IsPoll who taken true steps
+last_listed who taken [] m = absurd m
+last_listed who taken (step ∷ steps) m = look_by who taken true Ended (FindsNothing who taken) m.0 step steps (nat_le (published_by taken m.0) (size_of who.sizes)) (published_by taken m.0 == 0) refl refl (nothing_listed who taken m.0 step steps) m.1 m.2
+
+-- a look before the last one finds nothing
+again_listed : (who : Who) (taken value : ℕ) (step : Step) (steps : List Step) → published_by taken value ≡ 0 → step ≡ look_step who value (Look 0 ∷ []) → Makes (ask who taken (poll who taken true)) steps → LooksAgain who taken (step ∷ steps)
+again_listed who taken value step [] none first later = absurd later
+again_listed who taken value step (asks ∷ steps) none first later = record { value = value; none = none; rest = steps; again = last_listed who taken steps later.1; steps_are = let second = later.0 in cc }
+
+pub poll_listed : (who : Who) (taken : ℕ) (last : Bool) (steps : List Step) → Makes (poll who taken last) steps → IsPoll who taken last steps
+poll_listed who taken true steps m = last_listed who taken steps m
+poll_listed who taken false [] m = absurd m
+poll_listed who taken false (step ∷ steps) m = look_by who taken false (ask who taken (poll who taken true)) (LooksAgain who taken) m.0 step steps (nat_le (published_by taken m.0) (size_of who.sizes)) (published_by taken m.0 == 0) refl refl (again_listed who taken m.0 step steps) m.1 m.2
 
 -- And back
 
@@ -293,7 +308,7 @@ refused_made who number after read steps (inr (inr (inr is))) = subst (λ (l : L
     (entry_made who number after read _ is.0 (high_made who number after read _ is.1 (length_made who number after read _ is.2
     (tested_bad (who.theirs + word_place who.sizes (Flags (item_entry who number read))) (λ value. low_half value == 0) (λ value. refusal field_name.DescFlags (low_half value)) (λ value. read_words who number (item_entry who number read) (item_address read) read.bytes [] (words_for read.bytes) after) read.flags_word (ne_eqb _ _ is.3)))))
 
-items_made : (who : Who) (number count : ℕ) (reads : List Item) → AreGood who number reads → length reads ≡ count → Makes (items who number count) (items_steps who number reads ++ step_of (Ring who.other who.vector) 0 (Done ∷ []) ∷ [])
+items_made : (who : Who) (number count : ℕ) (reads : List Item) → AreGood who number reads → length reads ≡ count → Makes (items who number count) (items_steps who number reads ++ ring_step who (Done ∷ []) ∷ [])
 items_made who number zero [] good n = (refl, refl)
 items_made who number (suc more) [] good n = absurd (omega arith)
 items_made who number zero (read ∷ reads) good n = absurd (omega arith)
@@ -308,23 +323,37 @@ items_refused who number (suc more) at [] last last_steps good lt is refused = r
 items_refused who number (suc more) at (read ∷ reads) last last_steps good lt is refused = subst (λ (l : List Step). Makes (items who number (suc more)) l) (sym (append_assoc (item_steps who number read) (items_steps who (number + 1) reads) last_steps))
     (good_made who number (items who (number + 1) more) read _ good.0 (items_refused who (number + 1) more at reads last last_steps good.1 (omega arith) (omega arith) refused))
 
-poll_from : (who : Who) (taken value : ℕ) (step : Step) (steps : List Step) (b c : Bool) → nat_le (published_by taken value) (size_of who.sizes) ≡ b → (published_by taken value == 0) ≡ c →
-    step ≡ look_step who value (if b then (if c then Look 0 ∷ Done ∷ [] else Look (published_by taken value) ∷ []) else refusal field_name.AvailIndex (high_half value)) →
-    Makes (if b then (if c then Ended else items who taken (published_by taken value)) else set_state 0) steps → Makes (poll who taken) (step ∷ steps)
-poll_from who taken value step steps b c test zero_test first later = (
+look_from : (who : Who) (taken : ℕ) (last : Bool) (none : CallTree) (value : ℕ) (step : Step) (steps : List Step) (b c : Bool) → nat_le (published_by taken value) (size_of who.sizes) ≡ b → (published_by taken value == 0) ≡ c →
+    step ≡ look_step who value (if b then (if c then (if last then Look 0 ∷ Done ∷ [] else Look 0 ∷ []) else Look (published_by taken value) ∷ []) else refusal field_name.AvailIndex (high_half value)) →
+    Makes (if b then (if c then none else items who taken (published_by taken value)) else set_state 0) steps → Makes (look who taken last none) (step ∷ steps)
+look_from who taken last none value step steps b c test zero_test first later = (
   value,
-  subst (λ (s : Bool). step ≡ look_step who value (if s then look_marks (published_by taken value) else refusal field_name.AvailIndex (high_half value))) (sym test)
-      (subst (λ (s : Bool). step ≡ look_step who value (if b then (if s then Look 0 ∷ Done ∷ [] else Look (published_by taken value) ∷ []) else refusal field_name.AvailIndex (high_half value))) (sym zero_test) first),
-  subst (λ (s : Bool). Makes (if s then (if published_by taken value == 0 then Ended else items who taken (published_by taken value)) else set_state 0) steps) (sym test)
-      (subst (λ (s : Bool). Makes (if b then (if s then Ended else items who taken (published_by taken value)) else set_state 0) steps) (sym zero_test) later),
+  subst (λ (s : Bool). step ≡ look_step who value (if s then look_marks last (published_by taken value) else refusal field_name.AvailIndex (high_half value))) (sym test)
+      (subst (λ (s : Bool). step ≡ look_step who value (if b then (if s then (if last then Look 0 ∷ Done ∷ [] else Look 0 ∷ []) else Look (published_by taken value) ∷ []) else refusal field_name.AvailIndex (high_half value))) (sym zero_test) first),
+  subst (λ (s : Bool). Makes (if s then (if published_by taken value == 0 then none else items who taken (published_by taken value)) else set_state 0) steps) (sym test)
+      (subst (λ (s : Bool). Makes (if b then (if s then none else items who taken (published_by taken value)) else set_state 0) steps) (sym zero_test) later),
 )
 
-pub poll_made : (who : Who) (taken : ℕ) (steps : List Step) → IsPoll who taken steps → Makes (poll who taken) steps
-poll_made who taken steps (inl r) = subst (λ (l : List Step). Makes (poll who taken) l) (sym r.steps_are) (poll_from who taken r.value _ (state_step 0 ∷ []) false (published_by taken r.value == 0) (beyond_test _ _ r.beyond) refl refl (refl, refl))
-poll_made who taken steps (inr (inl r)) = subst (λ (l : List Step). Makes (poll who taken) l) (sym r.steps_are)
-    (poll_from who taken r.value _ [] true true (within_test _ _ (let n = r.none in omega arith)) (eq-eqb _ _ r.none) refl refl)
-poll_made who taken steps (inr (inr (inl r))) = subst (λ (l : List Step). Makes (poll who taken) l) (sym r.steps_are)
-    (poll_from who taken r.value _ _ true false (within_test _ _ r.within) (ne_eqb _ _ r.some) refl (items_made who taken (published_by taken r.value) r.reads r.good r.all))
-poll_made who taken steps (inr (inr (inr r))) = subst (λ (l : List Step). Makes (poll who taken) l) (sym r.steps_are)
-    (poll_from who taken r.value _ _ true false (within_test _ _ r.within) (ne_eqb _ _ (λ e. let lt = r.before in omega arith)) refl
+look_made : (who : Who) (taken : ℕ) (last : Bool) (none : CallTree) (FindsNone : List Step → Type 0) (steps : List Step) → (FindsNone steps → Makes (look who taken last none) steps) → IsLook who taken FindsNone steps → Makes (look who taken last none) steps
+look_made who taken last none FindsNone steps found (inl r) = subst (λ (l : List Step). Makes (look who taken last none) l) (sym r.steps_are) (look_from who taken last none r.value _ (state_step 0 ∷ []) false (published_by taken r.value == 0) (beyond_test _ _ r.beyond) refl refl (refl, refl))
+look_made who taken last none FindsNone steps found (inr (inl r)) = found r
+look_made who taken last none FindsNone steps found (inr (inr (inl r))) = subst (λ (l : List Step). Makes (look who taken last none) l) (sym r.steps_are)
+    (look_from who taken last none r.value _ _ true false (within_test _ _ r.within) (ne_eqb _ _ r.some) refl (items_made who taken (published_by taken r.value) r.reads r.good r.all))
+look_made who taken last none FindsNone steps found (inr (inr (inr r))) = subst (λ (l : List Step). Makes (look who taken last none) l) (sym r.steps_are)
+    (look_from who taken last none r.value _ _ true false (within_test _ _ r.within) (ne_eqb _ _ (λ e. let lt = r.before in omega arith)) refl
     (items_refused who taken (published_by taken r.value) (taken + length r.reads) r.reads r.last r.last_steps r.good r.before refl r.refused))
+
+nothing_made : (who : Who) (taken : ℕ) (steps : List Step) → FindsNothing who taken steps → Makes (poll who taken true) steps
+nothing_made who taken steps r = subst (λ (l : List Step). Makes (poll who taken true) l) (sym r.steps_are)
+    (look_from who taken true Ended r.value _ [] true true (within_test _ _ (let n = r.none in omega arith)) (eq-eqb _ _ r.none) refl refl)
+
+last_made : (who : Who) (taken : ℕ) (steps : List Step) → IsPoll who taken true steps → Makes (poll who taken true) steps
+last_made who taken steps is = look_made who taken true Ended (FindsNothing who taken) steps (nothing_made who taken steps) is
+
+again_made : (who : Who) (taken : ℕ) (steps : List Step) → LooksAgain who taken steps → Makes (poll who taken false) steps
+again_made who taken steps r = subst (λ (l : List Step). Makes (poll who taken false) l) (sym r.steps_are)
+    (look_from who taken false (ask who taken (poll who taken true)) r.value _ (ask_step who taken ∷ r.rest) true true (within_test _ _ (let n = r.none in omega arith)) (eq-eqb _ _ r.none) refl (refl, last_made who taken r.rest r.again))
+
+pub poll_made : (who : Who) (taken : ℕ) (last : Bool) (steps : List Step) → IsPoll who taken last steps → Makes (poll who taken last) steps
+poll_made who taken true steps is = last_made who taken steps is
+poll_made who taken false steps is = look_made who taken false (ask who taken (poll who taken true)) (LooksAgain who taken) steps (again_made who taken steps) is

@@ -2,7 +2,7 @@
 use Rattle.std.proofs.Common.{◌≡◌, ℕ, zero, suc, ◌+◌, ◌-◌, ◌*◌, ◌%◌, ◌<◌, ◌≤◌, Bool, true, false, List, [], ◌∷◌, ◌++◌, length, refl, sym, subst, arith, inl, inr, All, length-append}
 use Rattle.std.specs.Prelude.{◌==◌, nat_le, if◌then◌else◌}
 use Rattle.std.proofs.lemmas.Nat.{mod_below}
-use Rattle.split_ring.specs.Layout.{Field, Address, Length, Flags, AvailableIndex, Entry, UsedIndex, Id, Amount, Slot, IsField, size_of, limit_of, slot_of, width_of, word_place}
+use Rattle.split_ring.specs.Layout.{Field, Address, Length, Flags, AvailableIndex, Entry, UsedIndex, Id, Amount, AvailableEvent, Slot, IsField, has_events, size_of, limit_of, slot_of, width_of, word_place}
 use Rattle.split_ring.specs.Spelling.{low_half, entry_half}
 use Rattle.split_ring.proofs.Bounds.{bounds}
 use Rattle.split_ring.proofs.Places.{places_lem}
@@ -17,8 +17,8 @@ use Rattle.call_grammar.specs.Trees.{CallTree, Ended, Does, Reads, Goes, GoesAlo
 use Rattle.call_grammar.specs.Ends.{End}
 use Rattle.call_grammar.specs.Ticks.{Who, clear, set_state, after_tick}
 use Rattle.call_grammar.specs.Words.{address_of, words_for}
-use Rattle.call_grammar.specs.Offers.{Job, entry_of, descriptor_of, fill, read_ids, returned_by, offer}
-use Rattle.call_grammar.specs.Polls.{is_entry, is_address, is_length, read_words, read_flags, read_length, read_low, item, items, published_by, poll}
+use Rattle.call_grammar.specs.Offers.{Job, entry_of, descriptor_of, ring, asks_for, hear, tell, fill, read_ids, returned_by, offer}
+use Rattle.call_grammar.specs.Polls.{is_entry, is_address, is_length, read_words, read_flags, read_length, read_low, item, items, published_by, is_last, look, ask, poll}
 use Rattle.call_grammar.proofs.PollLists.{entry_tells, address_tells, length_tells}
 use Rattle.call_grammar.specs.Calls.{Call, Tick, Stop, Offer, Poll, in_run, job_of, down, tree_of}
 use Rattle.call_grammar.specs.Reach.{MayDo, MayRead, MayStore, InReach, StaysInReach, HasSections, IsGiven, CallsStayInReach}
@@ -63,6 +63,12 @@ choice : (who : Who) (b : Bool) (t u : CallTree) → (b ≡ true → StaysInReac
 choice who true t u first second = first refl
 choice who false t u first second = second
 
+tell_stays : (who : Who) → HasSections who → (number : ℕ) → StaysInReach who (tell who number)
+tell_stays who has number = choice who (has_events who.sizes) (hear who number) (ring who) (λ _. (
+  first_their who has AvailableEvent tt (omega arith),
+  λ value. choice who (asks_for (low_half value) number) (ring who) Ended (λ _. (refl, tt)) tt,
+)) (refl, tt)
+
 fill_stays : (who : Who) → HasSections who → (job : Job) (at more : ℕ) → 4 * (at + more) ≤ slot_of who.sizes → StaysInReach who (fill who job at more)
 fill_stays who has job at zero room = let i = in_table who has job.number in (
   first_own who has (Address (descriptor_of who job.number)) i (omega arith),
@@ -74,7 +80,7 @@ fill_stays who has job at zero room = let i = in_table who has job.number in (
         first_own who has (Flags (descriptor_of who job.number)) i (omega arith),
         (
           first_own who has (Entry (entry_of who job.number)) (in_ring who has job.number) (omega arith),
-          (first_own who has AvailableIndex tt (omega arith), (refl, tt)),
+          (first_own who has AvailableIndex tt (omega arith), tell_stays who has job.number),
         ),
       ),
     ),
@@ -126,18 +132,23 @@ items_stay : (who : Who) → HasSections who → (number more : ℕ) → StaysIn
 items_stay who has number zero = (refl, tt)
 items_stay who has number (suc more) = item_stays who has number (items who (number + 1) more) (items_stay who has (number + 1) more)
 
-poll_stays : (who : Who) → HasSections who → (taken : ℕ) → StaysInReach who (poll who taken)
-poll_stays who has taken = (
+look_stays : (who : Who) → HasSections who → (taken : ℕ) (last : Bool) (none : CallTree) → StaysInReach who none → StaysInReach who (look who taken last none)
+look_stays who has taken last none stays = (
   first_their who has AvailableIndex tt (omega arith),
-  λ value. let d = published_by taken value in choice who (nat_le d (size_of who.sizes)) (if d == 0 then Ended else items who taken d) (set_state 0)
-      (λ _. choice who (d == 0) Ended (items who taken d) (λ _. tt) (items_stay who has taken d)) (tt, tt),
+  λ value. let d = published_by taken value in choice who (nat_le d (size_of who.sizes)) (if d == 0 then none else items who taken d) (set_state 0)
+      (λ _. choice who (d == 0) none (items who taken d) (λ _. stays) (items_stay who has taken d)) (tt, tt),
 )
+
+poll_stays : (who : Who) → HasSections who → (taken : ℕ) (last : Bool) → StaysInReach who (poll who taken last)
+poll_stays who has taken true = look_stays who has taken true Ended tt
+poll_stays who has taken false = look_stays who has taken false (ask who taken (look who taken true Ended))
+    (first_own who has AvailableEvent tt (omega arith), look_stays who has taken true Ended tt)
 
 pub call_stays : (who : Who) (end : End) (call : Call) → HasSections who → IsGiven who call → StaysInReach who (tree_of who end call)
 call_stays who end Tick has given = (inl refl, λ value. after_tick_stays who (move_of end.handshake value))
 call_stays who end Stop has given = (tt, tt)
 call_stays who end (Offer frame) has given = choice who (in_run end.handshake.phase) (offer who (job_of who end frame) end.freed) down (λ _. offer_stays who has (job_of who end frame) end.freed given.1) (tt, tt)
-call_stays who end Poll has given = choice who (in_run end.handshake.phase) (poll who (length end.delivered)) down (λ _. poll_stays who has (length end.delivered)) (tt, tt)
+call_stays who end Poll has given = choice who (in_run end.handshake.phase) (poll who (length end.delivered) (is_last who end.found_none)) down (λ _. poll_stays who has (length end.delivered) (is_last who end.found_none)) (tt, tt)
 
 reach_of : (who : Who) (a : Access) → MayDo who a → InReach who a
 reach_of who (access.Read word) may = absurd may

@@ -2,7 +2,7 @@
 use Rattle.std.proofs.Common.{◌≡◌, ℕ, zero, suc, ◌+◌, ◌-◌, true, false, Bool, List, [], ◌∷◌, ◌++◌, length, refl, sym, subst, inl, inr}
 use Rattle.std.specs.Prelude.{◌==◌, nat_le, if◌then◌else◌}
 use Rattle.split_ring.specs.declared.ranges.FieldName.TheVariants as field_name
-use Rattle.split_ring.specs.Layout.{size_of, limit_of, word_place, AvailableIndex, UsedIndex, Id}
+use Rattle.split_ring.specs.Layout.{has_events, size_of, limit_of, word_place, AvailableIndex, UsedIndex, Id}
 use Rattle.split_ring.specs.Spelling.{low_half, high_half, entry_half}
 use Rattle.link_handshake.specs.declared.Phase.{Phase}
 use Rattle.link_handshake.specs.Standing.{move_of}
@@ -11,13 +11,13 @@ use Rattle.link_handshake.specs.declared.Move.TheVariants.{Stay, Set, ClearThenS
 use Rattle.link_handshake.specs.PhaseTable.{move_on}
 use Rattle.split_ring.specs.declared.steps.Access.{Access}
 use Rattle.split_ring.specs.declared.steps.Access.TheVariants as access
-use Rattle.call_grammar.specs.Steps.{Mark, Reclaim, Full, Look, Deliver, Done, Step, value_given, step_of}
+use Rattle.call_grammar.specs.Steps.{Mark, Reclaim, Full, Look, Deliver, Done, Over, Step, value_given, step_of}
 use Rattle.call_grammar.specs.Trees.{CallTree, Ended, Does, Reads, Goes}
 use Rattle.call_grammar.specs.Ends.{End}
 use Rattle.call_grammar.specs.Ticks.{Who, clear, set_state, tick_marks, after_tick}
 use Rattle.call_grammar.specs.Words.{address_of, words_for, frame_in}
-use Rattle.call_grammar.specs.Offers.{Job, entry_of, descriptor_of, refusal, full_marks, fill, read_ids, returned_by, reclaim_marks, offer}
-use Rattle.call_grammar.specs.Polls.{is_entry, is_address, is_length, read_words, read_flags, read_length, read_high, read_low, item, items, published_by, look_marks, poll}
+use Rattle.call_grammar.specs.Offers.{Job, entry_of, descriptor_of, refusal, full_marks, ring, asks_for, hear, tell, fill, read_ids, returned_by, reclaim_marks, offer}
+use Rattle.call_grammar.specs.Polls.{is_entry, is_address, is_length, read_words, read_flags, read_length, read_high, read_low, item, items, published_by, is_last, look_marks, look, ask, poll}
 use Rattle.call_grammar.specs.Calls.{Call, Tick, Stop, Offer, Poll, in_run, job_of, down, tree_of}
 use Rattle.call_grammar.specs.Rows.{MovesTo, phase_with, seen_with, SeesTheOther, RowHolds, KeepsRows, CallsKeepRows}
 
@@ -62,8 +62,14 @@ back_off who phase seen = ((inl refl, tt), tt)
 full_sees : (who : Who) (word value : ℕ) (job : Job) (freed : ℕ) → SeesTheOther who word value (full_marks who job freed)
 full_sees who word value job freed = blind who word value (job.number == freed + limit_of who.sizes) (Full ∷ []) [] tt tt
 
+tell_keeps : (who : Who) (phase : Phase) (seen number : ℕ) → KeepsRows who phase seen (tell who number)
+tell_keeps who phase seen number = either who phase seen (has_events who.sizes) (hear who number) (ring who) (λ value. (
+  blind who _ value (asks_for (low_half value) number) [] (Over ∷ []) tt tt,
+  either who phase _ (asks_for (low_half value) number) (ring who) Ended (tt, tt) tt,
+)) (tt, tt)
+
 fill_keeps : (who : Who) (phase : Phase) (seen : ℕ) (job : Job) (at more : ℕ) → KeepsRows who phase seen (fill who job at more)
-fill_keeps who phase seen job at zero = (tt, (tt, (tt, (tt, (tt, (tt, (tt, tt)))))))
+fill_keeps who phase seen job at zero = (tt, (tt, (tt, (tt, (tt, (tt, tell_keeps who phase seen job.number))))))
 fill_keeps who phase seen job at (suc more) = (tt, fill_keeps who phase seen job (at + 1) more)
 
 ids_keep : (who : Who) (phase : Phase) (job : Job) (freed more seen : ℕ) → KeepsRows who phase seen (read_ids who job freed more)
@@ -116,17 +122,22 @@ items_keep : (who : Who) (phase : Phase) (seen number more : ℕ) → KeepsRows 
 items_keep who phase seen number zero = (tt, tt)
 items_keep who phase seen number (suc more) = item_keeps who phase seen number (items who (number + 1) more) (λ s. items_keep who phase s (number + 1) more)
 
-poll_keeps : (who : Who) (phase : Phase) (seen taken : ℕ) → KeepsRows who phase seen (poll who taken)
-poll_keeps who phase seen taken = λ value. let word = who.theirs + word_place who.sizes AvailableIndex in let d = published_by taken value in (
-  blind who word value (nat_le d (size_of who.sizes)) (look_marks d) (refusal field_name.AvailIndex (high_half value)) (blind who word value (d == 0) (Look 0 ∷ Done ∷ []) (Look d ∷ []) tt tt) tt,
-  either who phase _ (nat_le d (size_of who.sizes)) (if d == 0 then Ended else items who taken d) (set_state 0) (either who phase _ (d == 0) Ended (items who taken d) tt (items_keep who phase _ taken d)) (back_off who phase _),
+look_keeps : (who : Who) (phase : Phase) (seen taken : ℕ) (last : Bool) (none : CallTree) → ((seen : ℕ) → KeepsRows who phase seen none) → KeepsRows who phase seen (look who taken last none)
+look_keeps who phase seen taken last none keeps = λ value. let word = who.theirs + word_place who.sizes AvailableIndex in let d = published_by taken value in (
+  blind who word value (nat_le d (size_of who.sizes)) (look_marks last d) (refusal field_name.AvailIndex (high_half value))
+      (blind who word value (d == 0) (if last then Look 0 ∷ Done ∷ [] else Look 0 ∷ []) (Look d ∷ []) (blind who word value last (Look 0 ∷ Done ∷ []) (Look 0 ∷ []) tt tt) tt) tt,
+  either who phase _ (nat_le d (size_of who.sizes)) (if d == 0 then none else items who taken d) (set_state 0) (either who phase _ (d == 0) none (items who taken d) (keeps _) (items_keep who phase _ taken d)) (back_off who phase _),
 )
+
+poll_keeps : (who : Who) (phase : Phase) (seen taken : ℕ) (last : Bool) → KeepsRows who phase seen (poll who taken last)
+poll_keeps who phase seen taken true = look_keeps who phase seen taken true Ended (λ seen. tt)
+poll_keeps who phase seen taken false = look_keeps who phase seen taken false (ask who taken (look who taken true Ended)) (λ seen. (tt, look_keeps who phase seen taken true Ended (λ seen. tt)))
 
 call_keeps : (who : Who) (end : End) (seen : ℕ) (call : Call) → KeepsRows who end.handshake.phase seen (tree_of who end call)
 call_keeps who end seen Tick = λ value. tick_keeps who end.handshake.phase value (move_of end.handshake value) seen (move_moves end.handshake.phase value end.handshake.mark)
 call_keeps who end seen Stop = back_off who end.handshake.phase seen
 call_keeps who end seen (Offer frame) = either who end.handshake.phase seen (in_run end.handshake.phase) (offer who (job_of who end frame) end.freed) down (offer_keeps who end.handshake.phase seen (job_of who end frame) end.freed) (tt, tt)
-call_keeps who end seen Poll = either who end.handshake.phase seen (in_run end.handshake.phase) (poll who (length end.delivered)) down (poll_keeps who end.handshake.phase seen (length end.delivered)) (tt, tt)
+call_keeps who end seen Poll = either who end.handshake.phase seen (in_run end.handshake.phase) (poll who (length end.delivered) (is_last who end.found_none)) down (poll_keeps who end.handshake.phase seen (length end.delivered) (is_last who end.found_none)) (tt, tt)
 
 -- the row of a step that gives its own value
 row_of : (who : Who) (phase : Phase) (seen : ℕ) (a : Access) (value : ℕ) (marks : List Mark) → RowHolds who phase seen a 0 marks → RowHolds who phase seen a (value_given a 0) marks

@@ -1,28 +1,25 @@
 -- An index is read once for each use.
-use Rattle.std.proofs.Common.{◌≡◌, ◌≢◌, ℕ, zero, suc, ◌+◌, ◌-◌, ◌*◌, ◌/◌, ◌%◌, ◌<◌, ◌≤◌, Bool, true, false, List, [], ◌∷◌, ◌++◌, length, refl, sym, ap, ◌∙◌, subst, arith, All, eq-eqb, ne_eqb}
+use Rattle.std.proofs.Common.{◌≡◌, ◌≢◌, ℕ, zero, suc, ◌+◌, ◌-◌, ◌*◌, ◌/◌, ◌<◌, ◌≤◌, Bool, true, false, List, [], ◌∷◌, ◌++◌, length, refl, sym, ap, ◌∙◌, subst, arith, All, eq-eqb, ne_eqb}
 use Rattle.std.specs.Prelude.{◌==◌, ◌||◌, nat_le, if◌then◌else◌}
 use Rattle.std.proofs.lemmas.Nat.{mod_below}
 use Rattle.std.proofs.lemmas.List.Elements.{All-nil, All-cons}
 use Rattle.link_handshake.specs.Standing.{move_of}
 use Rattle.link_handshake.specs.declared.Move.{Move}
 use Rattle.link_handshake.specs.declared.Move.TheVariants.{Stay, Set, ClearThenSet}
-use Rattle.split_ring.specs.Layout.{size_of, limit_of, payload_of, word_place, Address, Length, Flags, AvailableIndex, Entry, UsedIndex, Id}
+use Rattle.split_ring.specs.Layout.{has_events, size_of, limit_of, payload_of, word_place, Entry, Id, AvailableEvent}
 use Rattle.split_ring.specs.Spelling.{low_half, high_half, entry_half}
-use Rattle.split_ring.specs.Ranges.{IsDescAddress}
 use Rattle.split_ring.specs.declared.ranges.FieldName.TheVariants as field_name
-use Rattle.split_ring.specs.declared.steps.Access.{Access}
-use Rattle.split_ring.specs.declared.steps.Access.TheVariants as access
 use Rattle.split_ring.proofs.Bounds.{bounds}
-use Rattle.call_grammar.specs.Steps.{Mark, Reclaim, Full, Look, Deliver, Done, Step}
+use Rattle.call_grammar.specs.Steps.{Mark, Reclaim, Full, Look, Deliver, Done, Over, Step}
 use Rattle.call_grammar.specs.Trees.{CallTree, Ended, Does, Reads, Goes, GoesAlong}
 use Rattle.call_grammar.specs.Ends.{End}
 use Rattle.call_grammar.specs.Ticks.{Who, clear, set_state, other_state, tick_marks, after_tick}
 use Rattle.call_grammar.specs.Words.{address_of, words_for, frame_in}
-use Rattle.call_grammar.specs.Offers.{Job, entry_of, descriptor_of, refusal, full_marks, fill, id_marks, read_ids, returned_by, reclaim_marks, used_marks, offer}
-use Rattle.call_grammar.specs.Polls.{is_entry, is_address, is_length, entry_marks, address_marks, length_marks, flags_marks, read_words, read_flags, read_length, read_high, read_low, item, items, published_by, look_marks, available_marks, after_look, poll}
+use Rattle.call_grammar.specs.Offers.{Job, entry_of, descriptor_of, refusal, full_marks, ring, asks_for, hear, tell, fill, id_marks, read_ids, returned_by, reclaim_marks, used_marks, offer}
+use Rattle.call_grammar.specs.Polls.{is_entry, is_address, is_length, read_words, read_flags, read_length, read_low, item, items, published_by, is_last, look_marks, available_marks, after_look, look, ask, poll}
 use Rattle.call_grammar.specs.Calls.{Call, Tick, Stop, Offer, Poll, in_run, job_of, down, tree_of}
 use Rattle.call_grammar.specs.Reach.{HasSections}
-use Rattle.call_grammar.specs.ReadsOnce.{used_word, available_word, used_by, indexes_used, index_at, indexes_read, ReadsForUse}
+use Rattle.call_grammar.specs.ReadsOnce.{used_word, available_word, indexes_used, index_at, indexes_read, ReadsForUse}
 use Rattle.call_grammar.proofs.OfferLists.{yes, no}
 use Rattle.call_grammar.proofs.PollLists.{entry_tells, address_tells}
 
@@ -86,10 +83,11 @@ id_uses who job freed more value =
     either who (value == descriptor_of who freed) (if more == 0 then full_marks who job (freed + 1) else []) (refusal field_name.UsedId value) []
     (either who (more == 0) (full_marks who job (freed + 1)) [] [] (full_uses who job (freed + 1)) refl) refl
 
-available_uses : (who : Who) (taken value : ℕ) → indexes_used who (available_marks who taken value) ≡ available_word who ∷ []
-available_uses who taken value =
-    either who (nat_le (published_by taken value) (size_of who.sizes)) (look_marks (published_by taken value)) (refusal field_name.AvailIndex (high_half value)) (available_word who ∷ [])
-    (either who (published_by taken value == 0) (Look 0 ∷ Done ∷ []) (Look (published_by taken value) ∷ []) (available_word who ∷ []) refl refl) refl
+available_uses : (who : Who) (taken : ℕ) (last : Bool) (value : ℕ) → indexes_used who (available_marks who taken last value) ≡ available_word who ∷ []
+available_uses who taken last value =
+    either who (nat_le (published_by taken value) (size_of who.sizes)) (look_marks last (published_by taken value)) (refusal field_name.AvailIndex (high_half value)) (available_word who ∷ [])
+    (either who (published_by taken value == 0) (if last then Look 0 ∷ Done ∷ [] else Look 0 ∷ []) (Look (published_by taken value) ∷ []) (available_word who ∷ [])
+    (either who last (Look 0 ∷ Done ∷ []) (Look 0 ∷ []) (available_word who ∷ []) refl refl) refl) refl
 
 -- The calls
 
@@ -106,24 +104,33 @@ after_tick_uses who Stay = tt
 after_tick_uses who (Set state) = (refl, tt)
 after_tick_uses who (ClearThenSet state) = clear_uses who who.own who.words (set_state state) (refl, tt)
 
-fill_uses : (who : Who) (job : Job) (at more : ℕ) → UsesReads who (fill who job at more)
-fill_uses who job at zero = (refl, (refl, (refl, (refl, (refl, (refl, (refl, tt)))))))
-fill_uses who job at (suc more) = (refl, fill_uses who job (at + 1) more)
+event_apart : (who : Who) → HasSections who → index_at who (who.theirs + word_place who.sizes AvailableEvent) ≡ []
+event_apart who has = let least = (bounds who.sizes has.queue).size_least in at_no_index who _ (λ e. omega (arith, e)) (λ e. omega (arith, e))
+
+tell_uses : (who : Who) → HasSections who → (number : ℕ) → UsesReads who (tell who number)
+tell_uses who has number = choice who (has_events who.sizes) (hear who number) (ring who) (λ _. λ value. (
+  event_apart who has ∙ sym (either who (asks_for (low_half value) number) [] (Over ∷ []) [] refl refl),
+  choice who (asks_for (low_half value) number) (ring who) Ended (λ _. (refl, tt)) tt,
+)) (refl, tt)
+
+fill_uses : (who : Who) → HasSections who → (job : Job) (at more : ℕ) → UsesReads who (fill who job at more)
+fill_uses who has job at zero = (refl, (refl, (refl, (refl, (refl, (refl, tell_uses who has job.number))))))
+fill_uses who has job at (suc more) = (refl, fill_uses who has job (at + 1) more)
 
 id_apart : (who : Who) (freed : ℕ) → index_at who (who.theirs + word_place who.sizes (Id (entry_of who freed))) ≡ []
 id_apart who freed = at_no_index who _ (λ e. omega (arith, e)) (λ e. omega (arith, e))
 
-ids_use : (who : Who) (job : Job) (freed more : ℕ) → UsesReads who (read_ids who job freed more)
-ids_use who job freed zero = choice who (job.number == freed + limit_of who.sizes) Ended (fill who job 0 (words_for (length job.frame))) (λ _. tt) (fill_uses who job 0 (words_for (length job.frame)))
-ids_use who job freed (suc more) = λ value. (
+ids_use : (who : Who) → HasSections who → (job : Job) (freed more : ℕ) → UsesReads who (read_ids who job freed more)
+ids_use who has job freed zero = choice who (job.number == freed + limit_of who.sizes) Ended (fill who job 0 (words_for (length job.frame))) (λ _. tt) (fill_uses who has job 0 (words_for (length job.frame)))
+ids_use who has job freed (suc more) = λ value. (
   id_apart who freed ∙ sym (id_uses who job freed more value),
-  choice who (value == descriptor_of who freed) (read_ids who job (freed + 1) more) (set_state 0) (λ _. ids_use who job (freed + 1) more) (refl, tt),
+  choice who (value == descriptor_of who freed) (read_ids who job (freed + 1) more) (set_state 0) (λ _. ids_use who has job (freed + 1) more) (refl, tt),
 )
 
-offer_uses : (who : Who) (job : Job) (freed : ℕ) → UsesReads who (offer who job freed)
-offer_uses who job freed = λ value. (
+offer_uses : (who : Who) → HasSections who → (job : Job) (freed : ℕ) → UsesReads who (offer who job freed)
+offer_uses who has job freed = λ value. (
   at_used who ∙ sym (used_uses who job freed value),
-  choice who (nat_le (returned_by freed value) (job.number - freed)) (read_ids who job freed (returned_by freed value)) (set_state 0) (λ _. ids_use who job freed (returned_by freed value)) (refl, tt),
+  choice who (nat_le (returned_by freed value) (job.number - freed)) (read_ids who job freed (returned_by freed value)) (set_state 0) (λ _. ids_use who has job freed (returned_by freed value)) (refl, tt),
 )
 
 -- the words of a frame stand after those of the indexes
@@ -172,11 +179,15 @@ items_use : (who : Who) → HasSections who → (number more : ℕ) → UsesRead
 items_use who has number zero = (refl, tt)
 items_use who has number (suc more) = item_uses who has number (items who (number + 1) more) (items_use who has (number + 1) more)
 
-poll_uses : (who : Who) → HasSections who → (taken : ℕ) → UsesReads who (poll who taken)
-poll_uses who has taken = λ value. let d = published_by taken value in (
-  at_available who ∙ sym (available_uses who taken value),
-  choice who (nat_le d (size_of who.sizes)) (after_look who taken value) (set_state 0) (λ _. choice who (d == 0) Ended (items who taken d) (λ _. tt) (items_use who has taken d)) (refl, tt),
+look_uses : (who : Who) → HasSections who → (taken : ℕ) (last : Bool) (none : CallTree) → UsesReads who none → UsesReads who (look who taken last none)
+look_uses who has taken last none uses = λ value. let d = published_by taken value in (
+  at_available who ∙ sym (available_uses who taken last value),
+  choice who (nat_le d (size_of who.sizes)) (after_look who taken value none) (set_state 0) (λ _. choice who (d == 0) none (items who taken d) (λ _. uses) (items_use who has taken d)) (refl, tt),
 )
+
+poll_uses : (who : Who) → HasSections who → (taken : ℕ) (last : Bool) → UsesReads who (poll who taken last)
+poll_uses who has taken true = look_uses who has taken true Ended tt
+poll_uses who has taken false = look_uses who has taken false (ask who taken (look who taken true Ended)) (refl, look_uses who has taken true Ended tt)
 
 call_uses : (who : Who) (end : End) (call : Call) → HasSections who → other_state who < who.theirs → UsesReads who (tree_of who end call)
 call_uses who end Tick has before = λ value. (
@@ -184,8 +195,8 @@ call_uses who end Tick has before = λ value. (
   after_tick_uses who (move_of end.handshake value),
 )
 call_uses who end Stop has before = (refl, tt)
-call_uses who end (Offer frame) has before = choice who (in_run end.handshake.phase) (offer who (job_of who end frame) end.freed) down (λ _. offer_uses who (job_of who end frame) end.freed) (refl, tt)
-call_uses who end Poll has before = choice who (in_run end.handshake.phase) (poll who (length end.delivered)) down (λ _. poll_uses who has (length end.delivered)) (refl, tt)
+call_uses who end (Offer frame) has before = choice who (in_run end.handshake.phase) (offer who (job_of who end frame) end.freed) down (λ _. offer_uses who has (job_of who end frame) end.freed) (refl, tt)
+call_uses who end Poll has before = choice who (in_run end.handshake.phase) (poll who (length end.delivered) (is_last who end.found_none)) down (λ _. poll_uses who has (length end.delivered) (is_last who end.found_none)) (refl, tt)
 
 -- The steps
 

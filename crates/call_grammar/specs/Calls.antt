@@ -11,7 +11,7 @@ use Rattle.call_grammar.specs.Ends.{End}
 pub use Rattle.call_grammar.specs.Ticks.{Who}
 use Rattle.call_grammar.specs.Ticks.{tick, set_state, tick_steps, state_step}
 use Rattle.call_grammar.specs.Offers.{Job, entry_of, offer, IsOffer}
-use Rattle.call_grammar.specs.Polls.{poll, IsPoll}
+use Rattle.call_grammar.specs.Polls.{is_last, poll, IsPoll}
 
 -- what an end may be told to do: an Offer is of a frame, by its bytes
 pub data Call : Type 0 where
@@ -42,7 +42,7 @@ abbrev pub tree_of : Who → End → Call → CallTree
 tree_of who end Tick = tick who end
 tree_of who end Stop = set_state 0
 tree_of who end (Offer frame) = if in_run end.handshake.phase then offer who (job_of who end frame) end.freed else down
-tree_of who end Poll = if in_run end.handshake.phase then poll who (length end.delivered) else down
+tree_of who end Poll = if in_run end.handshake.phase then poll who (length end.delivered) (is_last who end.found_none) else down
 
 abbrev pub down_step : Step
 down_step = step_of Nothing 0 (Down ∷ [])
@@ -57,7 +57,7 @@ abbrev pub IsCall : Who → End → Call → List Step → Type 0
 IsCall who end Tick steps = (value : ℕ) × (steps ≡ tick_steps who value (move_of end.handshake value))
 IsCall who end Stop steps = steps ≡ state_step 0 ∷ []
 IsCall who end (Offer frame) steps = RunsOrIsDown end.handshake.phase (IsOffer who (job_of who end frame) end.freed steps) steps
-IsCall who end Poll steps = RunsOrIsDown end.handshake.phase (IsPoll who (length end.delivered) steps) steps
+IsCall who end Poll steps = RunsOrIsDown end.handshake.phase (IsPoll who (length end.delivered) (is_last who end.found_none) steps) steps
 
 -- a list of steps runs the tree of a call to its end exactly where it is one of the call's lists
 pub record CallsAreLists : Type 0 where

@@ -1,26 +1,28 @@
 -- An end of the link between two steps, and what a step changes in it. An end is changed by `record end { .. }` alone, and `fresh` is
 -- the only literal.
-use Rattle.std.specs.Prelude.{ℕ, ◌≡◌, ◌≢◌, ◌+◌, ◌==◌, true, false, if◌then◌else◌, List, [], ◌∷◌, ◌++◌}
+use Rattle.std.specs.Prelude.{ℕ, ◌≡◌, ◌≢◌, ◌+◌, ◌==◌, Bool, true, false, if◌then◌else◌, List, [], ◌∷◌, ◌++◌}
 use Rattle.link_handshake.specs.declared.Phase.TheVariants.{Reset}
 use Rattle.link_handshake.specs.PhaseTable.{phase_at}
 use Rattle.link_handshake.specs.Standing.{Standing}
 use Rattle.split_ring.specs.declared.steps.Access.{Access}
 use Rattle.split_ring.specs.declared.steps.Access.TheVariants as access
-use Rattle.call_grammar.specs.Steps.{Mark, Reclaim, Accept, Deliver, Return, Refuse, Step}
+use Rattle.call_grammar.specs.Steps.{Mark, Reclaim, Accept, Look, Deliver, Return, Refuse, Step}
 
 -- where its handshake stands: the phase, and the mark of an end that refused the link; of its session the frames accepted and
--- delivered, by their bytes, and how many were freed and returned; and what the end wrote last to each word of the region, or 0
+-- delivered, by their bytes, how many were freed and returned, and whether the last look at the other's available index found no new frame;
+-- and what the end wrote last to each word of the region, or 0
 pub record End : Type 0 where
   pub handshake : Standing
   pub accepted : List (List ℕ)
   pub freed : ℕ
   pub delivered : List (List ℕ)
   pub returned : ℕ
+  pub found_none : Bool
   pub written : ℕ → ℕ
 
 -- an end at its start
 abbrev pub fresh : End
-fresh = record { handshake = record { phase = Reset; mark = false }; accepted = []; freed = 0; delivered = []; returned = 0; written = λ word. 0 }
+fresh = record { handshake = record { phase = Reset; mark = false }; accepted = []; freed = 0; delivered = []; returned = 0; found_none = false; written = λ word. 0 }
 
 -- a device reset: the phase is RESET and the mark is gone; the words stay as they were written, and the lists until the next session (profile)
 abbrev pub after_reset : End → End
@@ -34,6 +36,7 @@ with_state end state = record {
   freed = if state == 2 then 0 else end.freed;
   delivered = if state == 2 then [] else end.delivered;
   returned = if state == 2 then 0 else end.returned;
+  found_none = if state == 2 then false else end.found_none;
   written = end.written;
 }
 
@@ -43,11 +46,12 @@ stated end (access.Write word value) = record end { written = λ w. if w == word
 stated end (access.State state) = with_state end state
 stated end _ = end
 
--- what a mark counts: frames freed, accepted, delivered and returned. A refusal marks the end; its phase is set at the State step
+-- what a mark counts: frames freed, accepted, delivered and returned; and of a look whether it found none. A refusal marks the end; its phase is set at the State step
 -- after it (profile)
 abbrev pub noted : End → Mark → End
 noted end (Reclaim count) = record end { freed = end.freed + count }
 noted end (Accept frame) = record end { accepted = end.accepted ++ frame ∷ [] }
+noted end (Look count) = record end { found_none = count == 0 }
 noted end (Deliver frame) = record end { delivered = end.delivered ++ frame ∷ [] }
 noted end Return = record end { returned = end.returned + 1 }
 noted end (Refuse refused) = record end { handshake = record (end.handshake) { mark = true } }

@@ -1,13 +1,13 @@
 -- An offer in RUN: how a peer frees what was returned and publishes a frame (VIRTIO 1.1, section 2.6.13: supplying buffers to the device;
 -- the order of accesses, one each step, and the limit in flight: profile), as a tree and as a table of lists.
-use Rattle.std.specs.Prelude.{ℕ, zero, suc, ◌≡◌, ◌≢◌, ◌+◌, ◌-◌, ◌%◌, ◌<◌, ◌==◌, nat_le, ◌⊎◌, if◌then◌else◌, List, [], ◌∷◌, ◌++◌, length}
+use Rattle.std.specs.Prelude.{ℕ, zero, suc, ◌≡◌, ◌≢◌, ◌+◌, ◌-◌, ◌%◌, ◌<◌, ◌==◌, nat_le, Bool, ◌⊎◌, if◌then◌else◌, List, [], ◌∷◌, ◌++◌, length}
 use Rattle.ivs_base.specs.Numbers.{distance}
 use Rattle.split_ring.specs.declared.ranges.FieldName.{FieldName}
 use Rattle.split_ring.specs.declared.ranges.FieldName.TheVariants as field_name
 use Rattle.split_ring.specs.declared.steps.Access.TheVariants.{Read, Write, Ring}
-use Rattle.split_ring.specs.Layout.{size_of, limit_of, place_of, word_place, Address, Length, Flags, AvailableIndex, Entry, UsedIndex, Id, Slot}
-use Rattle.split_ring.specs.Spelling.{high_half}
-use Rattle.split_ring.specs.Ranges.{IsUsedIndex, IsUsedId}
+use Rattle.split_ring.specs.Layout.{has_events, size_of, limit_of, place_of, word_place, Address, Length, Flags, AvailableIndex, Entry, UsedIndex, Id, AvailableEvent, Slot}
+use Rattle.split_ring.specs.Spelling.{low_half, high_half}
+use Rattle.split_ring.specs.Ranges.{IsUsedIndex, IsUsedId, needs_event}
 use Rattle.call_grammar.specs.Steps.{Mark, Reclaim, Full, Accept, Refuse, Over, Step, step_of}
 use Rattle.call_grammar.specs.Trees.{CallTree, Ended, Does, Reads}
 use Rattle.call_grammar.specs.Ticks.{Who, set_state, state_step}
@@ -40,10 +40,29 @@ full_marks who job freed = if job.number == freed + limit_of who.sizes then Full
 abbrev pub ring : Who → CallTree
 ring who = Does (Ring who.other who.vector) (Over ∷ []) Ended
 
+-- an event asks for a doorbell as the index goes past the frame with this number
+abbrev pub asks_for : (event number : ℕ) → Bool
+asks_for event number = needs_event event ((number + 1) % 65536) (number % 65536)
+
+-- the marks of the read of the other's event, in the low half of its word: the offer is over where it doesn't ask
+abbrev pub event_marks : (number value : ℕ) → List Mark
+event_marks number value = if asks_for (low_half value) number then [] else Over ∷ []
+
+-- the other's event, and the doorbell where it asks for this frame
+abbrev pub hear : Who → ℕ → CallTree
+hear who number =
+    Reads (who.theirs + word_place who.sizes AvailableEvent)
+    (λ value. event_marks number value)
+    (λ value. if asks_for (low_half value) number then ring who else Ended)
+
+-- the doorbell for this frame, in a link with events where the other asks for it
+abbrev pub tell : Who → ℕ → CallTree
+tell who number = if has_events who.sizes then hear who number else ring who
+
 -- the index word, with which the frame is accepted
 abbrev pub publish : Who → Job → CallTree
 publish who job =
-    Does (Write (who.own + word_place who.sizes AvailableIndex) (index_word (job.number + 1))) (Accept job.frame ∷ []) (ring who)
+    Does (Write (who.own + word_place who.sizes AvailableIndex) (index_word (job.number + 1))) (Accept job.frame ∷ []) (tell who job.number)
 
 -- the word with the entry, which names the descriptor, and what stands beside it
 abbrev pub entry_written : Who → Job → ℕ
@@ -147,7 +166,7 @@ fill_steps who job at (suc more) =
     write_step (who.own + word_place who.sizes (Slot (descriptor_of who job.number)) + at) (frame_word job.frame at) [] ∷
     fill_steps who job (at + 1) more
 
--- the descriptor, the entry, the index and the doorbell
+-- the descriptor, the entry and the index
 abbrev pub publish_steps : Who → Job → List Step
 publish_steps who job =
     write_step (who.own + word_place who.sizes (Address (descriptor_of who job.number))) (place_of who.sizes (Slot (descriptor_of who job.number))) [] ∷
@@ -155,8 +174,21 @@ publish_steps who job =
     write_step (who.own + word_place who.sizes (Length (descriptor_of who job.number))) (length job.frame) [] ∷
     write_step (who.own + word_place who.sizes (Flags (descriptor_of who job.number))) 0 [] ∷
     write_step (who.own + word_place who.sizes (Entry (entry_of who job.number))) (entry_written who job) [] ∷
-    write_step (who.own + word_place who.sizes AvailableIndex) (index_word (job.number + 1)) (Accept job.frame ∷ []) ∷
-    step_of (Ring who.other who.vector) 0 (Over ∷ []) ∷ []
+    write_step (who.own + word_place who.sizes AvailableIndex) (index_word (job.number + 1)) (Accept job.frame ∷ []) ∷ []
+
+abbrev pub ring_step : Who → List Mark → Step
+ring_step who marks = step_of (Ring who.other who.vector) 0 marks
+
+-- the read of the word with the other's event
+abbrev pub event_step : Who → (number value : ℕ) → Step
+event_step who number value = step_of (Read (who.theirs + word_place who.sizes AvailableEvent)) value (event_marks number value)
+
+-- the doorbell for this frame: in a link with events the read of the other's event, which gave this value, and the doorbell where that asks for it
+abbrev pub tell_steps : Who → (number value : ℕ) → List Step
+tell_steps who number value =
+    if has_events who.sizes
+    then event_step who number value ∷ (if asks_for (low_half value) number then ring_step who (Over ∷ []) ∷ [] else [])
+    else ring_step who (Over ∷ []) ∷ []
 
 -- the reads of an offer that finds so many returned frames: the used index, then their ids in order, with `full` on the last where so
 -- many are in flight still
@@ -194,7 +226,9 @@ pub record IsAccepted (who : Who) (job : Job) (freed : ℕ) (steps : List Step) 
   pub value : ℕ
   pub within : IsUsedIndex (freed % 65536) (high_half value) (job.number - freed)
   pub room : job.number ≢ freed + returned_by freed value + limit_of who.sizes
-  pub steps_are : steps ≡ reclaim_steps who job freed value ++ (fill_steps who job 0 (words_for (length job.frame)) ++ publish_steps who job)
+  pub event : ℕ
+  pub steps_are : steps ≡ reclaim_steps who job freed value ++
+      (fill_steps who job 0 (words_for (length job.frame)) ++ (publish_steps who job ++ tell_steps who job.number event))
 
 -- a finished offer is one of these four lists
 abbrev pub IsOffer : Who → Job → ℕ → List Step → Type 0

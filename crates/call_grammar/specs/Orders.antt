@@ -1,11 +1,13 @@
--- Which accesses go by the two index words: those of the available and of the used index, which publish what was written before.
-use Rattle.std.specs.Prelude.{Bool, true, false}
-use Rattle.call_grammar.specs.Places.{Place, AtUsedIndex, WritingIndex, AtAvailIndex, GivingIndex}
+-- What the word of an access is to the order of memory: an index publishes what was written before it, and an event is set against an index.
+use Rattle.split_ring.specs.declared.steps.WordKind.{WordKind}
+use Rattle.split_ring.specs.declared.steps.WordKind.TheVariants.{Plain, IndexRead, IndexWrite, EventRead, EventWrite}
+use Rattle.call_grammar.specs.Places.{Place, AtUsedIndex, WritingIndex, AtEvent, AtAvailIndex, Arming, GivingIndex}
 
--- the access at this place is that of an index word
-abbrev pub is_index : Place → Bool
-is_index (AtUsedIndex job freed) = true
-is_index (WritingIndex job) = true
-is_index (AtAvailIndex taken) = true
-is_index (GivingIndex number more) = true
-is_index _ = false
+abbrev pub word_kind : Place → WordKind
+word_kind (AtUsedIndex job freed) = IndexRead
+word_kind (WritingIndex job) = IndexWrite
+word_kind (AtEvent number) = EventRead
+word_kind (AtAvailIndex taken last) = IndexRead
+word_kind (Arming taken) = EventWrite
+word_kind (GivingIndex number more) = IndexWrite
+word_kind _ = Plain

@@ -1,25 +1,26 @@
 -- The places of a call: what its end holds between two steps, as data, and which part of the call is left there.
-use Rattle.std.specs.Prelude.{ℕ, zero, suc, ◌≡◌, ◌+◌, ◌-◌, ◌/◌, ◌==◌, nat_le, Bool, true, false, if◌then◌else◌, List, [], ◌∷◌, ◌++◌, length}
+use Rattle.std.specs.Prelude.{ℕ, zero, suc, ◌≡◌, ◌+◌, ◌-◌, ◌/◌, ◌%◌, ◌==◌, nat_le, Bool, true, false, if◌then◌else◌, List, [], ◌∷◌, ◌++◌, length}
 use Rattle.link_handshake.specs.declared.Move.{Move}
 use Rattle.link_handshake.specs.declared.Move.TheVariants.{Stay, Set, ClearThenSet}
 use Rattle.link_handshake.specs.Standing.{Standing, move_of}
 use Rattle.split_ring.specs.declared.steps.Access.{Access}
 use Rattle.split_ring.specs.declared.steps.Access.TheVariants as access
-use Rattle.split_ring.specs.Layout.{size_of, limit_of, place_of, word_place, Address, Length, Flags, AvailableIndex, Entry, UsedIndex, Id, Amount, Slot}
+use Rattle.split_ring.specs.Layout.{has_events, size_of, limit_of, place_of, word_place, Address, Length, Flags, AvailableIndex, Entry, UsedIndex, Id, Amount, AvailableEvent, Slot}
 use Rattle.split_ring.specs.Spelling.{low_half}
 use Rattle.call_grammar.specs.Steps.{Mark, Over, Accept, Deliver, Return, Done, Down, Step, step_of}
 use Rattle.call_grammar.specs.Trees.{CallTree, Ended, Reads, Goes}
 use Rattle.call_grammar.specs.Ends.{End}
 use Rattle.call_grammar.specs.Words.{index_word, address_of, words_for, frame_word, frame_in}
 use Rattle.call_grammar.specs.Ticks.{Who, clear, set_state, other_state, tick_marks, after_tick}
-use Rattle.call_grammar.specs.Offers.{Job, descriptor_of, entry_of, entry_written, ring, publish, enter, describe_flags, describe_length, describe_high, describe, fill, id_marks, read_ids, returned_by, used_marks, offer}
-use Rattle.call_grammar.specs.Polls.{is_entry, is_address, is_length, entry_in, entry_marks, address_marks, length_marks, flags_marks, return_index, return_length, give_back, read_words, read_flags, read_length, read_high, read_low, item, ring_back, items, published_by, available_marks, poll}
+use Rattle.call_grammar.specs.Offers.{Job, descriptor_of, entry_of, entry_written, ring, asks_for, event_marks, hear, publish, enter, describe_flags, describe_length, describe_high, describe, fill, id_marks, read_ids, returned_by, used_marks, offer}
+use Rattle.call_grammar.specs.Polls.{is_entry, is_address, is_length, entry_in, entry_marks, address_marks, length_marks, flags_marks, return_index, return_length, give_back, read_words, read_flags, read_length, read_high, read_low, item, ring_back, items, published_by, is_last, available_marks, ask, look, poll}
 use Rattle.call_grammar.specs.Calls.{Call, Tick, Stop, Offer, Poll, in_run, job_of, down, tree_of}
 
 -- Where a call is: none is open; before the read of a tick, a write of 0 with so many more to come, a State step, the State step of a
 -- refusal, or the step of a call that is down; before an offer's read of the used index or of an id with so many more to come, its write
--- of a frame's word with so many more to come, of each word of the descriptor, of the entry, of the index, or its doorbell; before a
--- poll's read of the available index, of an item's entry, address, length, flags or word, each with so many more items to come, or its
+-- of a frame's word with so many more to come, of each word of the descriptor, of the entry, of the index, its read of the other's event, or
+-- its doorbell; before a poll's read of the available index, which is its last look or not, its write of the own event, its read of an
+-- item's entry, address, length, flags or word, each with so many more items to come, or its
 -- write of the used element or the used index, or its doorbell
 pub data Place : Type 0 where
   Closed : Place
@@ -37,8 +38,10 @@ pub data Place : Type 0 where
   WritingFlags : (job : Job) → Place
   WritingEntry : (job : Job) → Place
   WritingIndex : (job : Job) → Place
+  AtEvent : (number : ℕ) → Place
   RingingOffer : Place
-  AtAvailIndex : (taken : ℕ) → Place
+  AtAvailIndex : (taken : ℕ) (last : Bool) → Place
+  Arming : (taken : ℕ) → Place
   AtEntry : (number more : ℕ) → Place
   AtLow : (number more entry : ℕ) → Place
   AtHigh : (number more entry low : ℕ) → Place
@@ -68,8 +71,10 @@ remaining who (WritingLength job) = describe_length who job
 remaining who (WritingFlags job) = describe_flags who job
 remaining who (WritingEntry job) = enter who job
 remaining who (WritingIndex job) = publish who job
+remaining who (AtEvent number) = hear who number
 remaining who RingingOffer = ring who
-remaining who (AtAvailIndex taken) = poll who taken
+remaining who (AtAvailIndex taken last) = poll who taken last
+remaining who (Arming taken) = ask who taken (look who taken true Ended)
 remaining who (AtEntry number more) = item who number (items who (number + 1) more)
 remaining who (AtLow number more entry) = read_low who number entry (items who (number + 1) more)
 remaining who (AtHigh number more entry low) = read_high who number entry low (items who (number + 1) more)
@@ -100,6 +105,14 @@ abbrev pub ids_place : Who → Job → (freed count : ℕ) → Place
 ids_place who job freed zero = if job.number == freed + limit_of who.sizes then Closed else fill_place job 0 (words_for (length job.frame))
 ids_place who job freed (suc more) = AtUsedId job freed more
 
+-- after its index a frame is told to the other
+abbrev pub tell_place : Who → ℕ → Place
+tell_place who number = if has_events who.sizes then AtEvent number else RingingOffer
+
+-- a look that finds nothing ends the poll where it is the last
+abbrev pub none_place : (taken : ℕ) (last : Bool) → Place
+none_place taken last = if last then Closed else Arming taken
+
 abbrev pub items_place : (number count : ℕ) → Place
 items_place number zero = RingingPoll
 items_place number (suc more) = AtEntry number more
@@ -113,7 +126,7 @@ abbrev pub first_place : Who → End → Call → Place
 first_place who end Tick = AtState end.handshake
 first_place who end Stop = Setting 0
 first_place who end (Offer frame) = if in_run end.handshake.phase then AtUsedIndex (job_of who end frame) end.freed else Downed
-first_place who end Poll = if in_run end.handshake.phase then AtAvailIndex (length end.delivered) else Downed
+first_place who end Poll = if in_run end.handshake.phase then AtAvailIndex (length end.delivered) (is_last who end.found_none) else Downed
 
 -- the access of the step at a place
 abbrev pub access_at : Who → Place → Access
@@ -134,8 +147,10 @@ access_at who (WritingLength job) = access.Write (who.own + word_place who.sizes
 access_at who (WritingFlags job) = access.Write (who.own + word_place who.sizes (Flags (descriptor_of who job.number))) 0
 access_at who (WritingEntry job) = access.Write (who.own + word_place who.sizes (Entry (entry_of who job.number))) (entry_written who job)
 access_at who (WritingIndex job) = access.Write (who.own + word_place who.sizes AvailableIndex) (index_word (job.number + 1))
+access_at who (AtEvent number) = access.Read (who.theirs + word_place who.sizes AvailableEvent)
 access_at who RingingOffer = access.Ring who.other who.vector
-access_at who (AtAvailIndex taken) = access.Read (who.theirs + word_place who.sizes AvailableIndex)
+access_at who (AtAvailIndex taken last) = access.Read (who.theirs + word_place who.sizes AvailableIndex)
+access_at who (Arming taken) = access.Write (who.own + word_place who.sizes AvailableEvent) (taken % 65536)
 access_at who (AtEntry number more) = access.Read (who.theirs + word_place who.sizes (Entry (entry_of who number)))
 access_at who (AtLow number more entry) = access.Read (who.theirs + word_place who.sizes (Address entry))
 access_at who (AtHigh number more entry low) = access.Read (who.theirs + word_place who.sizes (Address entry) + 1)
@@ -156,8 +171,9 @@ marks_at who Downed value = Down ∷ []
 marks_at who (AtUsedIndex job freed) value = used_marks who job freed value
 marks_at who (AtUsedId job freed more) value = id_marks who job freed more value
 marks_at who (WritingIndex job) value = Accept job.frame ∷ []
+marks_at who (AtEvent number) value = event_marks number value
 marks_at who RingingOffer value = Over ∷ []
-marks_at who (AtAvailIndex taken) value = available_marks who taken value
+marks_at who (AtAvailIndex taken last) value = available_marks who taken last value
 marks_at who (AtEntry number more) value = entry_marks who number value
 marks_at who (AtHigh number more entry low) value = address_marks who low value
 marks_at who (AtLength number more entry address) value = length_marks who address value
@@ -184,12 +200,14 @@ next_place who (WritingHigh job) value = WritingLength job
 next_place who (WritingLength job) value = WritingFlags job
 next_place who (WritingFlags job) value = WritingEntry job
 next_place who (WritingEntry job) value = WritingIndex job
-next_place who (WritingIndex job) value = RingingOffer
+next_place who (WritingIndex job) value = tell_place who job.number
+next_place who (AtEvent number) value = if asks_for (low_half value) number then RingingOffer else Closed
 next_place who RingingOffer value = Closed
-next_place who (AtAvailIndex taken) value =
+next_place who (AtAvailIndex taken last) value =
     if nat_le (published_by taken value) (size_of who.sizes)
-    then (if published_by taken value == 0 then Closed else items_place taken (published_by taken value))
+    then (if published_by taken value == 0 then none_place taken last else items_place taken (published_by taken value))
     else Refusing
+next_place who (Arming taken) value = AtAvailIndex taken true
 next_place who (AtEntry number more) value =
     if is_entry who.sizes (entry_in who number value) then AtLow number more (entry_in who number value) else Refusing
 next_place who (AtLow number more entry) value = AtHigh number more entry value

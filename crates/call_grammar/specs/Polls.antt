@@ -1,17 +1,17 @@
 -- A poll in RUN: how a peer takes the frames that the other published, each once, and returns them (VIRTIO 1.1, section 2.6.8: the used ring;
 -- the order of accesses, one each step, and the tests: profile), as a tree and as a table of lists.
-use Rattle.std.specs.Prelude.{ℕ, zero, suc, ◌≡◌, ◌≢◌, ◌+◌, ◌/◌, ◌%◌, ◌<◌, ◌==◌, nat_lt, nat_le, Bool, ◌&&◌, ◌⊎◌, if◌then◌else◌, List, [], ◌∷◌, ◌++◌, length}
+use Rattle.std.specs.Prelude.{ℕ, zero, suc, ◌≡◌, ◌≢◌, ◌+◌, ◌/◌, ◌%◌, ◌<◌, ◌==◌, nat_lt, nat_le, Bool, true, false, ◌&&◌, ◌||◌, not, ◌⊎◌, if◌then◌else◌, List, [], ◌∷◌, ◌++◌, length}
 use Rattle.ivs_base.specs.Numbers.{distance}
 use Rattle.split_ring.specs.declared.ranges.FieldName.TheVariants as field_name
 use Rattle.split_ring.specs.declared.steps.Access.TheVariants.{Read, Write, Ring}
-use Rattle.split_ring.specs.Layout.{Sizes, size_of, payload_of, word_place, Address, Length, Flags, AvailableIndex, Entry, UsedIndex, Id, Amount}
+use Rattle.split_ring.specs.Layout.{Sizes, has_events, size_of, payload_of, word_place, Address, Length, Flags, AvailableIndex, Entry, UsedIndex, Id, Amount, AvailableEvent}
 use Rattle.split_ring.specs.Spelling.{high_half, low_half, entry_half}
 use Rattle.split_ring.specs.Ranges.{IsAvailIndex, IsAvailEntry, IsDescAddress, IsDescLength, IsDescFlags}
 use Rattle.call_grammar.specs.Steps.{Mark, Look, Deliver, Return, Done, Step, step_of}
 use Rattle.call_grammar.specs.Trees.{CallTree, Ended, Does, Reads}
 use Rattle.call_grammar.specs.Ticks.{Who, set_state}
 use Rattle.call_grammar.specs.Words.{index_word, address_of, words_for, frame_in}
-use Rattle.call_grammar.specs.Offers.{entry_of, refusal, refused_steps, write_step}
+use Rattle.call_grammar.specs.Offers.{entry_of, refusal, refused_steps, write_step, ring_step}
 
 -- The tests of the fields that a poll reads, in the order of their reads
 
@@ -105,27 +105,41 @@ items who number (suc more) = item who number (items who (number + 1) more)
 abbrev pub published_by : ℕ → ℕ → ℕ
 published_by taken value = distance (taken % 65536) (high_half value)
 
+-- the first look of a poll is its last where it finds nothing and no event is to be written: the link has none, or the last look of the session found
+-- nothing either, and so the event stands at the next frame
+abbrev pub is_last : Who → (found_none : Bool) → Bool
+is_last who found_none = not (has_events who.sizes) || found_none
+
 -- the marks of an available index that is so far from the frames taken
-abbrev pub look_marks : ℕ → List Mark
-look_marks count = if count == 0 then Look 0 ∷ Done ∷ [] else Look count ∷ []
+abbrev pub look_marks : (last : Bool) → ℕ → List Mark
+look_marks last count = if count == 0 then (if last then Look 0 ∷ Done ∷ [] else Look 0 ∷ []) else Look count ∷ []
 
 -- the marks of the read of the available index
-abbrev pub available_marks : Who → (taken value : ℕ) → List Mark
-available_marks who taken value =
+abbrev pub available_marks : Who → ℕ → (last : Bool) → ℕ → List Mark
+available_marks who taken last value =
     if nat_le (published_by taken value) (size_of who.sizes)
-    then look_marks (published_by taken value)
+    then look_marks last (published_by taken value)
     else refusal field_name.AvailIndex (high_half value)
 
--- what comes after the read of the available index, where it is in range
-abbrev pub after_look : Who → (taken value : ℕ) → CallTree
-after_look who taken value = if published_by taken value == 0 then Ended else items who taken (published_by taken value)
+-- what comes after the read of the available index, where it is in range; and where nothing was published
+abbrev pub after_look : Who → (taken value : ℕ) → CallTree → CallTree
+after_look who taken value none = if published_by taken value == 0 then none else items who taken (published_by taken value)
 
--- a poll, where so many frames were taken
-abbrev pub poll : Who → ℕ → CallTree
-poll who taken =
+-- a look at the available index, where so many frames were taken, and what comes after it; and where nothing was published
+abbrev pub look : Who → ℕ → (last : Bool) → CallTree → CallTree
+look who taken last none =
     Reads (who.theirs + word_place who.sizes AvailableIndex)
-    (λ value. available_marks who taken value)
-    (λ value. if nat_le (published_by taken value) (size_of who.sizes) then after_look who taken value else set_state 0)
+    (λ value. available_marks who taken last value)
+    (λ value. if nat_le (published_by taken value) (size_of who.sizes) then after_look who taken value none else set_state 0)
+
+-- the own event, which asks for a doorbell at the next frame
+abbrev pub ask : Who → ℕ → CallTree → CallTree
+ask who taken after = Does (Write (who.own + word_place who.sizes AvailableEvent) (taken % 65536)) [] after
+
+-- a poll, where so many frames were taken; where its first look isn't its last and finds nothing, it writes the event and looks again
+abbrev pub poll : Who → ℕ → (last : Bool) → CallTree
+poll who taken true = look who taken true Ended
+poll who taken false = look who taken false (ask who taken (look who taken true Ended))
 
 -- The table of finished polls
 
@@ -239,7 +253,7 @@ pub record RefusesAvailIndex (who : Who) (taken : ℕ) (steps : List Step) : Typ
   pub beyond : ¬ IsAvailIndex who.sizes (taken % 65536) (high_half value)
   pub steps_are : steps ≡ refused_steps (look_step who value (refusal field_name.AvailIndex (high_half value)))
 
--- nothing was published
+-- nothing was published, and the poll is done
 pub record FindsNothing (who : Who) (taken : ℕ) (steps : List Step) : Type 0 where
   pub value : ℕ
   pub none : published_by taken value ≡ 0
@@ -254,7 +268,7 @@ pub record TakesAll (who : Who) (taken : ℕ) (steps : List Step) : Type 0 where
   pub all : length reads ≡ published_by taken value
   pub good : AreGood who taken reads
   pub steps_are : steps ≡ look_step who value (Look (published_by taken value) ∷ []) ∷
-      (items_steps who taken reads ++ step_of (Ring who.other who.vector) 0 (Done ∷ []) ∷ [])
+      (items_steps who taken reads ++ ring_step who (Done ∷ []) ∷ [])
 
 -- good items, and then one that is refused
 pub record RefusesItem (who : Who) (taken : ℕ) (steps : List Step) : Type 0 where
@@ -268,7 +282,23 @@ pub record RefusesItem (who : Who) (taken : ℕ) (steps : List Step) : Type 0 wh
   pub refused : IsRefusedItem who (taken + length reads) last last_steps
   pub steps_are : steps ≡ look_step who value (Look (published_by taken value) ∷ []) ∷ (items_steps who taken reads ++ last_steps)
 
--- a finished poll is one of these four lists
-abbrev pub IsPoll : Who → ℕ → List Step → Type 0
-IsPoll who taken steps =
-    RefusesAvailIndex who taken steps ⊎ (FindsNothing who taken steps ⊎ (TakesAll who taken steps ⊎ RefusesItem who taken steps))
+-- a look and what comes after it is one of these four lists, of which one is that of a look that finds nothing
+abbrev pub IsLook : Who → ℕ → (FindsNone : List Step → Type 0) → List Step → Type 0
+IsLook who taken FindsNone steps = RefusesAvailIndex who taken steps ⊎ (FindsNone steps ⊎ (TakesAll who taken steps ⊎ RefusesItem who taken steps))
+
+-- the write of the own event
+abbrev pub ask_step : Who → ℕ → Step
+ask_step who taken = write_step (who.own + word_place who.sizes AvailableEvent) (taken % 65536) []
+
+-- nothing was published, the event is written, and a last look is taken
+pub record LooksAgain (who : Who) (taken : ℕ) (steps : List Step) : Type 0 where
+  pub value : ℕ
+  pub none : published_by taken value ≡ 0
+  pub rest : List Step
+  pub again : IsLook who taken (FindsNothing who taken) rest
+  pub steps_are : steps ≡ look_step who value (Look 0 ∷ []) ∷ ask_step who taken ∷ rest
+
+-- a finished poll, whose first look is its last where it finds nothing, or isn't
+abbrev pub IsPoll : Who → ℕ → (last : Bool) → List Step → Type 0
+IsPoll who taken true steps = IsLook who taken (FindsNothing who taken) steps
+IsPoll who taken false steps = IsLook who taken (LooksAgain who taken) steps

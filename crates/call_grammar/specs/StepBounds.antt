@@ -1,8 +1,8 @@
 -- How many steps a finished call has (profile): what `turn` needs to be given, and that every call ends.
-use Rattle.std.specs.Prelude.{ℕ, ◌≡◌, ◌+◌, ◌≤◌, Bool, true, false, List, [], ◌∷◌, length}
+use Rattle.std.specs.Prelude.{ℕ, ◌≡◌, ◌+◌, ◌≤◌, Bool, true, false, if◌then◌else◌, List, [], ◌∷◌, length}
 use Rattle.split_ring.specs.declared.ranges.FieldName.{FieldName}
 use Rattle.split_ring.specs.declared.ranges.FieldName.TheVariants as field_name
-use Rattle.split_ring.specs.Layout.{limit_of}
+use Rattle.split_ring.specs.Layout.{has_events, limit_of}
 use Rattle.call_grammar.specs.Steps.{Mark, Deliver, Refuse, Step}
 use Rattle.call_grammar.specs.Ends.{End}
 use Rattle.call_grammar.specs.Words.{words_for}
@@ -30,13 +30,13 @@ abbrev pub items_bound : List Step → ℕ
 items_bound [] = 0
 items_bound (step ∷ steps) = marks_bound step.marks + items_bound steps
 
--- a Tick has as many steps as a section has words and 2 more; a Stop has 1; an Offer of w words has the limit in flight and w and 8 more;
--- a Poll has 2 and those of its items
+-- a Tick has as many steps as a section has words and 2 more; a Stop has 1; an Offer of w words has the limit in flight and w and 8 more,
+-- or 9 in a link with events; a Poll has 2, or 4 in a link with events, and those of its items
 abbrev pub bound_of : Who → Call → List Step → ℕ
 bound_of who Tick steps = who.words + 2
 bound_of who Stop steps = 1
-bound_of who (Offer frame) steps = limit_of who.sizes + words_for (length frame) + 8
-bound_of who Poll steps = 2 + items_bound steps
+bound_of who (Offer frame) steps = limit_of who.sizes + words_for (length frame) + (if has_events who.sizes then 9 else 8)
+bound_of who Poll steps = (if has_events who.sizes then 4 else 2) + items_bound steps
 
 -- no more frames are in flight than may be
 abbrev pub HasFewInFlight : Who → End → Type 0

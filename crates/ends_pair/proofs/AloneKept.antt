@@ -8,8 +8,9 @@ use Rattle.link_handshake.specs.declared.Phase.{Phase}
 use Rattle.link_handshake.specs.declared.Phase.TheVariants.{Reset, Init, Ready, Run}
 use Rattle.link_handshake.specs.PhaseTable.{state_of}
 use Rattle.call_grammar.specs.Ends.{End}
+use Rattle.call_grammar.specs.Polls.{is_last}
 use Rattle.call_grammar.specs.Calls.{Call, Tick, Stop, Offer, Poll, in_run, job_of}
-use Rattle.call_grammar.specs.Places.{Place, Closed, AtState, Clearing, Setting, Refusing, Downed, AtUsedIndex, AtUsedId, Filling, WritingLow, WritingHigh, WritingLength, WritingFlags, WritingEntry, WritingIndex, RingingOffer, AtAvailIndex, AtEntry, AtLow, AtHigh, AtLength, AtFlags, AtWord, GivingId, GivingLength, GivingIndex, RingingPoll, first_place, access_at, is_open}
+use Rattle.call_grammar.specs.Places.{Place, Closed, AtState, Clearing, Setting, Refusing, Downed, AtUsedIndex, AtUsedId, Filling, WritingLow, WritingHigh, WritingLength, WritingFlags, WritingEntry, WritingIndex, AtEvent, RingingOffer, AtAvailIndex, Arming, AtEntry, AtLow, AtHigh, AtLength, AtFlags, AtWord, GivingId, GivingLength, GivingIndex, RingingPoll, first_place, access_at, is_open}
 use Rattle.ends_pair.specs.Fields.{Field, field_word, part_of}
 use Rattle.ends_pair.specs.Fields as field
 use Rattle.ends_pair.specs.Ground.{Ground, IsGround, section_of, who_of, fields, IsOffered, IsGivenTo}
@@ -18,8 +19,8 @@ use Rattle.ends_pair.specs.Alone.{IsNext, MaySet, Holds, Rests, Alone}
 use Rattle.ends_pair.specs.Laws.{AloneIsKept}
 use Rattle.ends_pair.proofs.Fields.{numbers, one_test, inside, field_read, fields_same}
 use Rattle.ends_pair.proofs.Forms.{comes, moves, spelled_kept, sent_kept, next_kept, filled_kept}
-use Rattle.ends_pair.proofs.ReadSteps.{StepsTo, reads_used_index, reads_id, reads_avail_index, reads_entry, reads_low, reads_high, reads_length, reads_flags, reads_word}
-use Rattle.ends_pair.proofs.WriteSteps.{puts_lem, fills, lowers, heightens, measures, unflags, enters, publishes, gives_id, gives_length, gives_index}
+use Rattle.ends_pair.proofs.ReadSteps.{StepsTo, reads_used_index, reads_id, hears_event, reads_avail_index, reads_entry, reads_low, reads_high, reads_length, reads_flags, reads_word}
+use Rattle.ends_pair.proofs.WriteSteps.{puts_lem, fills, lowers, heightens, measures, unflags, enters, publishes, arms, gives_id, gives_length, gives_index}
 use Rattle.ends_pair.proofs.TickSteps.{not_phase, reads_state, clears, falls, sets}
 
 still : (ground : Ground) (p : ℕ) (memory after : ℕ → ℕ) (end : End) (place : Place) (value : ℕ) → after ≡ memory → StepsTo ground p memory end place value → StepsTo ground p after end place value
@@ -41,8 +42,10 @@ steps_lem ground p memory after end (WritingLength job) value is p2 opened left 
 steps_lem ground p memory after end (WritingFlags job) value is p2 opened left a = unflags ground is p p2 memory after end job value left a
 steps_lem ground p memory after end (WritingEntry job) value is p2 opened left a = enters ground is p p2 memory after end job value left a
 steps_lem ground p memory after end (WritingIndex job) value is p2 opened left a = publishes ground is p p2 memory after end job value left a
+steps_lem ground p memory after end (AtEvent number) value is p2 opened left a = still ground p memory after end (AtEvent number) value left (hears_event ground p memory end number value a)
 steps_lem ground p memory after end RingingOffer value is p2 opened left a = still ground p memory after end RingingOffer value left (moves Closed tt refl a.rests a)
-steps_lem ground p memory after end (AtAvailIndex taken) value is p2 opened left a = still ground p memory after end (AtAvailIndex taken) value left (reads_avail_index ground p memory end taken value a)
+steps_lem ground p memory after end (AtAvailIndex taken last) value is p2 opened left a = still ground p memory after end (AtAvailIndex taken last) value left (reads_avail_index ground p memory end taken last value a)
+steps_lem ground p memory after end (Arming taken) value is p2 opened left a = arms ground is p p2 memory after end taken value left a
 steps_lem ground p memory after end (AtEntry number more) value is p2 opened left a = still ground p memory after end (AtEntry number more) value left (reads_entry ground p memory end number more value a)
 steps_lem ground p memory after end (AtLow number more entry) value is p2 opened left a = still ground p memory after end (AtLow number more entry) value left (reads_low ground p memory end number more entry value a)
 steps_lem ground p memory after end (AtHigh number more entry low) value is p2 opened left a = still ground p memory after end (AtHigh number more entry low) value left (reads_high ground p memory end number more entry low value a)
@@ -89,7 +92,7 @@ begins_lem : (ground : Ground) (p : ℕ) (memory : ℕ → ℕ) (end : End) (cal
 begins_lem ground p memory end Tick is given a = comes (AtState end.handshake) refl refl a.rests a
 begins_lem ground p memory end Stop is given a = comes (Setting 0) tt refl a.rests a
 begins_lem ground p memory end (Offer frame) is given a = either (in_run end.handshake.phase) (AtUsedIndex (job_of (who_of ground p) end frame) end.freed) refl (λ t. moves (AtUsedIndex (job_of (who_of ground p) end frame) end.freed) (run_is _ t, job_next ground memory p end frame is given a, refl) refl (unmarked end a.rests (run_is _ t)) a) a
-begins_lem ground p memory end Poll is given a = either (in_run end.handshake.phase) (AtAvailIndex (length end.delivered)) refl (λ t. moves (AtAvailIndex (length end.delivered)) (run_is _ t, refl) refl (unmarked end a.rests (run_is _ t)) a) a
+begins_lem ground p memory end Poll is given a = either (in_run end.handshake.phase) (AtAvailIndex (length end.delivered) (is_last (who_of ground p) end.found_none)) refl (λ t. moves (AtAvailIndex (length end.delivered) (is_last (who_of ground p) end.found_none)) (run_is _ t, refl) refl (unmarked end a.rests (run_is _ t)) a) a
 
 -- Other words change
 
@@ -143,6 +146,7 @@ own_lem ground p memory after end place is p2 left a = by_place place left a.hol
     by_place (WritingFlags job) left h = (puts_lem ground is p p2 memory after end (WritingFlags job) left h).only
     by_place (WritingEntry job) left h = (puts_lem ground is p p2 memory after end (WritingEntry job) left h).only
     by_place (WritingIndex job) left h = (puts_lem ground is p p2 memory after end (WritingIndex job) left h).only
+    by_place (Arming taken) left h = (puts_lem ground is p p2 memory after end (Arming taken) left h).only
     by_place (GivingId number more entry) left h = (puts_lem ground is p p2 memory after end (GivingId number more entry) left h).only
     by_place (GivingLength number more) left h = (puts_lem ground is p p2 memory after end (GivingLength number more) left h).only
     by_place (GivingIndex number more) left h = (puts_lem ground is p p2 memory after end (GivingIndex number more) left h).only
@@ -168,8 +172,10 @@ quiet_lem ground p memory end place word value a reset e = by_place place e a.ho
     by_place (WritingFlags job) e h = λ z. not_phase {a = Run} {b = Reset} (λ f. omega arith) h.0 z
     by_place (WritingEntry job) e h = λ z. not_phase {a = Run} {b = Reset} (λ f. omega arith) h.0 z
     by_place (WritingIndex job) e h = λ z. not_phase {a = Run} {b = Reset} (λ f. omega arith) h.0 z
+    by_place (AtEvent number) e h = absurd (cc)
     by_place RingingOffer e h = absurd (cc)
-    by_place (AtAvailIndex taken) e h = absurd (cc)
+    by_place (AtAvailIndex taken last) e h = absurd (cc)
+    by_place (Arming taken) e h = λ z. not_phase {a = Run} {b = Reset} (λ f. omega arith) h.0 z
     by_place (AtEntry number more) e h = absurd (cc)
     by_place (AtLow number more entry) e h = absurd (cc)
     by_place (AtHigh number more entry low) e h = absurd (cc)

@@ -9,7 +9,7 @@ use Rattle.split_ring.specs.Layout.{Sizes, HasBounds, size_of, limit_of, payload
 use Rattle.split_ring.specs.Ranges.{IsDescAddress}
 use Rattle.split_ring.proofs.Bounds.{bounds}
 use Rattle.call_grammar.proofs.OfferLists.{yes, no}
-use Rattle.ends_pair.specs.Fields.{Field, AvailIndex, UsedIndex, AvailEntry, UsedId, UsedLength, AddressLow, AddressHigh, DescLength, DescFlags, SlotWord, is_field, field_word, part_of}
+use Rattle.ends_pair.specs.Fields.{Field, AvailIndex, UsedIndex, AvailEvent, AvailEntry, UsedId, UsedLength, AddressLow, AddressHigh, DescLength, DescFlags, SlotWord, is_field, field_word, part_of}
 use Rattle.ends_pair.specs.Ground.{Ground, IsGround, section_of, fields}
 use Rattle.ends_pair.specs.Steps.{Stored, IsUntouched, OnlyOwnChange}
 
@@ -27,6 +27,7 @@ ring_apart c k a some lt far e = dite (dec_lt (k / c) (a / c))
 abbrev pub Lies : Sizes → Field → Type 0
 Lies q AvailIndex = Unit {0}
 Lies q UsedIndex = Unit {0}
+Lies q AvailEvent = Unit {0}
 Lies q (AvailEntry k) = k < size_of q
 Lies q (UsedId k) = k < size_of q
 Lies q (UsedLength k) = k < size_of q
@@ -51,6 +52,7 @@ both_tests i j m n a b = grind (arith, nat_tests)
 lies : (q : Sizes) (f : Field) → is_field q f ≡ true → Lies q f
 lies q AvailIndex h = tt
 lies q UsedIndex h = tt
+lies q AvailEvent h = tt
 lies q (SlotWord i j) h = both_tell i j (limit_of q) (slot_of q / 4) h
 lies q (AvailEntry k) h = one_tells k (size_of q) h
 lies q (UsedId k) h = one_tells k (size_of q) h
@@ -95,6 +97,7 @@ inside ground is f h = placed f (lies ground.sizes f h)
     placed (SlotWord i j) l = let good = (slot_good ground is i l.0).1 in let words = is.words in let start = slot_start ground.sizes i in let lt = l.1 in let whole : slot_of ground.sizes ≡ 4 * (slot_of ground.sizes / 4) = slot_whole (18 + ground.sizes.mtu) in omega arith
     placed AvailIndex l = let rings = (numbers ground is).rings in let words = is.words in omega arith
     placed UsedIndex l = let rings = (numbers ground is).rings in let words = is.words in omega arith
+    placed AvailEvent l = let rings = (numbers ground is).rings in let words = is.words in omega arith
     placed (AvailEntry k) l = let rings = (numbers ground is).rings in let words = is.words in omega arith
     placed (UsedId k) l = let rings = (numbers ground is).rings in let words = is.words in omega arith
     placed (UsedLength k) l = let rings = (numbers ground is).rings in let words = is.words in omega arith
@@ -113,6 +116,7 @@ shares q (AvailEntry k) (AvailEntry l) few ls lt ne e = omega arith
 shares q (SlotWord i j) (SlotWord k l) few ls lt ne e = let a = ls.1 in let b = lt.1 in let x = slot_word q i j in let y = slot_word q k l in let f = same_slot (slot_of q / 4) k l i j b a (omega arith) in absurd (ne (let g = f.0 in let h = f.1 in cc))
 shares q AvailIndex AvailIndex few ls lt ne e = absurd (ne refl)
 shares q UsedIndex UsedIndex few ls lt ne e = absurd (ne refl)
+shares q AvailEvent AvailEvent few ls lt ne e = absurd (ne refl)
 shares q (UsedId k) (UsedId l) few ls lt ne e = absurd (ne (ap UsedId (let f : l ≡ k = omega arith in f)))
 shares q (UsedLength k) (UsedLength l) few ls lt ne e = absurd (ne (ap UsedLength (let f : l ≡ k = omega arith in f)))
 shares q (AddressLow k) (AddressLow l) few ls lt ne e = absurd (ne (ap AddressLow (let f : l ≡ k = omega arith in f)))

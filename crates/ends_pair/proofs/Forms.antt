@@ -9,8 +9,8 @@ use Rattle.call_grammar.specs.Steps.{Mark}
 use Rattle.call_grammar.specs.Ends.{End}
 use Rattle.call_grammar.specs.Words.{frame_word}
 use Rattle.call_grammar.specs.Offers.{Job}
-use Rattle.call_grammar.specs.Places.{Place, Closed, AtState, Setting, Refusing, Downed, Filling, WritingLow, WritingHigh, WritingLength, WritingFlags, WritingEntry, WritingIndex, GivingId, GivingLength, GivingIndex}
-use Rattle.ends_pair.specs.Fields.{Field, AvailIndex, UsedIndex, AvailEntry, UsedId, UsedLength, AddressLow, AddressHigh, DescLength, DescFlags, SlotWord}
+use Rattle.call_grammar.specs.Places.{Place, Closed, AtState, Setting, Refusing, Downed, Filling, WritingLow, WritingHigh, WritingLength, WritingFlags, WritingEntry, WritingIndex, Arming, GivingId, GivingLength, GivingIndex}
+use Rattle.ends_pair.specs.Fields.{Field, AvailIndex, UsedIndex, AvailEvent, AvailEntry, UsedId, UsedLength, AddressLow, AddressHigh, DescLength, DescFlags, SlotWord}
 use Rattle.ends_pair.specs.Ground.{Ground, section_of}
 use Rattle.ends_pair.specs.Steps.{Stored}
 use Rattle.ends_pair.specs.Alone.{Opened, Spelled, IsNext, Filled, Holds, counts, Rests, Sent, Alone}
@@ -31,6 +31,7 @@ opened run = subst Opened (sym run) tt
 abbrev pub Live : Ground → ℕ → ℕ → Field → Type 0
 Live ground freed accepted AvailIndex = Unit {0}
 Live ground freed accepted UsedIndex = Unit {0}
+Live ground freed accepted AvailEvent = ⊥
 Live ground freed accepted (AvailEntry e) = (k : ℕ) × (freed ≤ k) × (k < accepted) × (e ≡ k % size_of ground.sizes)
 Live ground freed accepted (UsedId e) = ⊥
 Live ground freed accepted (UsedLength e) = ⊥
@@ -60,6 +61,7 @@ Puts ground p memory after (WritingLength job) = Put ground memory after p (Desc
 Puts ground p memory after (WritingFlags job) = Put ground memory after p (DescFlags (job.number % limit_of ground.sizes)) 0
 Puts ground p memory after (WritingEntry job) = Put ground memory after p (AvailEntry (job.number % size_of ground.sizes)) (job.number % limit_of ground.sizes)
 Puts ground p memory after (WritingIndex job) = Put ground memory after p AvailIndex ((job.number + 1) % 65536)
+Puts ground p memory after (Arming taken) = Put ground memory after p AvailEvent (taken % 65536)
 Puts ground p memory after (GivingId number more entry) = Put ground memory after p (UsedId (number % size_of ground.sizes)) entry
 Puts ground p memory after (GivingLength number more) = Put ground memory after p (UsedLength (number % size_of ground.sizes)) 1
 Puts ground p memory after (GivingIndex number more) = Put ground memory after p UsedIndex ((number + 1) % 65536)
@@ -69,6 +71,7 @@ Puts ground p memory after place = Unit {0}
 live_of : (ground : Ground) (freed accepted k : ℕ) (f : Field) → freed ≤ k → k < accepted → f ≢ AvailIndex → f ≢ UsedIndex → Live ground k (k + 1) f → Live ground freed accepted f
 live_of ground freed accepted k AvailIndex from below na nu h = absurd (na refl)
 live_of ground freed accepted k UsedIndex from below na nu h = absurd (nu refl)
+live_of ground freed accepted k AvailEvent from below na nu h = h
 live_of ground freed accepted k (UsedId e) from below na nu h = h
 live_of ground freed accepted k (UsedLength e) from below na nu h = h
 live_of ground freed accepted k f from below na nu h = (h.0, (let a = h.1 in omega arith), (let b = h.2 in omega arith), h.3)

@@ -16,3 +16,4 @@ pub mod StateRows
 pub mod MarkRows
 pub mod RowsKept
 pub mod RunsKept
+pub mod Wakes

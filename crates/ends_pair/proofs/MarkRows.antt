@@ -7,19 +7,20 @@ use Rattle.split_ring.specs.Layout.{limit_of}
 use Rattle.link_handshake.specs.declared.Move.TheVariants.{Stay, Set, ClearThenSet}
 use Rattle.link_handshake.specs.PhaseTable.{move_on}
 use Rattle.link_handshake.specs.Standing.{move_of}
-use Rattle.call_grammar.specs.Steps.{Mark, Reclaim, Full, Look, Done}
+use Rattle.call_grammar.specs.Steps.{Mark, Reclaim, Full, Look}
 use Rattle.call_grammar.specs.Ends.{End, noted_all}
 use Rattle.call_grammar.specs.Words.{words_for}
 use Rattle.call_grammar.specs.Ticks.{Who}
 use Rattle.call_grammar.specs.Rows.{MovesTo}
 use Rattle.call_grammar.specs.Calls.{Call, Tick, Stop, Offer, Poll, in_run, job_of}
 use Rattle.call_grammar.specs.Offers.{Job, refusal, full_marks}
-use Rattle.call_grammar.specs.Places.{Closed, Refusing, Downed, AtUsedIndex, AtUsedId, AtAvailIndex, fill_place, ids_place, items_place, words_place, first_place}
+use Rattle.call_grammar.specs.Polls.{is_last, look_marks}
+use Rattle.call_grammar.specs.Places.{Closed, Refusing, Downed, AtUsedIndex, AtUsedId, AtAvailIndex, AtEntry, fill_place, ids_place, none_place, items_place, words_place, first_place}
 use Rattle.call_grammar.proofs.OfferLists.{yes, no}
 use Rattle.link_machine.specs.LinkMachine.{Side, Marked, ReadsIndex, MayReclaim, MayLook, IsBeyond}
 use Rattle.ends_pair.specs.Ground.{Ground, who_of}
 use Rattle.ends_pair.specs.Sides.{HasLeft, CallIs, SideIs}
-use Rattle.ends_pair.proofs.StateRows.{Follows, Same, same_of, side_is, silent, anew, same_anew}
+use Rattle.ends_pair.proofs.StateRows.{Follows, Same, same_of, side_is, silent, anew, same_anew, same_looked}
 
 -- a refusal against a hostile other
 pub refused_row : (ground : Ground) (other side : Side) (end : End) (f : FieldName) (v : ℕ) → Same end side → side.state ≡ 3 → IsBeyond ground.sizes side f v → Follows ground false other side (map Marked (refusal f v)) (noted_all end (refusal f v)) Refusing
@@ -103,18 +104,24 @@ pub words_call : (end : End) (number more entry address bytes count : ℕ) (side
 words_call end number more entry address bytes zero side some left = absurd (omega arith)
 words_call end number more entry address bytes (suc m) side some left = left
 
-pub look_rows : (ground : Ground) (theirs : Bool) (other side : Side) (end : End) (taken count : ℕ) (b : Bool) → (count == 0) ≡ b → Same end side → side.state ≡ 3 → ReadsIndex side (length side.delivered) count → MayLook ground.sizes theirs side other count →
-    Follows ground theirs other side (map Marked (if b then Look 0 ∷ Done ∷ [] else Look count ∷ [])) (noted_all end (if b then Look 0 ∷ Done ∷ [] else Look count ∷ [])) (if b then Closed else items_place taken count)
-look_rows ground theirs other side end taken count true test same run read may = let none : count ≡ 0 = grind (arith, nat_tests) in let mid = record side { looked = length side.delivered + 0; read = [] } in (
+pub look_rows : (ground : Ground) (theirs : Bool) (other side : Side) (end : End) (taken : ℕ) (last : Bool) (count : ℕ) → Same end side → side.state ≡ 3 → ReadsIndex side (length side.delivered) count → MayLook ground.sizes theirs side other count →
+    Follows ground theirs other side (map Marked (look_marks last count)) (noted_all end (look_marks last count)) (if count == 0 then none_place taken last else items_place taken count)
+look_rows ground theirs other side end taken true zero same run read may = let mid = record side { looked = length side.delivered + 0; read = [] } in (
   mid,
-  (mid, (refl, (run, subst (ReadsIndex side (length side.delivered)) none read, subst (MayLook ground.sizes theirs side other) none may, refl)), (mid, (refl, (run, (let z : length side.delivered ≡ length side.delivered + 0 = omega arith in z), refl)), refl)),
-  record { state = same.state; refused = same.refused; accepted = same.accepted; delivered = same.delivered; returned = same.returned; freed = same.freed; call = refl },
+  (mid, (refl, (run, read, may, refl)), (mid, (refl, (run, (let z : length side.delivered ≡ length side.delivered + 0 = omega arith in z), refl)), refl)),
+  side_is (same_looked true mid.looked [] same) refl,
 )
-look_rows ground theirs other side end taken count false test same run read may = let mid = record side { looked = length side.delivered + count; read = [] } in (
+look_rows ground theirs other side end taken false zero same run read may = let mid = record side { looked = length side.delivered + 0; read = [] } in (
   mid,
   (mid, (refl, (run, read, may, refl)), refl),
-  record { state = same.state; refused = same.refused; accepted = same.accepted; delivered = same.delivered; returned = same.returned; freed = same.freed; call = items_call end taken count mid (ap (λ (d : List (List ℕ)). length d + count) same.delivered) refl },
+  side_is (same_looked true mid.looked [] same) refl,
 )
+look_rows ground theirs other side end taken last (suc more) same run read may = let mid = record side { looked = length side.delivered + suc more; read = [] } in let test = ne_eqb (suc more) 0 (λ e. omega arith) in
+    subst (λ (b : Bool). Follows ground theirs other side (map Marked (if b then look_marks last 0 else Look (suc more) ∷ [])) (noted_all end (if b then look_marks last 0 else Look (suc more) ∷ [])) (if b then none_place taken last else AtEntry taken more)) (sym test) (
+      mid,
+      (mid, (refl, (run, read, may, refl)), refl),
+      side_is (same_looked (suc more == 0) mid.looked [] same) (ap (λ (d : List (List ℕ)). length d + suc more) same.delivered, refl),
+    )
 
 -- A call begins
 
@@ -128,6 +135,6 @@ begin_follows who end (Offer frame) side si = by_bool (in_run end.handshake.phas
     by_bool false = side_is (same_of si) si.call
 begin_follows who end Poll side si = by_bool (in_run end.handshake.phase)
   where
-    by_bool : (b : Bool) → SideIs end (if b then AtAvailIndex (length end.delivered) else Downed) side
+    by_bool : (b : Bool) → SideIs end (if b then AtAvailIndex (length end.delivered) (is_last who end.found_none) else Downed) side
     by_bool true = side_is (same_of si) si.call
     by_bool false = side_is (same_of si) si.call

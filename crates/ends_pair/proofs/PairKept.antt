@@ -1,13 +1,16 @@
 -- Each step of two honest ends keeps the pair.
-use Rattle.std.proofs.Common.{◌≡◌, ◌≢◌, ℕ, zero, suc, ◌+◌, ◌-◌, ◌%◌, ◌<◌, inl, inr, ⊎_elim, Bool, true, false, List, length, refl, sym, ap, ◌∙◌, subst, arith}
+use Rattle.std.proofs.Common.{◌≡◌, ◌≢◌, ℕ, zero, suc, ◌+◌, ◌-◌, ◌%◌, ◌<◌, inl, inr, ⊎_elim, Bool, true, false, List, [], ◌∷◌, length, refl, sym, ap, ◌∙◌, subst, arith}
 use Rattle.std.specs.Prelude.{◌==◌, if◌then◌else◌}
 use Rattle.split_ring.specs.Layout.{size_of, limit_of, word_place, Address}
 use Rattle.link_handshake.specs.declared.Phase.TheVariants.{Reset, Init, Ready, Run}
 use Rattle.link_handshake.specs.PhaseTable.{state_of}
-use Rattle.call_grammar.specs.Ends.{End, fresh, end_after}
-use Rattle.call_grammar.specs.Offers.{Job}
+use Rattle.call_grammar.specs.Ends.{End, fresh, noted_all, end_after}
+use Rattle.split_ring.specs.Spelling.{low_half}
+use Rattle.call_grammar.specs.Steps.{Over}
+use Rattle.call_grammar.specs.Offers.{Job, asks_for}
+use Rattle.call_grammar.specs.Polls.{is_last}
 use Rattle.call_grammar.specs.Calls.{Call, Tick, Stop, Offer, Poll, in_run, job_of}
-use Rattle.call_grammar.specs.Places.{Place, Closed, AtState, Clearing, Setting, Refusing, Downed, AtUsedIndex, AtUsedId, Filling, WritingLow, WritingHigh, WritingLength, WritingFlags, WritingEntry, WritingIndex, RingingOffer, AtAvailIndex, AtEntry, AtLow, AtHigh, AtLength, AtFlags, AtWord, GivingId, GivingLength, GivingIndex, RingingPoll, fill_place, first_place, access_at, next_place, step_at, is_open}
+use Rattle.call_grammar.specs.Places.{Place, Closed, AtState, Clearing, Setting, Refusing, Downed, AtUsedIndex, AtUsedId, Filling, WritingLow, WritingHigh, WritingLength, WritingFlags, WritingEntry, WritingIndex, AtEvent, RingingOffer, AtAvailIndex, Arming, AtEntry, AtLow, AtHigh, AtLength, AtFlags, AtWord, GivingId, GivingLength, GivingIndex, RingingPoll, fill_place, first_place, access_at, next_place, step_at, is_open}
 use Rattle.ends_pair.specs.Fields.{Field}
 use Rattle.ends_pair.specs.Fields as field
 use Rattle.ends_pair.specs.Ground.{Ground, IsGround, section_of, who_of, fields}
@@ -16,7 +19,7 @@ use Rattle.ends_pair.specs.Alone.{Alone}
 use Rattle.ends_pair.specs.Pair.{freed_at, Polls, Link, Attends, Pair}
 use Rattle.ends_pair.specs.Laws.{PairIsKept}
 use Rattle.ends_pair.proofs.Fields.{fields_same, Put, theirs_stay}
-use Rattle.ends_pair.proofs.Forms.{opened, sent_kept}
+use Rattle.ends_pair.proofs.Forms.{by_test, opened, sent_kept}
 use Rattle.ends_pair.proofs.WriteSteps.{puts_lem}
 use Rattle.ends_pair.proofs.TickSteps.{not_phase}
 use Rattle.ends_pair.proofs.AloneKept.{alone_kept}
@@ -70,9 +73,16 @@ module _ (ground : Ground) (is : IsGround ground) (p : ℕ) (p2 : p < 2) (memory
   word_leads after place next f x v n run apart calm read polls put mine b = worked ground is p p2 memory after end _ next run (by_put ground is p p2 memory after end put) mine
       (sends_word ground p memory after end u w b.mark place next f x v n run apart calm read (polls (fields ground after p) u.accepted) put (b.faces (inl (inl run)))) b
 
-  -- a doorbell, which ends the call
+  -- a doorbell, or the read of an event that doesn't ask for one, which ends the call
   rests : (place : Place) → end.handshake.phase ≡ Run → end.handshake.mark ≡ false → freed_at end.freed place ≡ end.freed → Facing ground memory p end place u w → Works ground memory memory p u w end Closed
   rests place run mark read f = record { run = run; mark = mark; calm = tt; sends = subst (λ k. Link ground (fields ground memory (1 - p)) end.accepted end.freed k u.delivered u.returned w) read f.sends; takes = takes_on Closed (λ k. refl) tt f.takes }
+
+  -- the read of an event
+  hears : (number value : ℕ) → Alone ground memory p end (AtEvent number) → end.handshake.mark ≡ false → Facing ground memory p end (AtEvent number) u w →
+      Works ground memory memory p u w (end_after end (step_at (who_of ground p) (AtEvent number) value)) (next_place (who_of ground p) (AtEvent number) value)
+  hears number value a mark f = by_test (λ m x. Works ground memory memory p u w (noted_all end m) x) (asks_for (low_half value) number) [] (Over ∷ []) RingingOffer Closed
+      (λ test. record { run = a.holds.0; mark = mark; calm = tt; sends = f.sends; takes = takes_on RingingOffer (λ k. refl) tt f.takes })
+      (λ test. rests (AtEvent number) a.holds.0 mark refl f)
 
   pub leads : (after : ℕ → ℕ) (place : Place) (value : ℕ) → is_open place ≡ true → place ≢ Refusing → Meets memory (access_at (who_of ground p) place) value → Leaves p memory (access_at (who_of ground p) place) after →
       Alone ground after p (end_after end (step_at (who_of ground p) place value)) (next_place (who_of ground p) place value) → Before ground memory p end place u w → LeadsTo after place value
@@ -91,8 +101,10 @@ module _ (ground : Ground) (is : IsGround ground) (p : ℕ) (p2 : p < 2) (memory
   leads after (WritingFlags job) value opened calm met left mine b = word_leads after (WritingFlags job) (WritingEntry job) (field.DescFlags (job.number % limit_of ground.sizes)) _ _ _ b.mine.holds.0 (λ k e. cc) tt refl (λ f fs. tt) (puts_lem ground is p p2 memory after end (WritingFlags job) left b.mine.holds) mine b
   leads after (WritingEntry job) value opened calm met left mine b = word_leads after (WritingEntry job) (WritingIndex job) (field.AvailEntry (job.number % size_of ground.sizes)) _ _ _ b.mine.holds.0 (λ k e. cc) tt refl (λ f fs. tt) (puts_lem ground is p p2 memory after end (WritingEntry job) left b.mine.holds) mine b
   leads after (WritingIndex job) value opened calm met left mine b = let run = b.mine.holds.0 in let put = puts_lem ground is p p2 memory after end (WritingIndex job) left b.mine.holds in worked ground is p p2 memory after end _ _ run (by_put ground is p p2 memory after end put) mine (sends_index ground p memory after end u w b.mark job value put b.mine (b.faces (inl (inl run)))) b
+  leads after (AtEvent number) value opened calm met left mine b = reads after (AtEvent number) value left mine b.mine.holds.0 (hears number value b.mine b.mark) b
   leads after RingingOffer value opened calm met left mine b = reads after RingingOffer value left mine b.mine.holds (λ f. rests RingingOffer b.mine.holds b.mark refl f) b
-  leads after (AtAvailIndex taken) value opened calm met left mine b = reads after (AtAvailIndex taken) value left mine b.mine.holds.0 (takes_avail_index ground is p memory end u w b.mark taken value met b.theirs b.mine) b
+  leads after (AtAvailIndex taken last) value opened calm met left mine b = reads after (AtAvailIndex taken last) value left mine b.mine.holds.0 (takes_avail_index ground is p memory end u w b.mark taken last value met b.theirs b.mine) b
+  leads after (Arming taken) value opened calm met left mine b = word_leads after (Arming taken) (AtAvailIndex taken true) field.AvailEvent _ _ _ b.mine.holds.0 (λ k e. cc) tt refl (λ f fs. tt) (puts_lem ground is p p2 memory after end (Arming taken) left b.mine.holds) mine b
   leads after (AtEntry number more) value opened calm met left mine b = reads after (AtEntry number more) value left mine b.mine.holds.0 (takes_entry ground is p memory end u w b.mark number more value met b.mine) b
   leads after (AtLow number more entry) value opened calm met left mine b = reads after (AtLow number more entry) value left mine b.mine.holds.0 (takes_low ground is p memory end u w b.mark number more entry value met b.mine) b
   leads after (AtHigh number more entry low) value opened calm met left mine b = reads after (AtHigh number more entry low) value left mine b.mine.holds.0 (takes_high ground is p memory end u w b.mark number more entry low value (met ∙ ap memory (let e : section_of ground (1 - p) + word_place ground.sizes (Address entry) + 1 ≡ section_of ground (1 - p) + (word_place ground.sizes (Address entry) + 1) = omega arith in e)) b.mine) b
@@ -146,7 +158,7 @@ first_leads : (ground : Ground) (memory : ℕ → ℕ) (p : ℕ) (end u : End) (
 first_leads ground memory p end u w Tick b = enters ground memory p end u w (AtState end.handshake) (λ e. cc) (λ e. cc) (λ e. cc) refl (λ f fs. tt) b
 first_leads ground memory p end u w Stop b = enters ground memory p end u w (Setting 0) (λ e. cc) (set_apart refl (λ e. omega arith)) (set_apart refl (λ e. omega arith)) refl (λ f fs. tt) b
 first_leads ground memory p end u w (Offer frame) b = either ground memory p end u w (in_run end.handshake.phase) (AtUsedIndex (job_of (who_of ground p) end frame) end.freed) (enters ground memory p end u w _ (λ e. cc) (λ e. cc) (λ e. cc) refl (λ f fs. tt) b) (enters ground memory p end u w Downed (λ e. cc) (λ e. cc) (λ e. cc) refl (λ f fs. tt) b)
-first_leads ground memory p end u w Poll b = either ground memory p end u w (in_run end.handshake.phase) (AtAvailIndex (length end.delivered)) (enters ground memory p end u w _ (λ e. cc) (λ e. cc) (λ e. cc) refl (λ f fs. tt) b) (enters ground memory p end u w Downed (λ e. cc) (λ e. cc) (λ e. cc) refl (λ f fs. tt) b)
+first_leads ground memory p end u w Poll b = either ground memory p end u w (in_run end.handshake.phase) (AtAvailIndex (length end.delivered) (is_last (who_of ground p) end.found_none)) (enters ground memory p end u w _ (λ e. cc) (λ e. cc) (λ e. cc) refl (λ f fs. tt) b) (enters ground memory p end u w Downed (λ e. cc) (λ e. cc) (λ e. cc) refl (λ f fs. tt) b)
 
 begins_lem : (ground : Ground) (memory : ℕ → ℕ) (ends next : ℕ → End) (places goes : ℕ → Place) (p : ℕ) (call : Call) → IsGround ground → p < 2 → BeginsCall ground ends next places goes p call → Pair ground memory ends places → Pair ground memory next goes
 begins_lem ground memory ends next places goes p call is p2 begun m = let b = subst (λ x. Before ground memory p (ends p) x (ends (1 - p)) (places (1 - p))) begun.closed (before ground memory ends places p p2 m) in

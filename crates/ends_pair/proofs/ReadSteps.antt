@@ -9,12 +9,12 @@ use Rattle.split_ring.specs.Ranges.{IsDescAddress, IsDescLength}
 use Rattle.split_ring.specs.declared.ranges.FieldName.TheVariants as field_name
 use Rattle.split_ring.specs.Spelling.{low_half, high_half, entry_half}
 use Rattle.link_handshake.specs.declared.Phase.TheVariants.{Run}
-use Rattle.call_grammar.specs.Steps.{Mark, Reclaim, Full, Look, Deliver, Done}
+use Rattle.call_grammar.specs.Steps.{Mark, Reclaim, Full, Look, Over, Deliver}
 use Rattle.call_grammar.specs.Ends.{End, noted_all, end_after}
 use Rattle.call_grammar.specs.Words.{words_for, frame_in, address_of}
-use Rattle.call_grammar.specs.Offers.{Job, refusal, full_marks, returned_by, reclaim_marks, descriptor_of}
+use Rattle.call_grammar.specs.Offers.{Job, refusal, full_marks, returned_by, reclaim_marks, descriptor_of, asks_for}
 use Rattle.call_grammar.specs.Polls.{is_entry, is_address, is_length, published_by, look_marks}
-use Rattle.call_grammar.specs.Places.{Place, Closed, Refusing, AtUsedIndex, AtUsedId, AtAvailIndex, AtEntry, AtLow, AtHigh, AtLength, AtFlags, AtWord, fill_place, ids_place, items_place, words_place, next_place, step_at}
+use Rattle.call_grammar.specs.Places.{Place, Closed, Refusing, AtUsedIndex, AtUsedId, AtEvent, RingingOffer, AtAvailIndex, AtEntry, AtLow, AtHigh, AtLength, AtFlags, AtWord, fill_place, ids_place, none_place, items_place, words_place, next_place, step_at}
 use Rattle.call_grammar.proofs.OfferLists.{yes, no}
 use Rattle.ends_pair.specs.Ground.{Ground, who_of, fields}
 use Rattle.ends_pair.specs.Alone.{IsNext, Filled, Holds, counts, Alone}
@@ -56,9 +56,19 @@ pub ids_quiet : (end : End) (b c : Bool) → noted_all end (if b then (if c then
 ids_quiet end true c = full_quiet end c
 ids_quiet end false c = refl
 
-pub look_quiet : (end : End) (b : Bool) (count : ℕ) → noted_all end (if b then Look 0 ∷ Done ∷ [] else Look count ∷ []) ≡ end
-look_quiet end true count = refl
-look_quiet end false count = refl
+-- a look changes no more of its end than whether it found none
+pub looked : (end : End) (last : Bool) (count : ℕ) → noted_all end (look_marks last count) ≡ record end { found_none = count == 0 }
+looked end true zero = refl
+looked end false zero = refl
+looked end last (suc more) = ap (noted_all end) (no (suc more == 0) (look_marks last 0) (Look (suc more) ∷ []) (ne_eqb (suc more) 0 (λ e. omega arith)))
+
+pub look_alone : {ground : Ground} {memory : ℕ → ℕ} {p : ℕ} {end : End} {taken : ℕ} {last : Bool} (none : Bool) → Alone ground memory p end (AtAvailIndex taken last) → Alone ground memory p (record end { found_none = none }) (AtAvailIndex taken last)
+look_alone {ground} {memory} {p} {end} {taken} {last} none a = record { state = a.state; written = a.written; holds = a.holds; rests = a.rests; ready = λ two. absurd (run_ready a.holds.0 two); level = a.level; sent = a.sent; freed = a.freed; room = a.room }
+
+-- the place after a look that finds nothing
+pub none_holds : (ground : Ground) (memory : ℕ → ℕ) (p : ℕ) (end : End) (taken : ℕ) (last : Bool) → end.handshake.phase ≡ Run → taken ≡ length end.delivered → Holds ground memory p end (none_place taken last) × (counts (none_place taken last) ≡ (0, 0))
+none_holds ground memory p end taken true run is = (tt, refl)
+none_holds ground memory p end taken false run is = ((run, is), refl)
 
 module _ (ground : Ground) (p : ℕ) (memory : ℕ → ℕ) (end : End) where
   pub reads_used_index : (job : Job) (freed value : ℕ) → Alone ground memory p end (AtUsedIndex job freed) → StepsTo ground p memory end (AtUsedIndex job freed) value
@@ -87,11 +97,19 @@ module _ (ground : Ground) (p : ℕ) (memory : ℕ → ℕ) (end : End) where
       subst (λ (e : End). Alone ground memory p e (ids_place (who_of ground p) job (freed + 1) more)) (sym (ids_quiet end (more == 0) (job.number == freed + 1 + limit_of ground.sizes))) (moves _ x.0 x.1 a.rests a))
       (λ test. refuses h.0 refl a)
 
-  pub reads_avail_index : (taken value : ℕ) → Alone ground memory p end (AtAvailIndex taken) → StepsTo ground p memory end (AtAvailIndex taken) value
-  reads_avail_index taken value a = let h = a.holds in let d = published_by taken value in
-      by_test (λ m x. Alone ground memory p (noted_all end m) x) (nat_le d (size_of ground.sizes)) (look_marks d) (refusal field_name.AvailIndex (high_half value)) (if d == 0 then Closed else items_place taken d) Refusing
-      (λ test. subst (λ (e : End). Alone ground memory p e (if d == 0 then Closed else items_place taken d)) (sym (look_quiet end (d == 0) d))
-      (by_test (λ m x. Alone ground memory p end x) (d == 0) [] [] Closed (items_place taken d) (λ t. moves Closed tt refl a.rests a) (λ t. let few : d ≤ size_of ground.sizes = grind (arith, nat_tests) in let x = items_holds ground memory p end taken d h.0 h.1 few in moves _ x.0 x.1 a.rests a)))
+  pub hears_event : (number value : ℕ) → Alone ground memory p end (AtEvent number) → StepsTo ground p memory end (AtEvent number) value
+  hears_event number value a =
+      by_test (λ m x. Alone ground memory p (noted_all end m) x) (asks_for (low_half value) number) [] (Over ∷ []) RingingOffer Closed
+      (λ test. moves RingingOffer a.holds.0 refl a.rests a)
+      (λ test. moves Closed tt refl a.rests a)
+
+  pub reads_avail_index : (taken : ℕ) (last : Bool) (value : ℕ) → Alone ground memory p end (AtAvailIndex taken last) → StepsTo ground p memory end (AtAvailIndex taken last) value
+  reads_avail_index taken last value a = let h = a.holds in let d = published_by taken value in let now : End = record end { found_none = d == 0 } in let b = look_alone (d == 0) a in
+      by_test (λ m x. Alone ground memory p (noted_all end m) x) (nat_le d (size_of ground.sizes)) (look_marks last d) (refusal field_name.AvailIndex (high_half value)) (if d == 0 then none_place taken last else items_place taken d) Refusing
+      (λ test. subst (λ (e : End). Alone ground memory p e (if d == 0 then none_place taken last else items_place taken d)) (sym (looked end last d))
+      (by_test (λ m x. Alone ground memory p now x) (d == 0) [] [] (none_place taken last) (items_place taken d)
+      (λ t. let x = none_holds ground memory p now taken last h.0 h.1 in moves _ x.0 x.1 b.rests b)
+      (λ t. let few : d ≤ size_of ground.sizes = grind (arith, nat_tests) in let x = items_holds ground memory p now taken d h.0 h.1 few in moves _ x.0 x.1 b.rests b)))
       (λ test. refuses h.0 refl a)
 
   pub reads_entry : (number more value : ℕ) → Alone ground memory p end (AtEntry number more) → StepsTo ground p memory end (AtEntry number more) value

@@ -7,7 +7,7 @@ use Rattle.std.proofs.lemmas.Bool.Decides.{nat_tests}
 use Rattle.std.proofs.lemmas.Option.{slice_get-get_or}
 use Rattle.split_ring.specs.declared.ranges.FieldName.{FieldName}
 use Rattle.split_ring.specs.declared.ranges.FieldName.TheVariants as field_name
-use Rattle.split_ring.specs.Layout.{size_of, limit_of, word_place, AvailableIndex, UsedIndex}
+use Rattle.split_ring.specs.Layout.{has_events, size_of, limit_of, word_place, AvailableIndex, UsedIndex}
 use Rattle.split_ring.specs.Ranges.{IsDescAddress, IsDescLength}
 use Rattle.call_grammar.proofs.OfferLists.{no}
 use Rattle.split_ring.specs.Spelling.{high_half, low_half, entry_half}
@@ -15,12 +15,12 @@ use Rattle.link_handshake.specs.declared.Phase.{Phase}
 use Rattle.link_handshake.specs.declared.Phase.TheVariants.{Reset, Init, Ready, Run}
 use Rattle.link_handshake.specs.PhaseTable.{state_of}
 use Rattle.link_handshake.specs.Standing.{move_of}
-use Rattle.call_grammar.specs.Steps.{Mark, Deliver}
+use Rattle.call_grammar.specs.Steps.{Mark, Deliver, Over}
 use Rattle.call_grammar.specs.Ends.{End, noted_all, end_after}
 use Rattle.call_grammar.specs.Words.{words_for, frame_in, address_of}
-use Rattle.call_grammar.specs.Offers.{Job, refusal, full_marks, returned_by, reclaim_marks}
+use Rattle.call_grammar.specs.Offers.{Job, refusal, full_marks, returned_by, reclaim_marks, asks_for}
 use Rattle.call_grammar.specs.Polls.{is_entry, is_address, is_length, published_by, look_marks}
-use Rattle.call_grammar.specs.Places.{Place, Closed, AtState, Clearing, Setting, Refusing, Downed, AtUsedIndex, AtUsedId, Filling, WritingLow, WritingHigh, WritingLength, WritingFlags, WritingEntry, WritingIndex, RingingOffer, AtAvailIndex, AtEntry, AtLow, AtHigh, AtLength, AtFlags, AtWord, GivingId, GivingLength, GivingIndex, RingingPoll, ids_place, items_place, words_place, access_at, next_place, step_at, is_open}
+use Rattle.call_grammar.specs.Places.{Place, Closed, AtState, Clearing, Setting, Refusing, Downed, AtUsedIndex, AtUsedId, Filling, WritingLow, WritingHigh, WritingLength, WritingFlags, WritingEntry, WritingIndex, AtEvent, RingingOffer, AtAvailIndex, Arming, AtEntry, AtLow, AtHigh, AtLength, AtFlags, AtWord, GivingId, GivingLength, GivingIndex, RingingPoll, ids_place, none_place, items_place, words_place, access_at, next_place, step_at, is_open}
 use Rattle.link_machine.specs.LinkMachine.{Side, Gave, Marked, IsBeyond, MayReclaim, MayLook, MayDeliver}
 use Rattle.call_grammar.proofs.Bounding.{frame_length}
 use Rattle.call_grammar.proofs.PollLists.{address_denies, length_denies}
@@ -29,8 +29,8 @@ use Rattle.ends_pair.specs.Steps.{Meets, Leaves}
 use Rattle.ends_pair.proofs.StateRows.{Follows, Same, same_of, side_is, silent, heard, anew, same_heard, same_anew, wrote, hears, clear_call, saw, wrote_state}
 use Rattle.ends_pair.proofs.MarkRows.{refused_row, fill_call, reclaim_rows, id_rows, items_call, words_call, look_rows, moves_set, moves_clear, begin_follows}
 use Rattle.ends_pair.specs.Alone.{Alone}
-use Rattle.ends_pair.specs.Sides.{told_by, SawFor, SideIs, StepsFollowRows}
-use Rattle.ends_pair.proofs.Forms.{opened}
+use Rattle.ends_pair.specs.Sides.{told_by, SawFor, CallIs, SideIs, StepsFollowRows}
+use Rattle.ends_pair.proofs.Forms.{by_test, opened}
 use Rattle.ends_pair.proofs.AloneKept.{alone_kept}
 use Rattle.ends_pair.proofs.PairForms.{Before}
 use Rattle.ends_pair.proofs.Sends.{returned_is}
@@ -88,15 +88,15 @@ module _ (ground : Ground) (is : IsGround ground) (p : ℕ) (p2 : p < 2) (memory
       (λ test. id_rows ground theirs other (heard side value) end p job freed more (same_heard value (same_of si)) run (omega arith) (omega arith) (omega arith) (omega arith))
       (λ test. (side.read, refl, omega arith, λ e. let same : side.freed - side.reclaimed + length side.read ≡ freed = omega arith in let good : value ≡ freed % limit_of ground.sizes = e ∙ ap (λ k. k % limit_of ground.sizes) same in grind (arith, nat_tests)))
 
-  looks : (taken value : ℕ) → value ≡ memory (section_of ground (1 - p) + word_place ground.sizes AvailableIndex) → Alone ground memory p end (AtAvailIndex taken) → (theirs ≡ true → Other (AtAvailIndex taken)) → SideIs end (AtAvailIndex taken) side → Goes (AtAvailIndex taken) value
-  looks taken value met a known si = let h = a.holds in let d = published_by taken value in let run = in_run (AtAvailIndex taken) si h.0 in let read = read_on [] value side.read si.call in
+  looks : (taken : ℕ) (last : Bool) (value : ℕ) → value ≡ memory (section_of ground (1 - p) + word_place ground.sizes AvailableIndex) → Alone ground memory p end (AtAvailIndex taken last) → (theirs ≡ true → Other (AtAvailIndex taken last)) → SideIs end (AtAvailIndex taken last) side → Goes (AtAvailIndex taken last) value
+  looks taken last value met a known si = let h = a.holds in let d = published_by taken value in let run = in_run (AtAvailIndex taken last) si h.0 in let read = read_on [] value side.read si.call in
       let taken_is : length side.delivered ≡ taken = ap length si.delivered ∙ sym h.1 in
-      judged (AtAvailIndex taken) value (if d == 0 then Closed else items_place taken d) (nat_le d (size_of ground.sizes)) (look_marks d) field_name.AvailIndex (high_half value) (calm (AtAvailIndex taken) value refl (λ e. cc) met refl a known) si h.0
-      (λ test. look_rows ground theirs other (heard side value) end taken d (d == 0) refl (same_heard value (same_of si)) run (value, read, ap (λ k. (high_half value + 65536 - k % 65536) % 65536) (sym taken_is)) (may theirs known (grind (arith, nat_tests))))
+      judged (AtAvailIndex taken last) value (if d == 0 then none_place taken last else items_place taken d) (nat_le d (size_of ground.sizes)) (look_marks last d) field_name.AvailIndex (high_half value) (calm (AtAvailIndex taken last) value refl (λ e. cc) met refl a known) si h.0
+      (λ test. look_rows ground theirs other (heard side value) end taken last d (same_heard value (same_of si)) run (value, read, ap (λ k. (high_half value + 65536 - k % 65536) % 65536) (sym taken_is)) (may theirs known (grind (arith, nat_tests))))
       (λ test. (value, read, refl, λ within. let beyond : size_of ground.sizes < d = grind (arith, nat_tests) in let near : d ≤ size_of ground.sizes = subst (λ k. (high_half value + 65536 - k % 65536) % 65536 ≤ size_of ground.sizes) taken_is within in omega arith))
     where
-      may : (b : Bool) → (b ≡ true → Other (AtAvailIndex taken)) → published_by taken value ≤ size_of ground.sizes → MayLook ground.sizes b (heard side value) other (published_by taken value)
-      may true known few = let o = known refl in let fact = published_is ground is p memory end u w o.all.mark taken value met o.all.theirs a (o.all.faces (inl (inl a.holds.0))) in let same = a.holds.1 in let mine = ap length si.delivered in let all = ap length o.stands.accepted in omega arith
+      may : (b : Bool) → (b ≡ true → Other (AtAvailIndex taken last)) → published_by taken value ≤ size_of ground.sizes → MayLook ground.sizes b (heard side value) other (published_by taken value)
+      may true known few = let o = known refl in let fact = published_is ground is p memory end u w o.all.mark taken last value met o.all.theirs a (o.all.faces (inl (inl a.holds.0))) in let same = a.holds.1 in let mine = ap length si.delivered in let all = ap length o.stands.accepted in omega arith
       may false known few = few
 
   enters : (number more value : ℕ) → Meets memory (access_at (who_of ground p) (AtEntry number more)) value → Alone ground memory p end (AtEntry number more) → (theirs ≡ true → Other (AtEntry number more)) → SideIs end (AtEntry number more) side → Goes (AtEntry number more) value
@@ -154,8 +154,20 @@ module _ (ground : Ground) (is : IsGround ground) (p : ℕ) (p2 : p < 2) (memory
   accepts job value a si = let h = a.holds in let new = record side { accepted = side.accepted ++ job.frame ∷ []; read = [] } in let f = si.freed in let count = ap length si.accepted in let number = h.1 in let room = h.2 in (
     new,
     (new, (refl, (in_run (WritingIndex job) si h.0, omega arith, refl)), refl),
-    record { state = si.state; refused = si.refused; accepted = ap (λ (l : List (List ℕ)). l ++ job.frame ∷ []) si.accepted; delivered = si.delivered; returned = si.returned; freed = si.freed; call = refl },
+    record { state = si.state; refused = si.refused; accepted = ap (λ (l : List (List ℕ)). l ++ job.frame ∷ []) si.accepted; delivered = si.delivered; returned = si.returned; freed = si.freed; call = by_bool (has_events ground.sizes) },
   )
+    where
+      now : End
+      now = end_after end (step_at (who_of ground p) (WritingIndex job) value)
+
+      by_bool : (b : Bool) → CallIs now (if b then AtEvent job.number else RingingOffer) (record side { accepted = side.accepted ++ job.frame ∷ []; read = [] })
+      by_bool true = refl
+      by_bool false = tt
+
+  hears_event : (number value : ℕ) → SideIs end (AtEvent number) side → Goes (AtEvent number) value
+  hears_event number value si = hears ground theirs other side _ value (by_test (λ m x. Follows ground theirs other (heard side value) (map Marked m) (noted_all end m) x) (asks_for (low_half value) number) [] (Over ∷ []) RingingOffer Closed
+      (λ test. silent ground theirs other (heard side value) (same_heard value (same_of si)) tt)
+      (λ test. (anew side, (anew side, (refl, refl), refl), side_is (same_anew (same_of si)) refl)))
 
   returns : (number more value : ℕ) → Alone ground memory p end (GivingIndex number more) → SideIs end (GivingIndex number more) side → Goes (GivingIndex number more) value
   returns number more value a si = let h = a.holds in let now = end_after end (step_at (who_of ground p) (GivingIndex number more) value) in let new = record side { returned = side.returned + 1; read = [] } in let r = si.returned in let d = ap length si.delivered in let flat : length end.delivered ≡ end.returned + 1 = a.level (opened h.0) in (
@@ -191,8 +203,10 @@ module _ (ground : Ground) (is : IsGround ground) (p : ℕ) (p2 : p < 2) (memory
   rows_at (WritingFlags job) value a known state si opened met = silent ground theirs other side (wrote _ (same_of si)) tt
   rows_at (WritingEntry job) value a known state si opened met = silent ground theirs other side (wrote _ (same_of si)) tt
   rows_at (WritingIndex job) value a known state si opened met = accepts job value a si
+  rows_at (AtEvent number) value a known state si opened met = hears_event number value si
   rows_at RingingOffer value a known state si opened met = (anew side, (anew side, (refl, refl), refl), side_is (same_anew (same_of si)) refl)
-  rows_at (AtAvailIndex taken) value a known state si opened met = looks taken value met a known si
+  rows_at (AtAvailIndex taken last) value a known state si opened met = looks taken last value met a known si
+  rows_at (Arming taken) value a known state si opened met = silent ground theirs other side (wrote _ (same_of si)) si.call
   rows_at (AtEntry number more) value a known state si opened met = enters number more value met a known si
   rows_at (AtLow number more e) value a known state si opened met = hears ground theirs other side [] value (silent ground theirs other (heard side value) (same_heard value (same_of si)) (si.call.0, (si.call.1.0, read_on (si.call.1.0 ∷ []) value side.read si.call.1.1)))
   rows_at (AtHigh number more e lo) value a known state si opened met = addresses number more e lo value met a known si

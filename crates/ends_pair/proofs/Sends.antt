@@ -1,18 +1,18 @@
 -- The steps of an offer, between two honest ends.
-use Rattle.std.proofs.Common.{◌≡◌, ◌≢◌, ℕ, zero, suc, ◌+◌, ◌-◌, ◌%◌, ◌≤◌, false, List, [], ◌∷◌, ◌++◌, length, refl, sym, ap, ◌∙◌, subst, arith, eq-eqb, ne_eqb, append_assoc, length-append}
+use Rattle.std.proofs.Common.{◌≡◌, ◌≢◌, ℕ, zero, suc, ◌+◌, ◌-◌, ◌%◌, ◌≤◌, Bool, true, false, List, [], ◌∷◌, ◌++◌, length, refl, sym, ap, ◌∙◌, subst, arith, eq-eqb, ne_eqb, append_assoc, length-append}
 use mathlib.Core.Logic.{dite}
 use native.Mathlib.Decide.{ℕ_discrete}
 use Rattle.std.specs.Prelude.{◌==◌, nat_le, if◌then◌else◌}
 use Rattle.std.proofs.lemmas.Bool.Decides.{nat_tests}
 use Rattle.std.proofs.lemmas.Nat.{mod_below}
 use Rattle.split_ring.specs.declared.ranges.FieldName.TheVariants as field_name
-use Rattle.split_ring.specs.Layout.{size_of, limit_of, word_place, UsedIndex, Id}
+use Rattle.split_ring.specs.Layout.{has_events, size_of, limit_of, word_place, UsedIndex, Id}
 use Rattle.split_ring.specs.Spelling.{high_half}
 use Rattle.link_handshake.specs.declared.Phase.TheVariants.{Run}
 use Rattle.call_grammar.specs.Ends.{End, noted_all, end_after}
 use Rattle.call_grammar.specs.Words.{words_for}
 use Rattle.call_grammar.specs.Offers.{Job, refusal, full_marks, returned_by, reclaim_marks, descriptor_of}
-use Rattle.call_grammar.specs.Places.{Place, Closed, Refusing, AtUsedIndex, AtUsedId, WritingIndex, RingingOffer, fill_place, ids_place, next_place, step_at}
+use Rattle.call_grammar.specs.Places.{Place, Closed, Refusing, AtUsedIndex, AtUsedId, WritingIndex, AtEvent, RingingOffer, fill_place, ids_place, tell_place, next_place, step_at}
 use Rattle.call_grammar.proofs.OfferLists.{yes, no}
 use Rattle.ends_pair.specs.Fields.{Field}
 use Rattle.ends_pair.specs.Fields as field
@@ -37,6 +37,14 @@ ids_at ground p field frames now freed job zero e = let same : now ≡ freed = o
     (λ e. subst (IdsAt ground field frames now freed) (sym (yes (job.number == freed + limit_of ground.sizes) Closed (fill_place job 0 (words_for (length job.frame))) (eq-eqb _ _ e))) (tt, same, tt))
     (λ ne. subst (IdsAt ground field frames now freed) (sym (no (job.number == freed + limit_of ground.sizes) Closed (fill_place job 0 (words_for (length job.frame))) (ne_eqb _ _ ne))) (fill_at ground field frames now freed job 0 (words_for (length job.frame)) same))
 ids_at ground p field frames now freed job (suc more) e = (tt, refl, tt)
+
+-- the place after the index of a frame
+tell_at : (ground : Ground) (p : ℕ) (field : Field → ℕ) (frames : List (List ℕ)) (freed number : ℕ) → IdsAt ground field frames freed freed (tell_place (who_of ground p) number)
+tell_at ground p field frames freed number = by_bool (has_events ground.sizes)
+  where
+    by_bool : (b : Bool) → IdsAt ground field frames freed freed (if b then AtEvent number else RingingOffer)
+    by_bool true = (tt, refl, tt)
+    by_bool false = (tt, refl, tt)
 
 module _ (ground : Ground) (is : IsGround ground) (p : ℕ) (memory : ℕ → ℕ) (end u : End) (w : Place) (mark : end.handshake.mark ≡ false) where
   abbrev Goes : Place → ℕ → Type 0
@@ -92,11 +100,11 @@ module _ (ground : Ground) (p : ℕ) (memory after : ℕ → ℕ) (end u : End) 
     takes = takes_on next (λ k. put.beside _ (apart k)) polls facing.takes;
   }
 
-  pub sends_index : (job : Job) (value : ℕ) → Puts ground p memory after (WritingIndex job) → Alone ground memory p end (WritingIndex job) → Facing ground memory p end (WritingIndex job) u w → Works ground memory after p u w (end_after end (step_at (who_of ground p) (WritingIndex job) value)) RingingOffer
-  sends_index job value put a f = let h = a.holds in let l = f.sends in let frame = job.frame in record {
+  pub sends_index : (job : Job) (value : ℕ) → Puts ground p memory after (WritingIndex job) → Alone ground memory p end (WritingIndex job) → Facing ground memory p end (WritingIndex job) u w → Works ground memory after p u w (end_after end (step_at (who_of ground p) (WritingIndex job) value)) (tell_place (who_of ground p) job.number)
+  sends_index job value put a f = let h = a.holds in let l = f.sends in let frame = job.frame in let x = tell_at ground p (fields ground after p) u.accepted end.freed job.number in record {
     run = h.0;
     mark = mark;
-    calm = tt;
-    sends = record { returns = l.returns; delivers = l.delivers; prefix = (l.prefix.0 ++ frame ∷ [], ap (λ (x : List (List ℕ)). x ++ frame ∷ []) l.prefix.1 ∙ append_assoc u.delivered l.prefix.0 (frame ∷ [])); named = l.named; polls = polls_more ground (fields ground memory (1 - p)) end.accepted frame w l.polls };
-    takes = takes_on RingingOffer (λ k. put.beside _ (λ e. cc)) tt f.takes;
+    calm = x.0;
+    sends = record { returns = l.returns; delivers = l.delivers; prefix = (l.prefix.0 ++ frame ∷ [], ap (λ (x : List (List ℕ)). x ++ frame ∷ []) l.prefix.1 ∙ append_assoc u.delivered l.prefix.0 (frame ∷ [])); named = λ k from below. l.named k (let e = x.1 in omega arith) below; polls = polls_more ground (fields ground memory (1 - p)) end.accepted frame w l.polls };
+    takes = takes_on (tell_place (who_of ground p) job.number) (λ k. put.beside _ (λ e. cc)) x.2 f.takes;
   }

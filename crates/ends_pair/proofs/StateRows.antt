@@ -51,6 +51,10 @@ same_heard value same = record { state = same.state; refused = same.refused; acc
 pub same_anew : {end : End} {side : Side} → Same end side → Same end (anew side)
 same_anew same = record { state = same.state; refused = same.refused; accepted = same.accepted; delivered = same.delivered; returned = same.returned; freed = same.freed }
 
+-- a look
+pub same_looked : {end : End} {side : Side} (none : Bool) (looked : ℕ) (read : List ℕ) → Same end side → Same (record end { found_none = none }) (record side { looked = looked; read = read })
+same_looked none looked read same = record { state = same.state; refused = same.refused; accepted = same.accepted; delivered = same.delivered; returned = same.returned; freed = same.freed }
+
 -- a write of a word
 pub wrote : {end : End} {side : Side} (written : ℕ → ℕ) → Same end side → Same (record end { written = written }) side
 wrote written same = record { state = same.state; refused = same.refused; accepted = same.accepted; delivered = same.delivered; returned = same.returned; freed = same.freed }

@@ -1,5 +1,5 @@
 -- The steps of a poll, between two honest ends.
-use Rattle.std.proofs.Common.{◌≡◌, ℕ, zero, suc, ◌+◌, ◌-◌, ◌/◌, ◌%◌, ◌<◌, ◌≤◌, true, false, List, [], ◌∷◌, ◌++◌, length, refl, sym, ap, ◌∙◌, subst, arith, ne_eqb, append_assoc, length-append}
+use Rattle.std.proofs.Common.{◌≡◌, ℕ, zero, suc, ◌+◌, ◌-◌, ◌/◌, ◌%◌, ◌<◌, ◌≤◌, Bool, true, false, List, [], ◌∷◌, ◌++◌, length, refl, sym, ap, ◌∙◌, subst, arith, ne_eqb, append_assoc, length-append}
 use mathlib.Core.Logic.{dite}
 use native.Mathlib.Decide.{ℕ_discrete}
 use Rattle.std.specs.Prelude.{◌==◌, nat_le, if◌then◌else◌}
@@ -16,7 +16,7 @@ use Rattle.call_grammar.specs.Ends.{End, noted_all, end_after}
 use Rattle.call_grammar.specs.Words.{words_for, frame_word, frame_in, address_of}
 use Rattle.call_grammar.specs.Offers.{refusal}
 use Rattle.call_grammar.specs.Polls.{is_entry, is_address, is_length, published_by, look_marks}
-use Rattle.call_grammar.specs.Places.{Place, Closed, Refusing, AtAvailIndex, AtEntry, AtLow, AtHigh, AtLength, AtFlags, AtWord, GivingId, GivingLength, GivingIndex, items_place, words_place, next_place, step_at}
+use Rattle.call_grammar.specs.Places.{Place, Refusing, AtAvailIndex, AtEntry, AtLow, AtHigh, AtLength, AtFlags, AtWord, GivingId, GivingLength, GivingIndex, none_place, items_place, words_place, next_place, step_at}
 use Rattle.call_grammar.proofs.OfferLists.{no}
 use Rattle.ends_pair.specs.Fields.{Field, is_field, field_word, part_of}
 use Rattle.ends_pair.specs.Fields as field
@@ -25,7 +25,7 @@ use Rattle.ends_pair.specs.Alone.{frame_at, Spelled, Alone}
 use Rattle.ends_pair.specs.Pair.{freed_at, Polls, Link}
 use Rattle.ends_pair.proofs.Fields.{numbers, ring_apart, one_test, both_tests, slot_start, slot_good, field_read}
 use Rattle.ends_pair.proofs.Forms.{by_test, opened, Puts}
-use Rattle.ends_pair.proofs.ReadSteps.{look_quiet}
+use Rattle.ends_pair.proofs.ReadSteps.{looked}
 use Rattle.ends_pair.proofs.Frames.{frames_lem}
 use Rattle.ends_pair.proofs.PairForms.{Facing, IsCalm, Works, takes_on, room_at}
 
@@ -59,6 +59,19 @@ items_poll : (ground : Ground) (field : Field → ℕ) (frames : List (List ℕ)
 items_poll ground field frames number zero up = tt
 items_poll ground field frames number (suc more) up = up
 
+-- the place after a look that finds nothing
+none_calm : (taken : ℕ) (last : Bool) → IsCalm (none_place taken last)
+none_calm taken true = tt
+none_calm taken false = tt
+
+none_freed : (freed taken : ℕ) (last : Bool) → freed ≡ freed_at freed (none_place taken last)
+none_freed freed taken true = refl
+none_freed freed taken false = refl
+
+none_poll : (ground : Ground) (field : Field → ℕ) (frames : List (List ℕ)) (taken : ℕ) (last : Bool) → Polls ground field frames (none_place taken last)
+none_poll ground field frames taken true = tt
+none_poll ground field frames taken false = tt
+
 module _ (ground : Ground) (is : IsGround ground) (p : ℕ) (memory : ℕ → ℕ) (end u : End) (w : Place) (mark : end.handshake.mark ≡ false) where
   abbrev Goes : Place → ℕ → Type 0
   Goes place value = Works ground memory memory p u w (end_after end (step_at (who_of ground p) place value)) (next_place (who_of ground p) place value)
@@ -81,17 +94,23 @@ module _ (ground : Ground) (is : IsGround ground) (p : ℕ) (memory : ℕ → �
   read_of f value spot met = field_read ground memory (1 - p) f value spot met
 
   -- how many frames were accepted since
-  pub published_is : (taken value : ℕ) → value ≡ memory (section_of ground (1 - p) + word_place ground.sizes AvailableIndex) → Alone ground memory (1 - p) u w → Alone ground memory p end (AtAvailIndex taken) → Facing ground memory p end (AtAvailIndex taken) u w → taken + published_by taken value ≡ length u.accepted
-  published_is taken value met b a f = let t = f.takes in let r = t.returns in let v = t.delivers in let room = b.room in let n = numbers ground is in let few = n.limit_most in let most = n.size_most in let same = a.holds.1 in
+  pub published_is : (taken : ℕ) (last : Bool) (value : ℕ) → value ≡ memory (section_of ground (1 - p) + word_place ground.sizes AvailableIndex) → Alone ground memory (1 - p) u w → Alone ground memory p end (AtAvailIndex taken last) → Facing ground memory p end (AtAvailIndex taken last) u w → taken + published_by taken value ≡ length u.accepted
+  published_is taken last value met b a f = let t = f.takes in let r = t.returns in let v = t.delivers in let room = b.room in let n = numbers ground is in let few = n.limit_most in let most = n.size_most in let same = a.holds.1 in
       let index : high_half value ≡ length u.accepted % 65536 = read_of field.AvailIndex value refl met ∙ f.theirs.available in
       let up : length end.delivered ≤ length u.accepted = let e = ap length t.prefix.1 in let k = length-append end.delivered t.prefix.0 in omega arith in omega arith
 
-  pub takes_avail_index : (taken value : ℕ) → value ≡ memory (section_of ground (1 - p) + word_place ground.sizes AvailableIndex) → Alone ground memory (1 - p) u w → Alone ground memory p end (AtAvailIndex taken) → Facing ground memory p end (AtAvailIndex taken) u w → Goes (AtAvailIndex taken) value
-  takes_avail_index taken value met b a f = let h = a.holds in let d = published_by taken value in let t = f.takes in let r = t.returns in let v = t.delivers in let room = b.room in let n = numbers ground is in let few = n.limit_most in let most = n.size_most in let same = h.1 in
-      let exact = published_is taken value met b a f in
-      by_test (λ m x. Works ground memory memory p u w (noted_all end m) x) (nat_le d (size_of ground.sizes)) (look_marks d) (refusal field_name.AvailIndex (high_half value)) (if d == 0 then Closed else items_place taken d) Refusing
-      (λ test. subst (λ (e : End). Works ground memory memory p u w e (if d == 0 then Closed else items_place taken d)) (sym (look_quiet end (d == 0) d))
-      (by_test (λ m x. Works ground memory memory p u w end x) (d == 0) [] [] Closed (items_place taken d) (λ t. onward (AtAvailIndex taken) Closed h.0 tt refl tt f) (λ t. onward (AtAvailIndex taken) (items_place taken d) h.0 (items_calm taken d) (items_freed end.freed taken d) (items_poll ground (fields ground memory p) u.accepted taken d (omega arith)) f)))
+  -- whether a look found none is no matter of the pair
+  same_works : {next : Place} (none : Bool) → Works ground memory memory p u w end next → Works ground memory memory p u w (record end { found_none = none }) next
+  same_works none x = record { run = x.run; mark = x.mark; calm = x.calm; sends = x.sends; takes = x.takes }
+
+  pub takes_avail_index : (taken : ℕ) (last : Bool) (value : ℕ) → value ≡ memory (section_of ground (1 - p) + word_place ground.sizes AvailableIndex) → Alone ground memory (1 - p) u w → Alone ground memory p end (AtAvailIndex taken last) → Facing ground memory p end (AtAvailIndex taken last) u w → Goes (AtAvailIndex taken last) value
+  takes_avail_index taken last value met b a f = let h = a.holds in let d = published_by taken value in let t = f.takes in let r = t.returns in let v = t.delivers in let room = b.room in let n = numbers ground is in let few = n.limit_most in let most = n.size_most in let same = h.1 in
+      let exact = published_is taken last value met b a f in
+      by_test (λ m x. Works ground memory memory p u w (noted_all end m) x) (nat_le d (size_of ground.sizes)) (look_marks last d) (refusal field_name.AvailIndex (high_half value)) (if d == 0 then none_place taken last else items_place taken d) Refusing
+      (λ test. subst (λ (e : End). Works ground memory memory p u w e (if d == 0 then none_place taken last else items_place taken d)) (sym (looked end last d))
+      (same_works (d == 0) (by_test (λ m x. Works ground memory memory p u w end x) (d == 0) [] [] (none_place taken last) (items_place taken d)
+      (λ t. onward (AtAvailIndex taken last) (none_place taken last) h.0 (none_calm taken last) (none_freed end.freed taken last) (none_poll ground (fields ground memory p) u.accepted taken last) f)
+      (λ t. onward (AtAvailIndex taken last) (items_place taken d) h.0 (items_calm taken d) (items_freed end.freed taken d) (items_poll ground (fields ground memory p) u.accepted taken d (omega arith)) f))))
       (λ test. absurd (let low : d ≤ size_of ground.sizes = omega arith in grind (arith, nat_tests)))
 
   pub takes_entry : (number more value : ℕ) → value ≡ memory (section_of ground (1 - p) + word_place ground.sizes (Entry (number % size_of ground.sizes))) → Alone ground memory p end (AtEntry number more) → Facing ground memory p end (AtEntry number more) u w → Goes (AtEntry number more) value

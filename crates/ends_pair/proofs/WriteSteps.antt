@@ -1,5 +1,5 @@
 -- The writes of an offer and of a poll: an end alone.
-use Rattle.std.proofs.Common.{◌≡◌, ◌≢◌, ℕ, ◌+◌, ◌*◌, ◌/◌, ◌%◌, ◌<◌, ◌≤◌, true, List, [], ◌∷◌, ◌++◌, length, refl, sym, ap, ◌∙◌, subst, arith}
+use Rattle.std.proofs.Common.{◌≡◌, ◌≢◌, ℕ, ◌+◌, ◌*◌, ◌/◌, ◌%◌, ◌<◌, ◌≤◌, Bool, true, false, List, [], ◌∷◌, ◌++◌, length, refl, sym, ap, ◌∙◌, subst, arith}
 use mathlib.Core.Logic.{dite}
 use native.Mathlib.Decide.{ℕ_discrete}
 use Rattle.std.specs.Prelude.{◌==◌, if◌then◌else◌}
@@ -8,18 +8,19 @@ use Rattle.std.proofs.lemmas.List.{length-append}
 use Rattle.std.proofs.lemmas.Nat.{mod_below}
 use Rattle.std.proofs.Math.ListN.{get_or-append}
 use Rattle.std.proofs.Math.Seq.{get_or-append_seam}
-use Rattle.split_ring.specs.Layout.{size_of, limit_of, slot_of, word_place, Address, Slot}
+use Rattle.split_ring.specs.Layout.{has_events, size_of, limit_of, slot_of, word_place, Address, Slot}
 use Rattle.split_ring.specs.Layout as ring
 use Rattle.split_ring.specs.Spelling.{entry_half}
+use Rattle.link_handshake.specs.declared.Phase.TheVariants.{Run}
 use Rattle.call_grammar.specs.Ends.{End}
 use Rattle.call_grammar.specs.Words.{words_for, frame_word, index_word, with_entry}
 use Rattle.call_grammar.specs.Offers.{Job}
-use Rattle.call_grammar.specs.Places.{Place, Filling, WritingLow, WritingHigh, WritingLength, WritingFlags, WritingEntry, WritingIndex, GivingId, GivingLength, GivingIndex, fill_place, items_place, access_at}
+use Rattle.call_grammar.specs.Places.{Place, Filling, WritingLow, WritingHigh, WritingLength, WritingFlags, WritingEntry, WritingIndex, AtEvent, RingingOffer, AtAvailIndex, Arming, GivingId, GivingLength, GivingIndex, fill_place, tell_place, items_place, access_at}
 use Rattle.ends_pair.specs.Fields.{Field, is_field, field_word, part_of}
 use Rattle.ends_pair.specs.Fields as field
 use Rattle.ends_pair.specs.Ground.{Ground, IsGround, section_of, who_of, fields}
 use Rattle.ends_pair.specs.Steps.{Stored, Leaves}
-use Rattle.ends_pair.specs.Alone.{frame_at, Spelled, IsNext, Filled, Holds, Alone}
+use Rattle.ends_pair.specs.Alone.{frame_at, Spelled, IsNext, Filled, Holds, counts, Alone}
 use Rattle.ends_pair.proofs.Fields.{numbers, one_test, both_tests, field_read, Entries, Put, put_of, written_kept}
 use Rattle.ends_pair.proofs.Forms.{run_ready, opened, free, spelled_kept, next_kept, filled_kept, Puts, free_slot, free_entry, writes}
 use Rattle.ends_pair.proofs.ReadSteps.{StepsTo, fill_holds, items_holds}
@@ -36,6 +37,14 @@ entry_there : (k l word d : ℕ) → l ≢ k → l / 2 ≡ k / 2 → d < 65536 �
 entry_there k l word d ne half low = dite (ℕ_discrete (k % 2) 0)
     (λ even. let odd : l % 2 ≢ 0 = omega arith in grind (arith, nat_tests))
     (λ odd. let even : l % 2 ≡ 0 = omega arith in grind (arith, nat_tests))
+
+-- the place after the index of a frame
+pub tell_holds : (ground : Ground) (memory : ℕ → ℕ) (p : ℕ) (end : End) (number : ℕ) → end.handshake.phase ≡ Run → number + 1 ≡ length end.accepted → Holds ground memory p end (tell_place (who_of ground p) number) × (counts (tell_place (who_of ground p) number) ≡ (0, 0))
+tell_holds ground memory p end number run next = by_bool (has_events ground.sizes)
+  where
+    by_bool : (b : Bool) → Holds ground memory p end (if b then AtEvent number else RingingOffer) × (counts (if b then AtEvent number else RingingOffer) ≡ (0, 0))
+    by_bool true = ((run, next), refl)
+    by_bool false = (run, refl)
 
 module _ (ground : Ground) (is : IsGround ground) (p : ℕ) (p2 : p < 2) (memory after : ℕ → ℕ) (end : End) where
   -- a write of a field that is alone in its word
@@ -66,6 +75,9 @@ module _ (ground : Ground) (is : IsGround ground) (p : ℕ) (p2 : p < 2) (memory
   high_index : (n : ℕ) → 65536 * (n % 65536) / 65536 ≡ n % 65536
   high_index n = omega arith
 
+  low_event : (n : ℕ) → n % 65536 % 65536 ≡ n % 65536
+  low_event n = omega arith
+
   -- what the step at a place writes
   pub puts_lem : (place : Place) → Leaves p memory (access_at (who_of ground p) place) after → Holds ground memory p end place → Puts ground p memory after place
   puts_lem (Filling job at more) stored h = let i = job.number % limit_of ground.sizes in let all = h.2 in
@@ -82,6 +94,7 @@ module _ (ground : Ground) (is : IsGround ground) (p : ℕ) (p2 : p < 2) (memory
       let low : d < 65536 = let few = (numbers ground is).size_most in let under = descriptor job in omega arith in
       put_of ground is memory after p p2 (field.AvailEntry k) (with_entry k job.beside d) d (one_test _ _ (turn_low job.number)) stored (entry_here k job.beside d low) (entry_beside job h.1.next low)
   puts_lem (WritingIndex job) stored h = puts field.AvailIndex (index_word (job.number + 1)) _ refl (λ t e. e) (high_index (job.number + 1)) stored
+  puts_lem (Arming taken) stored h = puts field.AvailEvent (taken % 65536) _ refl (λ t e. e) (low_event taken) stored
   puts_lem (GivingId number more entry) stored h = puts (field.UsedId (number % size_of ground.sizes)) entry _ (one_test _ _ (turn_low number)) (λ t e. e) refl stored
   puts_lem (GivingLength number more) stored h = puts (field.UsedLength (number % size_of ground.sizes)) 1 _ (one_test _ _ (turn_low number)) (λ t e. e) refl stored
   puts_lem (GivingIndex number more) stored h = puts field.UsedIndex (index_word (number + 1)) _ refl (λ t e. e) (high_index (number + 1)) stored
@@ -131,15 +144,17 @@ module _ (ground : Ground) (is : IsGround ground) (p : ℕ) (p2 : p < 2) (memory
       (h.0, h.1.next.number, h.1.room, record { offered = h.1.next.frame; entry = put.here; low = put.beside _ (λ e. cc) ∙ h.2; high = put.beside _ (λ e. cc) ∙ h.3; size = put.beside _ (λ e. cc) ∙ h.4; flags = put.beside _ (λ e. cc) ∙ h.5; words = λ j lt. put.beside _ (λ e. cc) ∙ h.1.words j lt }) refl a
 
   pub publishes : (job : Job) (value : ℕ) → Leaves p memory (access_at (who_of ground p) (WritingIndex job)) after → Alone ground memory p end (WritingIndex job) → StepsTo ground p after end (WritingIndex job) value
-  publishes job value stored a = let h = a.holds in let n = length end.accepted in let frame = job.frame in let run = h.0 in let s = a.sent (opened run) in let count = longer end.accepted frame in let number = h.1 in let free = h.2 in
+  publishes job value stored a = let h = a.holds in let n = length end.accepted in let frame = job.frame in let run = h.0 in let s = a.sent (opened run) in let count = longer end.accepted frame in let number = h.1 in let spare = h.2 in
       let put = puts_lem (WritingIndex job) stored h in
-      let keep : (k : ℕ) (g : List ℕ) → Spelled ground (fields ground memory p) k g → Spelled ground (fields ground after p) k g = λ k g. spelled_kept (λ f live na nu. put.beside f na) in record {
+      let keep : (k : ℕ) (g : List ℕ) → Spelled ground (fields ground memory p) k g → Spelled ground (fields ground after p) k g = λ k g. spelled_kept (λ f live na nu. put.beside f na) in
+      let now : End = record end { written = λ w. if w == section_of ground p + word_place ground.sizes ring.AvailableIndex then index_word (job.number + 1) else end.written w; accepted = end.accepted ++ frame ∷ [] } in
+      let x = tell_holds ground after p now job.number run (omega arith) in record {
         state = put.state ∙ a.state;
         written = written_kept memory after (section_of ground p) _ _ ground.words end.written stored a.written;
-        holds = run;
-        rests = a.rests;
+        holds = x.0;
+        rests = free now (tell_place (who_of ground p) job.number) a.rests;
         ready = λ two. absurd (run_ready run two);
-        level = a.level;
+        level = λ o. a.level o ∙ ap (λ (c : ℕ × ℕ). end.returned + c.0) (sym x.1);
         sent = λ o. record {
           available = put.here ∙ ap (λ k. k % 65536) (let e : job.number + 1 ≡ length (end.accepted ++ frame ∷ []) = omega arith in e);
           used = put.beside _ (λ e. cc) ∙ s.used;
@@ -150,6 +165,11 @@ module _ (ground : Ground) (is : IsGround ground) (p : ℕ) (p2 : p < 2) (memory
         freed = let f = a.freed in omega arith;
         room = omega arith;
       }
+
+  pub arms : (taken value : ℕ) → Leaves p memory (access_at (who_of ground p) (Arming taken)) after → Alone ground memory p end (Arming taken) → StepsTo ground p after end (Arming taken) value
+  arms taken value stored a = let h = a.holds in
+      let put = puts_lem (Arming taken) stored h in
+      writes ground memory after p end (Arming taken) (AtAvailIndex taken true) field.AvailEvent _ _ _ h.0 a.rests stored put (λ live. live) h refl a
 
   pub gives_id : (number more entry value : ℕ) → Leaves p memory (access_at (who_of ground p) (GivingId number more entry)) after → Alone ground memory p end (GivingId number more entry) → StepsTo ground p after end (GivingId number more entry) value
   gives_id number more entry value stored a = let h = a.holds in let k = number % size_of ground.sizes in

@@ -8,7 +8,7 @@ use Rattle.link_handshake.specs.PhaseTable.{state_of}
 use Rattle.call_grammar.specs.Ends.{End}
 use Rattle.call_grammar.specs.Words.{words_for, frame_word}
 use Rattle.call_grammar.specs.Offers.{Job}
-use Rattle.call_grammar.specs.Places.{Place, Closed, AtState, Clearing, Setting, Refusing, Downed, AtUsedIndex, AtUsedId, Filling, WritingLow, WritingHigh, WritingLength, WritingFlags, WritingEntry, WritingIndex, AtAvailIndex, AtEntry, AtLow, AtHigh, AtLength, AtFlags, AtWord, GivingId, GivingLength, GivingIndex}
+use Rattle.call_grammar.specs.Places.{Place, Closed, AtState, Clearing, Setting, Refusing, Downed, AtUsedIndex, AtUsedId, Filling, WritingLow, WritingHigh, WritingLength, WritingFlags, WritingEntry, WritingIndex, AtEvent, AtAvailIndex, Arming, AtEntry, AtLow, AtHigh, AtLength, AtFlags, AtWord, GivingId, GivingLength, GivingIndex}
 use Rattle.ends_pair.specs.Fields.{Field, AvailIndex, UsedIndex, AvailEntry, AddressLow, AddressHigh, DescLength, DescFlags, SlotWord, part_of}
 use Rattle.ends_pair.specs.Ground.{Ground, section_of, fields, IsOffered}
 
@@ -123,7 +123,9 @@ Holds ground memory p end (WritingEntry job) =
 Holds ground memory p end (WritingIndex job) =
     InRun end × (job.number ≡ length end.accepted) × (job.number < end.freed + limit_of ground.sizes) ×
     Spelled ground (fields ground memory p) job.number job.frame
-Holds ground memory p end (AtAvailIndex taken) = InRun end × IsTaken end taken
+Holds ground memory p end (AtEvent number) = InRun end × (number + 1 ≡ length end.accepted)
+Holds ground memory p end (AtAvailIndex taken last) = InRun end × IsTaken end taken
+Holds ground memory p end (Arming taken) = InRun end × IsTaken end taken
 Holds ground memory p end (AtEntry number more) = InRun end × IsTaken end number × AreFew ground more
 Holds ground memory p end (AtLow number more entry) = InRun end × IsTaken end number × (entry < size_of ground.sizes) × AreFew ground more
 Holds ground memory p end (AtHigh number more entry low) = InRun end × IsTaken end number × (entry < size_of ground.sizes) × AreFew ground more
@@ -140,7 +142,7 @@ Holds ground memory p end (GivingLength number more) = InRun end × IsGivenBack 
 Holds ground memory p end (GivingIndex number more) = InRun end × IsGivenBack end number × AreFew ground more
 Holds ground memory p end place = InRun end
 
--- how many frames are delivered and not yet returned; and how many are accepted whose event the end hasn't heard, of which this version has none
+-- how many frames are delivered and not yet returned; and a second count, which is 0 at each place
 abbrev pub counts : Place → ℕ × ℕ
 counts (GivingId number more entry) = (1, 0)
 counts (GivingLength number more) = (1, 0)

@@ -8,3 +8,4 @@ pub mod Laws
 pub mod Sides
 pub mod Runs
 pub mod Frames
+pub mod Wake

@@ -10,7 +10,7 @@ use Rattle.call_grammar.specs.Ends.{End, fresh, after_reset, end_after}
 use Rattle.call_grammar.specs.Ticks.{Who}
 use Rattle.call_grammar.specs.Calls.{Call}
 use Rattle.call_grammar.specs.Rows.{MovesTo}
-use Rattle.call_grammar.specs.Places.{Place, Closed, Clearing, Setting, AtUsedId, Filling, WritingLow, WritingHigh, WritingLength, WritingFlags, WritingEntry, WritingIndex, AtEntry, AtLow, AtHigh, AtLength, AtFlags, AtWord, GivingId, GivingLength, GivingIndex, RingingPoll, first_place, access_at, next_place, step_at, is_open}
+use Rattle.call_grammar.specs.Places.{Place, Closed, Clearing, Setting, AtUsedId, Filling, WritingLow, WritingHigh, WritingLength, WritingFlags, WritingEntry, WritingIndex, RingingOffer, AtEntry, AtLow, AtHigh, AtLength, AtFlags, AtWord, GivingId, GivingLength, GivingIndex, RingingPoll, first_place, access_at, next_place, step_at, is_open}
 use Rattle.link_machine.specs.LinkMachine.{Side, fresh_side, Told, Gave, Wrote, Marked, WasReset, Row}
 use Rattle.ends_pair.specs.Ground.{Ground, IsGround, who_of}
 use Rattle.ends_pair.specs.Steps.{Meets}
@@ -51,6 +51,7 @@ CallIs end (WritingLength job) side = Unit {0}
 CallIs end (WritingFlags job) side = Unit {0}
 CallIs end (WritingEntry job) side = Unit {0}
 CallIs end (WritingIndex job) side = Unit {0}
+CallIs end RingingOffer side = Unit {0}
 CallIs end (AtEntry number more) side = HasLeft end side (suc more) × (side.read ≡ [])
 CallIs end (AtLow number more entry) side = HasLeft end side (suc more) × ((word : ℕ) × (side.read ≡ word ∷ []))
 CallIs end (AtHigh number more entry low) side = HasLeft end side (suc more) × ((word : ℕ) × (side.read ≡ word ∷ low ∷ []))

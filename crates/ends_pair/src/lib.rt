@@ -7,6 +7,7 @@ ghost use Rattle.ends_pair.specs.Frames.{FramesComeWhole};
 ghost use Rattle.ends_pair.specs.Laws.{AloneIsKept, PairIsKept};
 ghost use Rattle.ends_pair.specs.Runs.{HonestRunsDeliver, RunsKeepWhole};
 ghost use Rattle.ends_pair.specs.Sides.{StepsFollowRows};
+ghost use Rattle.ends_pair.specs.Wake.{AskedDoorbellIsRung};
 ghost use Rattle.ends_pair.specs.Whole.{FramesAreSpelled, HonestEndsAgree, WholeIsKept};
 
 /// An honest end keeps what holds of it alone, whatever the other does; it changes no words but its own, and none of its section in RESET.
@@ -52,4 +53,10 @@ pub fn runs_keep_the_whole()
 /// Wherever two honest ends come, each has delivered in order what the other accepted, each frame once, through all its sessions.
 pub fn honest_runs_deliver()
     ensures { HonestRunsDeliver }
+{}
+
+/// An end that finds nothing while its event stands at the next frame asks for a doorbell there, and of the other's steps none but the one
+/// that comes to that doorbell ends it.
+pub fn asked_doorbell_is_rung()
+    ensures { AskedDoorbellIsRung }
 {}

@@ -1,8 +1,8 @@
 -- The steps of an offer and of a poll.
-use Rattle.std.proofs.Common.{◌≡◌, ℕ, ◌+◌, ◌/◌, ◌<◌, Bool, true, false, List, refl, subst, ap, All, arith}
+use Rattle.std.proofs.Common.{◌≡◌, ◌≢◌, ℕ, ◌+◌, ◌/◌, ◌<◌, Bool, true, false, List, refl, subst, ap, sym, ◌∙◌, All, arith}
 use Rattle.std.specs.Prelude.{if◌then◌else◌}
 use Rattle.std.proofs.lemmas.Grind.{common_steps}
-use Rattle.split_ring.specs.Layout.{size_of, limit_of, used_place, word_place, Entry}
+use Rattle.split_ring.specs.Layout.{has_events, size_of, limit_of, used_place, word_place, Entry}
 use Rattle.call_grammar.specs.Ends.{End, end_after}
 use Rattle.call_grammar.specs.Calls.{Who}
 use Rattle.call_grammar.specs.Places as places
@@ -29,6 +29,7 @@ in_offer (places.WritingLength job) = true
 in_offer (places.WritingFlags job) = true
 in_offer (places.WritingEntry job) = true
 in_offer (places.WritingIndex job) = true
+in_offer (places.AtEvent number) = true
 in_offer places.RingingOffer = true
 in_offer _ = false
 
@@ -39,7 +40,8 @@ is_refusing _ = false
 
 -- the places at which a poll goes on
 abbrev pub in_poll : places.Place → Bool
-in_poll (places.AtAvailIndex taken) = true
+in_poll (places.AtAvailIndex taken last) = true
+in_poll (places.Arming taken) = true
 in_poll (places.AtEntry number more) = true
 in_poll (places.AtLow number more entry) = true
 in_poll (places.AtHigh number more entry low) = true
@@ -58,11 +60,12 @@ pub record IsStep (who : Who) (end : End) (place : places.Place) (value : ℕ) :
   pub mark : (end_after end (places.step_at who place value)).handshake.mark ≡ (if refuses (places.marks_at who place value) then true else end.handshake.mark)
   pub refusing : refuses (places.marks_at who place value) ≡ is_refusing (places.next_place who place value)
 
--- a step of an offer delivers and returns nothing
+-- a step of an offer delivers and returns nothing, and takes no look
 pub record IsOfferStep (who : Who) (end : End) (place : places.Place) (value : ℕ) : Type 0 where
   pub step : IsStep who end place value
   pub delivered : (end_after end (places.step_at who place value)).delivered ≡ end.delivered
   pub returned : (end_after end (places.step_at who place value)).returned ≡ end.returned
+  pub found_none : (end_after end (places.step_at who place value)).found_none ≡ end.found_none
   pub marks : All IsOfOffer (places.marks_at who place value)
 
 pub offer_step : (who : Who) (end : End) (place : places.Place) (value : ℕ) → in_offer place ≡ true → IsOfferStep who end place value
@@ -75,6 +78,7 @@ offer_step who end (places.WritingLength job) value is = grind (arith, common_st
 offer_step who end (places.WritingFlags job) value is = grind (arith, common_steps)
 offer_step who end (places.WritingEntry job) value is = grind (arith, common_steps)
 offer_step who end (places.WritingIndex job) value is = grind (arith, common_steps)
+offer_step who end (places.AtEvent number) value is = grind (arith, common_steps)
 offer_step who end places.RingingOffer value is = grind (arith, common_steps)
 offer_step who end _ value is = absurd (cc)
 
@@ -95,31 +99,42 @@ offer_few who end (places.WritingHigh job) value is quiet few = few
 offer_few who end (places.WritingLength job) value is quiet few = few
 offer_few who end (places.WritingFlags job) value is quiet few = few
 offer_few who end (places.WritingEntry job) value is quiet few = few
+offer_few who end (places.AtEvent number) value is quiet few = grind (arith, common_steps)
 offer_few who end places.RingingOffer value is quiet few = few
 offer_few who end _ value is quiet few = absurd (cc)
 
--- a sender before its doorbell counts the frames in flight
-ringing_at : (p : tx_places.Place) (sender : Sender) (who : Who) (end : End) → tx.IsAt p sender who end places.RingingOffer → tx.Counts sender who end end.freed
-ringing_at tx_place.Ringing sender who end at = at.1
-ringing_at _ sender who end at = absurd (grind (arith, common_steps))
+-- a sender that is to tell the other of its frame counts the frames in flight
+abbrev told : Bool → ℕ → places.Place
+told events number = if events then places.AtEvent number else places.RingingOffer
 
-ringing_few : (sender : Sender) (who : Who) (end : End) → IsSender sender → tx.StandsAt sender who end places.RingingOffer → HasFewInFlight who end
-ringing_few sender who end is stands =
-    let counts = ringing_at sender.place sender who end stands.at in
+telling_at : (p : tx_places.Place) (sender : Sender) (who : Who) (end : End) (events : Bool) (number : ℕ) → tx.IsAt p sender who end (told events number) → tx.Counts sender who end end.freed
+telling_at tx_place.AtEvent sender who end events number at = at.3
+telling_at tx_place.Ringing sender who end events number at = at.1
+telling_at _ sender who end true number at = absurd (grind (arith, common_steps))
+telling_at _ sender who end false number at = absurd (grind (arith, common_steps))
+
+telling_few : (sender : Sender) (who : Who) (end : End) (number : ℕ) → IsSender sender → tx.StandsAt sender who end (places.tell_place who number) → HasFewInFlight who end
+telling_few sender who end number is stands =
+    let counts = telling_at sender.place sender who end (has_events who.sizes) number stands.at in
     let few = is.in_flight in
     let limit = ap limit_of stands.made.sizes in
     omega (arith, counts.in_flight, few, limit)
 
-publishing_next : (who : Who) (place : places.Place) (value : ℕ) → is_publishing place ≡ true → places.next_place who place value ≡ places.RingingOffer
-publishing_next who (places.WritingIndex job) value is = refl
+publishing_next : (who : Who) (place : places.Place) (value : ℕ) → is_publishing place ≡ true → (number : ℕ) × (places.next_place who place value ≡ places.tell_place who number)
+publishing_next who (places.WritingIndex job) value is = (job.number, refl)
 publishing_next who _ value is = absurd (cc)
+
+telling_on : (events : Bool) (number : ℕ) → told events number ≢ places.Refusing
+telling_on true number is = absurd (cc)
+telling_on false number is = absurd (cc)
 
 by_publishing : (who : Who) (end : End) (place : places.Place) (value : ℕ) (b : Bool) → is_publishing place ≡ b → in_offer place ≡ true → HasFewInFlight who end → (next : Sender) → IsSender next →
     tx.StandsAt next who (end_after end (places.step_at who place value)) (places.next_place who place value) → HasFewInFlight who (end_after end (places.step_at who place value))
 by_publishing who end place value false is offers few next sender stands = offer_few who end place value offers is few
 by_publishing who end place value true is offers few next sender stands =
-    ringing_few next who (end_after end (places.step_at who place value)) sender
-    (subst (λ p. tx.StandsAt next who (end_after end (places.step_at who place value)) p) (publishing_next who place value is) stands)
+    let tells = publishing_next who place value is in
+    telling_few next who (end_after end (places.step_at who place value)) tells.0 sender
+    (subst (λ p. tx.StandsAt next who (end_after end (places.step_at who place value)) p) tells.1 stands)
 
 -- no step of an offer leaves more frames in flight than may be
 pub sent_few : (who : Who) (end : End) (place : places.Place) (value : ℕ) (next : Sender) → in_offer place ≡ true → HasFewInFlight who end → IsSender next →
@@ -129,7 +144,7 @@ sent_few who end place value next offers few sender stands = by_publishing who e
 -- and so where a value is refused
 publishing_on : (place : places.Place) (who : Who) (value : ℕ) (b : Bool) → is_publishing place ≡ b → places.next_place who place value ≡ places.Refusing → is_publishing place ≡ false
 publishing_on place who value false is refusing = is
-publishing_on place who value true is refusing = let rings = publishing_next who place value is in absurd (cc)
+publishing_on place who value true is refusing = let tells = publishing_next who place value is in absurd (telling_on (has_events who.sizes) tells.0 (sym tells.1 ∙ refusing))
 
 pub refused_few : (who : Who) (end : End) (place : places.Place) (value : ℕ) → in_offer place ≡ true → HasFewInFlight who end → places.next_place who place value ≡ places.Refusing →
     HasFewInFlight who (end_after end (places.step_at who place value))
@@ -148,7 +163,8 @@ pub record IsPollStep (who : Who) (end : End) (place : places.Place) (value : �
   pub marks : All IsOfPoll (places.marks_at who place value)
 
 pub poll_step : (who : Who) (end : End) (place : places.Place) (value : ℕ) → in_poll place ≡ true → IsPollStep who end place value
-poll_step who end (places.AtAvailIndex taken) value is = grind (arith, common_steps)
+poll_step who end (places.AtAvailIndex taken last) value is = grind (arith, common_steps)
+poll_step who end (places.Arming taken) value is = grind (arith, common_steps, below_used)
 poll_step who end (places.AtEntry number more) value is = grind (arith, common_steps)
 poll_step who end (places.AtLow number more entry) value is = grind (arith, common_steps)
 poll_step who end (places.AtHigh number more entry low) value is = grind (arith, common_steps)

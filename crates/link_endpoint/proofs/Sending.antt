@@ -21,8 +21,8 @@ use Rattle.link_endpoint.proofs.Stepping.{IsNoted, refused_place, refused_mark, 
 
 -- a receiver without an open poll goes on standing for an end whose session goes on
 receiver_stays : (receiver : Receiver) (who : Who) (end other : End) → rx.StandsAt receiver who end places.Closed →
-    other.delivered ≡ end.delivered → other.returned ≡ end.returned → other.handshake.phase ≡ end.handshake.phase → rx.StandsAt receiver who other places.Closed
-receiver_stays receiver who end other stands delivered returned phase = grind (arith, common_steps)
+    other.delivered ≡ end.delivered → other.returned ≡ end.returned → other.found_none ≡ end.found_none → other.handshake.phase ≡ end.handshake.phase → rx.StandsAt receiver who other places.Closed
+receiver_stays receiver who end other stands delivered returned found_none phase = grind (arith, common_steps)
 
 -- what the sender's step says of an end for which the endpoint stands
 record Sent (old : Engine) (value : ℕ) (notes : List Note) (next : Sender) (who : Who) (end : End) (place : places.Place) : Type 0 where
@@ -44,7 +44,7 @@ sent old value notes next who end place offers took stands =
       noted = record { step = step.step; marks = marks };
       frames = offer_notes (offered old) notes (subst (All IsOfOffer) (sym marks) step.marks);
       sender = took.stands who end place a.1;
-      receiver = receiver_stays old.receiver who end _ a.2 step.delivered step.returned step.step.phase;
+      receiver = receiver_stays old.receiver who end _ a.2 step.delivered step.returned step.found_none step.step.phase;
     }
 
 -- a step of an offer delivers nothing

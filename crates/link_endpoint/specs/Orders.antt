@@ -1,8 +1,9 @@
 -- The order that each access needs of the memory. The words of the two states and of the indices carry all the others: what was written before
--- such a word is seen by whom reads it. A state is followed by a full fence, so that no old value of the other's is taken for a new one.
-use Rattle.std.specs.Prelude.{Bool, true, false}
-use Rattle.split_ring.specs.declared.steps.Access.{Access}
-use Rattle.split_ring.specs.declared.steps.Access.TheVariants.{Read}
+-- such a word is seen by whom reads it. A state is followed by a full fence, so that no old value of the other's is taken for a new one; and a full
+-- fence stands between the own event and the look after it, and between the own index and the other's event, so that one of the two sees the other.
+use Rattle.std.specs.Prelude.{true, false}
+use Rattle.split_ring.specs.declared.steps.WordKind.{WordKind}
+use Rattle.split_ring.specs.declared.steps.WordKind.TheVariants.{Plain, IndexRead, IndexWrite, EventRead, EventWrite}
 use Rattle.call_grammar.specs.Places as places
 use Rattle.link_endpoint.specs.declared.order.Order.TheVariants.{Relaxed, Acquire, Release}
 use Rattle.link_endpoint.specs.declared.order.Ordering.{Ordering}
@@ -13,6 +14,12 @@ relaxed = record { order = Relaxed; fence_before = false; fence_after = false }
 abbrev pub acquire : Ordering
 acquire = record { order = Acquire; fence_before = false; fence_after = false }
 
+abbrev pub relaxed_before_a_fence : Ordering
+relaxed_before_a_fence = record { order = Relaxed; fence_before = false; fence_after = true }
+
+abbrev pub relaxed_after_a_fence : Ordering
+relaxed_after_a_fence = record { order = Relaxed; fence_before = true; fence_after = false }
+
 abbrev pub release : Ordering
 release = record { order = Release; fence_before = false; fence_after = false }
 
@@ -20,19 +27,23 @@ abbrev pub release_with_a_fence : Ordering
 release_with_a_fence = record { order = Release; fence_before = false; fence_after = true }
 
 -- the other's state is acquired, the own one released, with a fence after it; an index is acquired where it is read, and released where it is
--- written; all else is relaxed
+-- written; a fence stands after the own event and before the other's; all else is relaxed
 abbrev pub order_at : places.Place → Ordering
 order_at (places.AtState handshake) = acquire
 order_at (places.Setting state) = release_with_a_fence
 order_at places.Refusing = release_with_a_fence
 order_at (places.AtUsedIndex job freed) = acquire
-order_at (places.AtAvailIndex taken) = acquire
+order_at (places.AtAvailIndex taken last) = acquire
 order_at (places.WritingIndex job) = release
 order_at (places.GivingIndex number more) = release
+order_at (places.AtEvent number) = relaxed_after_a_fence
+order_at (places.Arming taken) = relaxed_before_a_fence
 order_at _ = relaxed
 
--- the order of an access of an offer or a poll, by whether it is that of an index word
-abbrev pub step_order : Bool → Access → Ordering
-step_order true (Read word) = acquire
-step_order true _ = release
-step_order false _ = relaxed
+-- the order of an access of an offer or a poll, by what its word is
+abbrev pub order_of : WordKind → Ordering
+order_of Plain = relaxed
+order_of IndexRead = acquire
+order_of IndexWrite = release
+order_of EventRead = relaxed_after_a_fence
+order_of EventWrite = relaxed_before_a_fence

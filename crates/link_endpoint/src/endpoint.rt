@@ -13,7 +13,7 @@ ghost use Rattle.link_endpoint.specs.Engine.{who_of, fresh_engine, engine_after_
 ghost use Rattle.link_endpoint.specs.Stands.{StandsAt, Takes, Opens};
 ghost use Rattle.link_endpoint.specs.Leaving.{Refuses, Leaves, KeepsRefused, Stays, KeepsAway};
 ghost use Rattle.link_endpoint.specs.Stretches.{IsTaken};
-ghost use Rattle.link_endpoint.specs.Orders.{order_at, step_order};
+ghost use Rattle.link_endpoint.specs.Orders.{order_at, order_of};
 ghost use Rattle.link_endpoint.specs.Runs.{EndpointsMakeCalls};
 
 use crate::order::{Order, Ordering};
@@ -22,7 +22,7 @@ use ivs_base::NoMemory;
 use link_handshake::{Handshake, Move, Phase, phase_of};
 use rx_engine::Rx;
 use section_map::Geometry;
-use split_ring::steps::{Access, Note, Notes, leaving, left, noted};
+use split_ring::steps::{Access, Note, Notes, WordKind, leaving, left, noted};
 use split_ring::{Queue, Refused};
 use std::alloc::Global;
 use std::marker::Model;
@@ -123,9 +123,10 @@ impl Endpoint {
         self.tx.longest()
     }
 
-    /// The frame of the open offer.
+    /// The frame of the open offer, or of the last one since the session opened; or none.
     pub fn offered(&self) -> &[u8]
-        ensures { result.now ≡ offered self.now }
+        ensures value { result.now ≡ offered self.now }
+        ensures most { length result.now ≤ self.now.who.sizes.mtu + 18 }
     {
         self.tx.frame()
     }
@@ -159,6 +160,13 @@ impl Endpoint {
         }
     }
 
+    /// Is the end in RUN, where offers and polls work?
+    fn in_run(&self) -> bool
+        ensures { result ≡ in_run self.now.phase }
+    {
+        matches!(self.handshake.phase(), Phase::Run)
+    }
+
     /// Opens an offer of this frame, which is copied.
     ///
     /// In each phase no more frames are in flight than may be, and so the offer has no more steps than its bound.
@@ -173,8 +181,28 @@ impl Endpoint {
         ensures frame { self.old.phase ≡ Run → offered self.new ≡ frame.now }
         ensures kept { Opens self.old self.new }
     {
-        if self.handshake.phase() == Phase::Run {
+        if self.in_run() {
             self.tx.begin(frame);
+            self.place = Place::Offering;
+        } else {
+            self.place = Place::Downed;
+        }
+    }
+
+    /// Opens an offer of the frame of the last one again, which isn't copied: where that one found the link full, say.
+    pub fn offer_again(&mut self)
+        requires closed { is_busy self.old ≡ false }
+        requires some { 14 ≤ length (offered self.old) }
+        ensures stands { (who : Who) (end : End) → StandsAt self.old who end places.Closed →
+            StandsAt self.new who end (places.first_place who end (Offer (offered self.old))) }
+        ensures few { (who : Who) (end : End) (place : places.Place) → StandsAt self.old who end place → HasFewInFlight who end }
+        ensures open { is_busy self.new ≡ true }
+        ensures down { is_down self.new ≡ not (in_run self.old.phase) }
+        ensures frame { offered self.new ≡ offered self.old }
+        ensures kept { Opens self.old self.new }
+    {
+        if self.in_run() {
+            self.tx.begin_again();
             self.place = Place::Offering;
         } else {
             self.place = Place::Downed;
@@ -237,8 +265,8 @@ impl Endpoint {
                 fence_before: false,
                 fence_after: true,
             },
-            Place::Offering => step_order(self.tx.at_index(), self.tx.next()),
-            Place::Polling => step_order(self.rx.at_index(), self.rx.next()),
+            Place::Offering => order_of(self.tx.word_kind()),
+            Place::Polling => order_of(self.rx.word_kind()),
             _ => plain(Order::Relaxed),
         }
     }
@@ -487,15 +515,25 @@ fn plain(order: Order) -> Ordering
     }
 }
 
-/// The order of this access of an offer or a poll, which may be that of an index word.
-fn step_order(at_index: bool, access: Access) -> Ordering
-    ensures { result ≡ step_order at_index access }
+/// The order of an access of an offer or a poll, by what its word is.
+fn order_of(kind: WordKind) -> Ordering
+    ensures { result ≡ order_of kind }
 {
-    plain(match access {
-        _ if !at_index => Order::Relaxed,
-        Access::Read(_) => Order::Acquire,
-        _ => Order::Release,
-    })
+    match kind {
+        WordKind::Plain => plain(Order::Relaxed),
+        WordKind::IndexRead => plain(Order::Acquire),
+        WordKind::IndexWrite => plain(Order::Release),
+        WordKind::EventRead => Ordering {
+            order: Order::Relaxed,
+            fence_before: true,
+            fence_after: false,
+        },
+        WordKind::EventWrite => Ordering {
+            order: Order::Relaxed,
+            fence_before: false,
+            fence_after: true,
+        },
+    }
 }
 
 /// What the last Refuse of these notes refused.

@@ -240,6 +240,100 @@ fn order_of(order: Order, fence_after: bool) -> Ordering {
     }
 }
 
+/// The same end in a link with events.
+fn with_events(rt: &impl Abort, alloc: Global, me: u32) -> Result<Endpoint, Fail>
+    requires { me ≤ 1 }
+    ensures { IfOk result (λ e. is_busy e ≡ false) }
+{
+    let geometry = Geometry::new(2, 4_096, 0, 16_384)?;
+    let queue = Queue::of_version(2, 16_384, 256)?;
+    assert!(rt; queue.out() == 4 * geometry.out_words());
+    Ok(Endpoint::new(alloc, me, &geometry, &queue, 1)?)
+}
+
+/// No order, with or without a fence before and after the access.
+fn fenced(fence_before: bool, fence_after: bool) -> Ordering {
+    Ordering {
+        order: Order::Relaxed,
+        fence_before,
+        fence_after,
+    }
+}
+
+#[test]
+fn an_asked_doorbell(rt: HostRuntime) -> Result<(), Fail> {
+    let mut words = vec![in rt.alloc(); 0; WORDS]?;
+    let mut first = with_events(&rt, rt.alloc(), 0)?;
+    let mut second = with_events(&rt, rt.alloc(), 1)?;
+    let words = words.as_mut_slice();
+    tick(&rt, words, &mut first, 0, 0, None, 1);
+    tick(&rt, words, &mut second, 1, 1, None, 1);
+    tick(&rt, words, &mut first, 0, 1, Some(1_024), 2);
+    tick(&rt, words, &mut second, 1, 2, Some(5_120), 2);
+    tick(&rt, words, &mut first, 0, 2, None, 3);
+    tick(&rt, words, &mut second, 1, 3, None, 3);
+    let index = Access::Read(1_280);
+    let quiet = [Note::Look(0), Note::Done];
+
+    // The poll finds nothing, writes its event, and looks again.
+    assert!(rt; !second.busy());
+    second.begin(Call::Poll);
+    let none = [Note::Look(0)];
+    step(&rt, words, &mut second, 1, index, 0, &none);
+    assert!(rt; second.busy());
+    assert_eq!(rt; second.order(), fenced(false, true));
+    step(&rt, words, &mut second, 1, Access::Write(5_553, 0), 0, &[]);
+    step(&rt, words, &mut second, 1, index, 0, &quiet);
+    // The next one finds the event written.
+    assert!(rt; !second.busy());
+    second.begin(Call::Poll);
+    step(&rt, words, &mut second, 1, index, 0, &quiet);
+
+    // The first frame is asked for, and the second one isn't.
+    assert!(rt; !first.busy());
+    first.offer(&FRAME);
+    let found = [Note::Reclaim(0)];
+    step(&rt, words, &mut first, 0, Access::Read(5_424), 0, &found);
+    assert!(rt; first.writes_ahead() == 4);
+    first.took_written(4);
+    assert!(rt; first.writes_ahead() == 4);
+    first.took_written(4);
+    step(&rt, words, &mut first, 0, Access::Write(1_281, 0), 0, &[]);
+    let published = Access::Write(1_280, 65_536);
+    step(&rt, words, &mut first, 0, published, 0, &[Note::Accept]);
+    assert!(rt; first.busy());
+    assert_eq!(rt; first.order(), fenced(true, false));
+    step(&rt, words, &mut first, 0, Access::Read(5_553), 0, &[]);
+    let ring = Access::Ring {
+        target: 1,
+        vector: 1,
+    };
+    step(&rt, words, &mut first, 0, ring, 0, &[Note::Over]);
+    assert!(rt; !first.busy());
+    assert!(rt; first.offered() == FRAME.as_slice());
+    first.offer_again();
+    step(&rt, words, &mut first, 0, Access::Read(5_424), 0, &found);
+    assert!(rt; first.writes_ahead() == 4);
+    first.took_written(4);
+    assert!(rt; first.writes_ahead() == 4);
+    first.took_written(4);
+    let entry = Access::Write(1_281, 65_536);
+    step(&rt, words, &mut first, 0, entry, 0, &[]);
+    let published = Access::Write(1_280, 131_072);
+    step(&rt, words, &mut first, 0, published, 0, &[Note::Accept]);
+    step(
+        &rt,
+        words,
+        &mut first,
+        0,
+        Access::Read(5_553),
+        0,
+        &[Note::Over],
+    );
+    assert!(rt; !first.busy());
+    Ok(())
+}
+
 #[test]
 fn one_frame_at_once(rt: HostRuntime) -> Result<(), Fail> {
     let mut words = vec![in rt.alloc(); 0; WORDS]?;

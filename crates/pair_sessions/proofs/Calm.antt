@@ -6,7 +6,7 @@ use Rattle.std.specs.Prelude.{◌==◌, nat_le, if◌then◌else◌, Option}
 use Rattle.std.specs.List.{AllByRecursion}
 use Rattle.split_ring.specs.declared.steps.Access.{Access}
 use Rattle.split_ring.specs.declared.steps.Access.TheVariants as access
-use Rattle.split_ring.specs.Layout.{Sizes, size_of, limit_of}
+use Rattle.split_ring.specs.Layout.{Sizes, has_events, size_of, limit_of}
 use Rattle.split_ring.specs.Spelling.{low_half, entry_half}
 use Rattle.link_handshake.specs.declared.Phase.{Phase}
 use Rattle.link_handshake.specs.declared.Phase.TheVariants.{Reset, Init, Ready, Run}
@@ -19,9 +19,9 @@ use Rattle.call_grammar.specs.Words.{words_for, address_of}
 use Rattle.call_grammar.specs.Rows.{MovesTo}
 use Rattle.call_grammar.specs.Calls.{Call, Tick, Stop, Offer, Poll, in_run, job_of}
 use Rattle.call_grammar.specs.Ticks.{Who}
-use Rattle.call_grammar.specs.Offers.{Job, descriptor_of, returned_by}
-use Rattle.call_grammar.specs.Polls.{is_entry, is_address, is_length, published_by}
-use Rattle.call_grammar.specs.Places.{Place, Closed, AtState, Clearing, Setting, Refusing, Downed, AtUsedIndex, AtUsedId, Filling, WritingLow, WritingHigh, WritingLength, WritingFlags, WritingEntry, WritingIndex, RingingOffer, AtAvailIndex, AtEntry, AtLow, AtHigh, AtLength, AtFlags, AtWord, GivingId, GivingLength, GivingIndex, RingingPoll, clear_place, tick_place, fill_place, ids_place, items_place, words_place, first_place, access_at, next_place, step_at}
+use Rattle.call_grammar.specs.Offers.{Job, descriptor_of, asks_for, returned_by}
+use Rattle.call_grammar.specs.Polls.{is_entry, is_address, is_length, is_last, published_by}
+use Rattle.call_grammar.specs.Places.{Place, Closed, AtState, Clearing, Setting, Refusing, Downed, AtUsedIndex, AtUsedId, Filling, WritingLow, WritingHigh, WritingLength, WritingFlags, WritingEntry, WritingIndex, AtEvent, RingingOffer, AtAvailIndex, Arming, AtEntry, AtLow, AtHigh, AtLength, AtFlags, AtWord, GivingId, GivingLength, GivingIndex, RingingPoll, clear_place, tick_place, fill_place, ids_place, none_place, items_place, words_place, first_place, access_at, next_place, step_at}
 use Rattle.link_machine.specs.LinkMachine.{Side, fresh_side, Told, Gave, Wrote, Marked, WasReset, MarkRow, Row, Log, no_sessions, log_after, MachineRuns}
 use Rattle.link_machine.specs.LinkMachine as machine
 use Rattle.link_machine.proofs.MachineLaws.{SawSome, Half, Kind, falls_to, inits, opens, runs, sees, accepts, delivers, counts, kind_of, half_of}
@@ -218,6 +218,9 @@ ids_up : (who : Who) (job : Job) (freed count : ℕ) → ¬ IsDown (ids_place wh
 ids_up who job freed zero = test_up (job.number == freed + limit_of who.sizes) Closed (fill_place job 0 (words_for (length job.frame))) (λ d. d) (fill_up job 0 (words_for (length job.frame)))
 ids_up who job freed (suc more) = λ d. d
 
+none_up : (taken : ℕ) (last : Bool) → ¬ IsDown (none_place taken last)
+none_up taken last = test_up last Closed (Arming taken) (λ d. d) (λ d. d)
+
 items_up : (number count : ℕ) → ¬ IsDown (items_place number count)
 items_up number zero down = down
 items_up number (suc more) down = down
@@ -242,10 +245,12 @@ next_up ground p memory end (WritingHigh job) value h tick = λ d. d
 next_up ground p memory end (WritingLength job) value h tick = λ d. d
 next_up ground p memory end (WritingFlags job) value h tick = λ d. d
 next_up ground p memory end (WritingEntry job) value h tick = λ d. d
-next_up ground p memory end (WritingIndex job) value h tick = λ d. d
+next_up ground p memory end (WritingIndex job) value h tick = test_up (has_events ground.sizes) (AtEvent job.number) RingingOffer (λ d. d) (λ d. d)
+next_up ground p memory end (AtEvent number) value h tick = test_up (asks_for (low_half value) number) RingingOffer Closed (λ d. d) (λ d. d)
 next_up ground p memory end RingingOffer value h tick = λ d. d
-next_up ground p memory end (AtAvailIndex taken) value h tick = test_up (nat_le (published_by taken value) (size_of ground.sizes)) (if published_by taken value == 0 then Closed else items_place taken (published_by taken value)) Refusing
-    (test_up (published_by taken value == 0) Closed (items_place taken (published_by taken value)) (λ d. d) (items_up taken (published_by taken value))) (λ d. d)
+next_up ground p memory end (AtAvailIndex taken last) value h tick = test_up (nat_le (published_by taken value) (size_of ground.sizes)) (if published_by taken value == 0 then none_place taken last else items_place taken (published_by taken value)) Refusing
+    (test_up (published_by taken value == 0) (none_place taken last) (items_place taken (published_by taken value)) (none_up taken last) (items_up taken (published_by taken value))) (λ d. d)
+next_up ground p memory end (Arming taken) value h tick = λ d. d
 next_up ground p memory end (AtEntry number more) value h tick = let e = entry_half (number % size_of ground.sizes) value in test_up (is_entry ground.sizes e) (AtLow number more e) Refusing (λ d. d) (λ d. d)
 next_up ground p memory end (AtLow number more entry) value h tick = λ d. d
 next_up ground p memory end (AtHigh number more entry low) value h tick = test_up (is_address ground.sizes (address_of low value)) (AtLength number more entry (address_of low value)) Refusing (λ d. d) (λ d. d)
@@ -280,7 +285,7 @@ first_up : (who : Who) (end : End) (call : Call) → call ≢ Stop → ¬ IsDown
 first_up who end Tick ne = λ d. d
 first_up who end Stop ne = absurd (ne refl)
 first_up who end (Offer frame) ne = test_up (in_run end.handshake.phase) (AtUsedIndex (job_of who end frame) end.freed) Downed (λ d. d) (λ d. d)
-first_up who end Poll ne = test_up (in_run end.handshake.phase) (AtAvailIndex (length end.delivered)) Downed (λ d. d) (λ d. d)
+first_up who end Poll ne = test_up (in_run end.handshake.phase) (AtAvailIndex (length end.delivered) (is_last who end.found_none)) Downed (λ d. d) (λ d. d)
 
 -- Runs
 

@@ -9,7 +9,7 @@ use Rattle.link_handshake.specs.declared.Phase.{Phase}
 use Rattle.link_handshake.specs.PhaseTable.{phase_at, state_of}
 use Rattle.call_grammar.specs.Ends.{End, after_reset, end_after}
 use Rattle.call_grammar.specs.Ticks.{Who}
-use Rattle.call_grammar.specs.Places.{Place, Closed, AtState, Clearing, Setting, Refusing, Downed, AtUsedIndex, AtUsedId, Filling, WritingLow, WritingHigh, WritingLength, WritingFlags, WritingEntry, WritingIndex, RingingOffer, AtAvailIndex, AtEntry, AtLow, AtHigh, AtLength, AtFlags, AtWord, GivingId, GivingLength, GivingIndex, RingingPoll, access_at, step_at}
+use Rattle.call_grammar.specs.Places.{Place, Closed, AtState, Clearing, Setting, Refusing, Downed, AtUsedIndex, AtUsedId, Filling, WritingLow, WritingHigh, WritingLength, WritingFlags, WritingEntry, WritingIndex, AtEvent, RingingOffer, AtAvailIndex, Arming, AtEntry, AtLow, AtHigh, AtLength, AtFlags, AtWord, GivingId, GivingLength, GivingIndex, RingingPoll, access_at, step_at}
 use Rattle.call_grammar.proofs.OfferLists.{yes, no}
 use Rattle.call_grammar.proofs.Phases.{phases}
 use Rattle.ends_pair.specs.Ground.{Ground}
@@ -38,8 +38,10 @@ state_at who (WritingLength job) state e = absurd (cc)
 state_at who (WritingFlags job) state e = absurd (cc)
 state_at who (WritingEntry job) state e = absurd (cc)
 state_at who (WritingIndex job) state e = absurd (cc)
+state_at who (AtEvent number) state e = absurd (cc)
 state_at who RingingOffer state e = absurd (cc)
-state_at who (AtAvailIndex taken) state e = absurd (cc)
+state_at who (AtAvailIndex taken last) state e = absurd (cc)
+state_at who (Arming taken) state e = absurd (cc)
 state_at who (AtEntry number more) state e = absurd (cc)
 state_at who (AtLow number more entry) state e = absurd (cc)
 state_at who (AtHigh number more entry low) state e = absurd (cc)

@@ -9,7 +9,7 @@ use Rattle.call_grammar.specs.Trees.{CallTree, GoesAlong}
 use Rattle.call_grammar.specs.Calls.{Tick, Stop, Offer, Poll, tree_of, IsCall}
 use Rattle.call_grammar.proofs.Cuts.{cuts}
 use Rattle.call_grammar.proofs.Lists.{lists}
-use Rattle.plain_calls.specs.WorkedCalls.{peer_0, peer_1, small_peer_0, end_at, end_full, frame, r, w, s, to_init, to_ready, to_run, offer_begun, offer_ended, item_read, item_returned, full_offer, offer_46, index_refused, entry_refused, address_refused, length_refused, flags_refused, id_refused, used_refused, RowsAreCalls}
+use Rattle.plain_calls.specs.WorkedCalls.{peer_0, peer_1, small_peer_0, end_at, end_full, frame, r, w, s, to_init, to_ready, to_run, offer_begun, offer_ended, item_read, item_returned, full_offer, offer_46, index_refused, entry_refused, address_refused, length_refused, flags_refused, id_refused, used_refused, event_peer_0, event_peer_1, event_heard, next_published, later_heard, end_taken, armed_poll, end_armed, found_between, second_refused, RowsAreCalls}
 use Rattle.call_grammar.proofs.Playing.{playing}
 
 shortest_handshake_init_is : IsCall peer_0 (end_at Reset []) Tick to_init
@@ -116,6 +116,42 @@ stop_is_down_is : IsCall peer_1 (end_at Reset []) Poll (step_of Nothing 0 (Down 
 unfolding queue_size limit_of
 stop_is_down_is = playing.call peer_1 (end_at Reset []) Poll (step_of Nothing 0 (Down ∷ []) ∷ []) (refl, refl, refl)
 
+event_asked_is : IsCall event_peer_0 (end_at Run []) (Offer frame) (event_heard 0)
+unfolding queue_size limit_of
+event_asked_is = playing.call event_peer_0 (end_at Run []) (Offer frame) (event_heard 0) (refl, refl, (refl, refl, (refl, refl, (refl, refl, (refl, refl, (refl, refl, (refl, refl, (refl, refl, (refl, refl, (refl, refl, (refl, refl, (refl, refl, (refl, refl, refl)))))))))))))
+
+event_asked_beside_is : IsCall event_peer_0 (end_at Run []) (Offer frame) (event_heard 4294901760)
+unfolding queue_size limit_of
+event_asked_beside_is = playing.call event_peer_0 (end_at Run []) (Offer frame) (event_heard 4294901760) (refl, refl, (refl, refl, (refl, refl, (refl, refl, (refl, refl, (refl, refl, (refl, refl, (refl, refl, (refl, refl, (refl, refl, (refl, refl, (refl, refl, (refl, refl, refl)))))))))))))
+
+event_passed_is : IsCall event_peer_0 (end_at Run (frame ∷ [])) (Offer frame) (next_published ++ (r 5553 0 (Over ∷ []) ∷ []))
+unfolding queue_size limit_of
+event_passed_is = playing.call event_peer_0 (end_at Run (frame ∷ [])) (Offer frame) (next_published ++ (r 5553 0 (Over ∷ []) ∷ [])) (refl, refl, (refl, refl, (refl, refl, (refl, refl, (refl, refl, (refl, refl, (refl, refl, (refl, refl, (refl, refl, (refl, refl, (refl, refl, (refl, refl, refl))))))))))))
+
+event_asked_later_is : IsCall event_peer_0 (end_at Run (frame ∷ frame ∷ [])) (Offer frame) later_heard
+unfolding queue_size limit_of
+event_asked_later_is = playing.call event_peer_0 (end_at Run (frame ∷ frame ∷ [])) (Offer frame) later_heard (refl, refl, (refl, refl, (refl, refl, (refl, refl, (refl, refl, (refl, refl, (refl, refl, (refl, refl, (refl, refl, (refl, refl, (refl, refl, (refl, refl, (refl, refl, (refl, refl, (refl, refl, refl)))))))))))))))
+
+nothing_published_armed_is : IsCall event_peer_1 end_taken Poll (armed_poll 2)
+unfolding queue_size limit_of
+nothing_published_armed_is = playing.call event_peer_1 end_taken Poll (armed_poll 2) (refl, refl, (refl, refl, (refl, refl, refl)))
+
+offer_between_the_looks_is : IsCall event_peer_1 (end_at Run []) Poll found_between
+unfolding queue_size limit_of
+offer_between_the_looks_is = playing.call event_peer_1 (end_at Run []) Poll found_between (refl, refl, (refl, refl, (refl, refl, (refl, refl, (refl, refl, (refl, refl, (refl, refl, (refl, refl, (refl, refl, (refl, refl, (refl, refl, (refl, refl, (refl, refl, (refl, refl, (refl, refl, (refl, refl, refl))))))))))))))))
+
+offer_between_the_looks_refused_is : IsCall event_peer_1 (end_at Run []) Poll second_refused
+unfolding queue_size limit_of
+offer_between_the_looks_refused_is = playing.call event_peer_1 (end_at Run []) Poll second_refused (refl, refl, (refl, refl, (refl, refl, (refl, refl, refl))))
+
+armed_poll_stays_quiet_is : IsCall event_peer_1 end_armed Poll (r 1280 0 (Look 0 ∷ Done ∷ []) ∷ [])
+unfolding queue_size limit_of
+armed_poll_stays_quiet_is = playing.call event_peer_1 end_armed Poll (r 1280 0 (Look 0 ∷ Done ∷ []) ∷ []) (refl, refl, refl)
+
+armed_poll_takes_is : IsCall event_peer_1 end_armed Poll (item_read ++ item_returned)
+unfolding queue_size limit_of
+armed_poll_takes_is = playing.call event_peer_1 end_armed Poll (item_read ++ item_returned) (refl, refl, (refl, refl, (refl, refl, (refl, refl, (refl, refl, (refl, refl, (refl, refl, (refl, refl, (refl, refl, (refl, refl, (refl, refl, (refl, refl, (refl, refl, (refl, refl, refl))))))))))))))
+
 begun_lem : (left : CallTree) × GoesAlong (tree_of peer_0 (end_at Run []) (Offer frame)) offer_begun left
 begun_lem = let cut = cuts.splits (tree_of peer_0 (end_at Run []) (Offer frame)) offer_begun offer_ended (lists.made peer_0 (end_at Run []) (Offer frame) (offer_begun ++ offer_ended) one_frame_offered_is) in (cut.0, cut.1)
 
@@ -148,4 +184,13 @@ accepted = record {
   reset_in_mid_offer_follows = reset_in_mid_offer_follows_is;
   stop = stop_is;
   stop_is_down = stop_is_down_is;
+  event_asked = event_asked_is;
+  event_asked_beside = event_asked_beside_is;
+  event_passed = event_passed_is;
+  event_asked_later = event_asked_later_is;
+  nothing_published_armed = nothing_published_armed_is;
+  offer_between_the_looks = offer_between_the_looks_is;
+  offer_between_the_looks_refused = offer_between_the_looks_refused_is;
+  armed_poll_stays_quiet = armed_poll_stays_quiet_is;
+  armed_poll_takes = armed_poll_takes_is;
 }

@@ -8,7 +8,7 @@ use Rattle.split_ring.specs.declared.steps.Access.{Access}
 use Rattle.split_ring.specs.Layout.{queue_size, limit_of}
 use Rattle.call_grammar.specs.Steps.{Mark, Saw, Reclaim, Full, Accept, Look, Deliver, Return, Done, Down, Refuse, Over, Step}
 use Rattle.call_grammar.specs.Calls.{Tick, Stop, Offer, Poll, IsCall}
-use Rattle.plain_calls.specs.WorkedCalls.{peer_0, peer_1, small_peer_0, end_at, end_full, frame, r, s, refuse, offer_begun, offer_ended, item_read, item_returned, full_offer, offer_46, address_refused, length_refused, clear_short, byte_changed, never_accepted, other_entry, published_early, length_read_twice, word_changed, wrong_used_length, index_passed, id_passed, ChangedRowsAreNone}
+use Rattle.plain_calls.specs.WorkedCalls.{peer_0, peer_1, small_peer_0, end_at, end_full, frame, r, s, refuse, offer_begun, offer_ended, item_read, item_returned, full_offer, offer_46, address_refused, length_refused, clear_short, byte_changed, never_accepted, other_entry, published_early, length_read_twice, word_changed, wrong_used_length, index_passed, id_passed, event_peer_0, event_peer_1, event_heard, end_taken, armed_poll, end_armed, event_unheeded, rings_at_every_frame, event_after_the_look, armed_anew, ChangedRowsAreNone}
 use Rattle.call_grammar.proofs.Playing.{playing}
 
 -- numbers that tell accesses and marks apart
@@ -128,6 +128,42 @@ stop_not : ¬ IsCall peer_0 (end_at Run []) Stop (s 1 (Over ∷ []) ∷ [])
 unfolding queue_size limit_of
 stop_not is = let p = playing.played peer_0 (end_at Run []) Stop (s 1 (Over ∷ []) ∷ []) is in let e = ap (λ (x : Step). access_code x.access) (p.1) in omega arith
 
+event_asked_not : ¬ IsCall event_peer_0 (end_at Run []) (Offer frame) event_unheeded
+unfolding queue_size limit_of
+event_asked_not is = let p = playing.played event_peer_0 (end_at Run []) (Offer frame) event_unheeded is in let e = ap (λ (x : Step). marks_code x.marks) (p.2.2.2.2.2.2.2.2.2.2.2.1) in omega arith
+
+event_asked_unheard_not : ¬ IsCall event_peer_0 (end_at Run []) (Offer frame) (offer_begun ++ offer_ended)
+unfolding queue_size limit_of
+event_asked_unheard_not is = let p = playing.played event_peer_0 (end_at Run []) (Offer frame) (offer_begun ++ offer_ended) is in let e = ap (λ (x : Step). access_code x.access) (p.2.2.2.2.2.2.2.2.2.2.2.1) in omega arith
+
+event_asked_without_events_not : ¬ IsCall peer_0 (end_at Run []) (Offer frame) (event_heard 0)
+unfolding queue_size limit_of
+event_asked_without_events_not is = let p = playing.played peer_0 (end_at Run []) (Offer frame) (event_heard 0) is in let e = ap (λ (x : Step). access_code x.access) (p.2.2.2.2.2.2.2.2.2.2.2.1) in omega arith
+
+event_passed_not : ¬ IsCall event_peer_0 (end_at Run (frame ∷ [])) (Offer frame) rings_at_every_frame
+unfolding queue_size limit_of
+event_passed_not is = let p = playing.played event_peer_0 (end_at Run (frame ∷ [])) (Offer frame) rings_at_every_frame is in let e = ap (λ (x : Step). marks_code x.marks) (p.2.2.2.2.2.2.2.2.2.2.2.1) in omega arith
+
+nothing_published_armed_not : ¬ IsCall event_peer_1 end_taken Poll (armed_poll 1)
+unfolding queue_size limit_of
+nothing_published_armed_not is = let p = playing.played event_peer_1 end_taken Poll (armed_poll 1) is in let e = ap (λ (x : Step). access_code x.access) (p.2.1) in omega arith
+
+nothing_published_armed_late_not : ¬ IsCall event_peer_1 end_taken Poll event_after_the_look
+unfolding queue_size limit_of
+nothing_published_armed_late_not is = let p = playing.played event_peer_1 end_taken Poll event_after_the_look is in let e = ap (λ (x : Step). access_code x.access) (p.2.1) in omega arith
+
+nothing_published_without_events_not : ¬ IsCall peer_1 end_taken Poll (armed_poll 2)
+unfolding queue_size limit_of
+nothing_published_without_events_not is = let p = playing.played peer_1 end_taken Poll (armed_poll 2) is in let e = ap (λ (x : Step). marks_code x.marks) (p.1) in omega arith
+
+armed_poll_stays_quiet_not : ¬ IsCall event_peer_1 end_armed Poll armed_anew
+unfolding queue_size limit_of
+armed_poll_stays_quiet_not is = let p = playing.played event_peer_1 end_armed Poll armed_anew is in let e = ap (λ (x : Step). marks_code x.marks) (p.1) in omega arith
+
+unarmed_poll_stays_quiet_not : ¬ IsCall event_peer_1 (end_at Run []) Poll (r 1280 0 (Look 0 ∷ Done ∷ []) ∷ [])
+unfolding queue_size limit_of
+unarmed_poll_stays_quiet_not is = let p = playing.played event_peer_1 (end_at Run []) Poll (r 1280 0 (Look 0 ∷ Done ∷ []) ∷ []) is in let e = ap (λ (x : Step). marks_code x.marks) (p.1) in omega arith
+
 pub refused : ChangedRowsAreNone
 refused = record {
   shortest_handshake_init = shortest_handshake_init_not;
@@ -153,4 +189,13 @@ refused = record {
   hostile_returns_index = hostile_returns_index_not;
   reset_in_mid_offer = reset_in_mid_offer_not;
   stop = stop_not;
+  event_asked = event_asked_not;
+  event_asked_unheard = event_asked_unheard_not;
+  event_asked_without_events = event_asked_without_events_not;
+  event_passed = event_passed_not;
+  nothing_published_armed = nothing_published_armed_not;
+  nothing_published_armed_late = nothing_published_armed_late_not;
+  nothing_published_without_events = nothing_published_without_events_not;
+  armed_poll_stays_quiet = armed_poll_stays_quiet_not;
+  unarmed_poll_stays_quiet = unarmed_poll_stays_quiet_not;
 }

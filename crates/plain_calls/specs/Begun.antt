@@ -9,9 +9,10 @@ use Rattle.plain_calls.specs.declared.ends.Call.TheVariants.{Offer}
 use Rattle.plain_calls.specs.Seen.{who_seen, stored}
 use Rattle.split_ring.specs.Layout.{word_place, Entry}
 use Rattle.call_grammar.specs.Offers.{entry_of}
+use Rattle.call_grammar.specs.Polls.{is_last}
 use Rattle.plain_calls.specs.declared.places.Begun.{Begun}
 use Rattle.plain_calls.specs.declared.places.Place.{Place}
-use Rattle.plain_calls.specs.declared.places.Place.TheVariants.{Closed, AtState, Clearing, Setting, Refusing, Downed, AtUsedIndex, AtUsedId, Filling, WritingLow, WritingHigh, WritingLength, WritingFlags, WritingEntry, WritingIndex, RingingOffer, AtAvailIndex, AtEntry, AtLow, AtHigh, AtLength, AtFlags, AtWord, GivingId, GivingLength, GivingIndex, RingingPoll}
+use Rattle.plain_calls.specs.declared.places.Place.TheVariants.{Closed, AtState, Clearing, Setting, Refusing, Downed, AtUsedIndex, AtUsedId, Filling, WritingLow, WritingHigh, WritingLength, WritingFlags, WritingEntry, WritingIndex, AtEvent, RingingOffer, AtAvailIndex, Arming, AtEntry, AtLow, AtHigh, AtLength, AtFlags, AtWord, GivingId, GivingLength, GivingIndex, RingingPoll}
 
 -- what the call is to publish, where it is an offer
 abbrev pub job_of : Begun → Job
@@ -33,8 +34,10 @@ place_seen begun WritingLength = laws.WritingLength (job_of begun)
 place_seen begun WritingFlags = laws.WritingFlags (job_of begun)
 place_seen begun WritingEntry = laws.WritingEntry (job_of begun)
 place_seen begun WritingIndex = laws.WritingIndex (job_of begun)
+place_seen begun AtEvent = laws.AtEvent begun.number
 place_seen begun RingingOffer = laws.RingingOffer
-place_seen begun AtAvailIndex = laws.AtAvailIndex begun.taken
+place_seen begun (AtAvailIndex last) = laws.AtAvailIndex begun.taken last
+place_seen begun Arming = laws.Arming begun.taken
 place_seen begun (AtEntry number more) = laws.AtEntry number more
 place_seen begun (AtLow number more entry) = laws.AtLow number more entry
 place_seen begun (AtHigh number more entry low) = laws.AtHigh number more entry low
@@ -75,3 +78,4 @@ pub record IsBegun (who : Who) (end : End) (call : Call) (begun : Begun) : Type 
   pub beside : begun.beside ≡ stored end.stores.items (who.own + word_place who.queue (Entry (entry_of (who_seen who) end.accepted)))
   pub freed : begun.freed ≡ end.freed
   pub taken : begun.taken ≡ end.delivered
+  pub last : begun.last ≡ is_last (who_seen who) end.found_none

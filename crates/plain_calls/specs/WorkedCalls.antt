@@ -1,5 +1,5 @@
 -- Worked examples of calls, line by line: a link of two peers with sections of 16,384 bytes at words 1,024 and 5,120 and an MTU of 256.
-use Rattle.std.specs.Prelude.{ℕ, if◌then◌else◌, ◌==◌, ◌*◌, ◌+◌, suc, zero, false, List, [], ◌∷◌, ◌++◌, replicate}
+use Rattle.std.specs.Prelude.{ℕ, if◌then◌else◌, ◌==◌, ◌*◌, ◌+◌, suc, zero, true, false, List, [], ◌∷◌, ◌++◌, replicate}
 use Rattle.link_handshake.specs.declared.Phase.{Phase}
 use Rattle.link_handshake.specs.declared.Phase.TheVariants.{Reset, Init, Ready, Run}
 use Rattle.split_ring.specs.declared.ranges.FieldName.{FieldName}
@@ -13,13 +13,20 @@ use Rattle.call_grammar.specs.Calls.{Tick, Stop, Offer, Poll, tree_of, IsCall}
 
 -- peer 0 and peer 1 of the link, and peer 0 of a link whose sections have three words
 abbrev pub peer_0 : Who
-peer_0 = record { me = 0; other = 1; own = 1024; theirs = 5120; words = 4096; sizes = record { out = 16384; mtu = 256 }; vector = 1 }
+peer_0 = record { me = 0; other = 1; own = 1024; theirs = 5120; words = 4096; sizes = record { version = 1; out = 16384; mtu = 256 }; vector = 1 }
 
 abbrev pub peer_1 : Who
-peer_1 = record { me = 1; other = 0; own = 5120; theirs = 1024; words = 4096; sizes = record { out = 16384; mtu = 256 }; vector = 1 }
+peer_1 = record { me = 1; other = 0; own = 5120; theirs = 1024; words = 4096; sizes = record { version = 1; out = 16384; mtu = 256 }; vector = 1 }
 
 abbrev pub small_peer_0 : Who
-small_peer_0 = record { me = 0; other = 1; own = 1024; theirs = 5120; words = 3; sizes = record { out = 16384; mtu = 256 }; vector = 1 }
+small_peer_0 = record { me = 0; other = 1; own = 1024; theirs = 5120; words = 3; sizes = record { version = 1; out = 16384; mtu = 256 }; vector = 1 }
+
+-- peer 0 and peer 1 of the same link with events: the word with the event of peer 1 is 5,553
+abbrev pub event_peer_0 : Who
+event_peer_0 = record peer_0 { sizes = record { version = 2; out = 16384; mtu = 256 } }
+
+abbrev pub event_peer_1 : Who
+event_peer_1 = record peer_1 { sizes = record { version = 2; out = 16384; mtu = 256 } }
 
 -- the frame of 14 bytes
 abbrev pub frame : List ℕ
@@ -112,6 +119,43 @@ id_refused = r 5424 65536 (Reclaim 1 ∷ []) ∷ r 5425 7 (refuse UsedId 7) ∷ 
 abbrev pub used_refused : List Step
 used_refused = r 5424 131072 (refuse UsedIndex 2) ∷ s 0 (Over ∷ []) ∷ []
 
+-- In a link with events: the offer of frame 0 hears an event that asks for it, whatever stands in the other half of the word
+abbrev pub offer_published : List Step
+offer_published = w 1024 1792 [] ∷ w 1025 0 [] ∷ w 1026 14 [] ∷ w 1027 0 [] ∷ w 1281 0 [] ∷ w 1280 65536 (Accept frame ∷ []) ∷ []
+
+abbrev pub event_heard : ℕ → List Step
+event_heard event_word = offer_begun ++ (offer_published ++ (r 5553 event_word [] ∷ d 1 1 (Over ∷ []) ∷ []))
+
+-- the offer of frame 1, by descriptor 1 and entry 1, which shares its word with entry 0, hears one that stands at frame 0
+abbrev pub next_published : List Step
+next_published =
+    r 5424 0 (Reclaim 0 ∷ []) ∷ w 1552 4294967295 [] ∷ w 1553 196607 [] ∷ w 1554 16777216 [] ∷ w 1555 8 [] ∷
+    w 1028 2112 [] ∷ w 1029 0 [] ∷ w 1030 14 [] ∷ w 1031 0 [] ∷ w 1281 65536 [] ∷ w 1280 131072 (Accept frame ∷ []) ∷ []
+
+-- and the offer of frame 2, once both are returned, one that asks for it
+abbrev pub later_heard : List Step
+later_heard =
+    r 5424 131072 (Reclaim 2 ∷ []) ∷ r 5425 0 [] ∷ r 5427 1 [] ∷ w 1632 4294967295 [] ∷ w 1633 196607 [] ∷ w 1634 16777216 [] ∷ w 1635 8 [] ∷
+    w 1032 2432 [] ∷ w 1033 0 [] ∷ w 1034 14 [] ∷ w 1035 0 [] ∷ w 1282 2 [] ∷ w 1280 196608 (Accept frame ∷ []) ∷ r 5553 2 [] ∷ d 1 1 (Over ∷ []) ∷ []
+
+-- a poll after two frames finds nothing, asks for a doorbell at frame 2, and finds nothing again
+abbrev pub end_taken : End
+end_taken = record (end_at Run []) { delivered = frame ∷ frame ∷ [] }
+
+abbrev pub armed_poll : ℕ → List Step
+armed_poll event = r 1280 131072 (Look 0 ∷ []) ∷ w 5553 event [] ∷ r 1280 131072 (Look 0 ∷ Done ∷ []) ∷ []
+
+-- the end of a session whose last look found nothing
+abbrev pub end_armed : End
+end_armed = record (end_at Run []) { found_none = true }
+
+-- a frame is published between the two looks; an index out of range stands there at the second one
+abbrev pub found_between : List Step
+found_between = r 1280 0 (Look 0 ∷ []) ∷ w 5553 0 [] ∷ (item_read ++ item_returned)
+
+abbrev pub second_refused : List Step
+second_refused = r 1280 0 (Look 0 ∷ []) ∷ w 5553 0 [] ∷ r 1280 4259840 (refuse AvailIndex 65) ∷ s 0 (Over ∷ []) ∷ []
+
 -- these lists are calls, and the five steps before a reset in the middle of an offer begin one
 pub record RowsAreCalls : Type 0 where
   pub shortest_handshake_init : IsCall peer_0 (end_at Reset []) Tick to_init
@@ -141,6 +185,15 @@ pub record RowsAreCalls : Type 0 where
   pub reset_in_mid_offer_follows : IsCall peer_1 (end_at Run []) Tick (r 0 0 (Saw 0 ∷ []) ∷ s 0 (Over ∷ []) ∷ [])
   pub stop : IsCall peer_0 (end_at Run []) Stop (s 0 (Over ∷ []) ∷ [])
   pub stop_is_down : IsCall peer_1 (end_at Reset []) Poll (step_of Nothing 0 (Down ∷ []) ∷ [])
+  pub event_asked : IsCall event_peer_0 (end_at Run []) (Offer frame) (event_heard 0)
+  pub event_asked_beside : IsCall event_peer_0 (end_at Run []) (Offer frame) (event_heard 4294901760)
+  pub event_passed : IsCall event_peer_0 (end_at Run (frame ∷ [])) (Offer frame) (next_published ++ (r 5553 0 (Over ∷ []) ∷ []))
+  pub event_asked_later : IsCall event_peer_0 (end_at Run (frame ∷ frame ∷ [])) (Offer frame) later_heard
+  pub nothing_published_armed : IsCall event_peer_1 end_taken Poll (armed_poll 2)
+  pub offer_between_the_looks : IsCall event_peer_1 (end_at Run []) Poll found_between
+  pub offer_between_the_looks_refused : IsCall event_peer_1 (end_at Run []) Poll second_refused
+  pub armed_poll_stays_quiet : IsCall event_peer_1 end_armed Poll (r 1280 0 (Look 0 ∷ Done ∷ []) ∷ [])
+  pub armed_poll_takes : IsCall event_peer_1 end_armed Poll (item_read ++ item_returned)
 
 -- The same lists with one line changed
 
@@ -181,6 +234,20 @@ index_passed = r 5376 4259840 (Look 65 ∷ []) ∷ s 0 (Over ∷ []) ∷ []
 abbrev pub id_passed : List Step
 id_passed = r 5424 65536 (Reclaim 1 ∷ []) ∷ r 5425 7 [] ∷ s 0 (Over ∷ []) ∷ []
 
+-- in a link with events a doorbell that is left out or too many; an event that isn't heard, and one that is heard in a link without events
+abbrev pub event_unheeded : List Step
+event_unheeded = offer_begun ++ (offer_published ++ (r 5553 0 (Over ∷ []) ∷ []))
+
+abbrev pub rings_at_every_frame : List Step
+rings_at_every_frame = next_published ++ (r 5553 0 [] ∷ d 1 1 (Over ∷ []) ∷ [])
+
+-- an event that is written after the second look; one that is written anew where it stands, and none where it doesn't
+abbrev pub event_after_the_look : List Step
+event_after_the_look = r 1280 131072 (Look 0 ∷ []) ∷ r 1280 131072 (Look 0 ∷ []) ∷ w 5553 2 (Done ∷ []) ∷ []
+
+abbrev pub armed_anew : List Step
+armed_anew = r 1280 0 (Look 0 ∷ []) ∷ w 5553 0 [] ∷ r 1280 0 (Look 0 ∷ Done ∷ []) ∷ []
+
 -- none of these is a call
 pub record ChangedRowsAreNone : Type 0 where
   pub shortest_handshake_init : ¬ IsCall peer_0 (end_at Reset []) Tick (r 1 0 (Saw 0 ∷ []) ∷ s 2 (Over ∷ []) ∷ [])
@@ -207,3 +274,12 @@ pub record ChangedRowsAreNone : Type 0 where
   pub hostile_returns_index : ¬ IsCall peer_0 (end_at Run (frame ∷ [])) (Offer frame) (r 5424 131072 (refuse UsedIndex 1) ∷ s 0 (Over ∷ []) ∷ [])
   pub reset_in_mid_offer : ¬ IsCall peer_0 (end_at Reset []) Tick (r 1 3 (Saw 3 ∷ []) ∷ s 1 (Over ∷ []) ∷ [])
   pub stop : ¬ IsCall peer_0 (end_at Run []) Stop (s 1 (Over ∷ []) ∷ [])
+  pub event_asked : ¬ IsCall event_peer_0 (end_at Run []) (Offer frame) event_unheeded
+  pub event_asked_unheard : ¬ IsCall event_peer_0 (end_at Run []) (Offer frame) (offer_begun ++ offer_ended)
+  pub event_asked_without_events : ¬ IsCall peer_0 (end_at Run []) (Offer frame) (event_heard 0)
+  pub event_passed : ¬ IsCall event_peer_0 (end_at Run (frame ∷ [])) (Offer frame) rings_at_every_frame
+  pub nothing_published_armed : ¬ IsCall event_peer_1 end_taken Poll (armed_poll 1)
+  pub nothing_published_armed_late : ¬ IsCall event_peer_1 end_taken Poll event_after_the_look
+  pub nothing_published_without_events : ¬ IsCall peer_1 end_taken Poll (armed_poll 2)
+  pub armed_poll_stays_quiet : ¬ IsCall event_peer_1 end_armed Poll armed_anew
+  pub unarmed_poll_stays_quiet : ¬ IsCall event_peer_1 (end_at Run []) Poll (r 1280 0 (Look 0 ∷ Done ∷ []) ∷ [])

@@ -45,6 +45,8 @@ pub struct End {
     pub freed: u32,
     /// How many frames of its session it delivered.
     pub delivered: u32,
+    /// Whether its last look for new frames in its session found none.
+    pub found_none: bool,
     /// What it wrote, the newest first.
     pub stores: Vec<Store>,
 }

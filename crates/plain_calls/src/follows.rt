@@ -24,6 +24,7 @@ impl End {
             accepted: 0,
             freed: 0,
             delivered: 0,
+            found_none: false,
             stores: Vec::new(alloc),
         }
     }
@@ -46,6 +47,7 @@ impl End {
             self.accepted = 0;
             self.freed = 0;
             self.delivered = 0;
+            self.found_none = false;
         }
     }
 
@@ -83,19 +85,14 @@ impl End {
         match mark {
             Mark::Reclaim(count) => self.freed += *count as u32,
             Mark::Accept(_) => self.accepted += 1,
+            Mark::Look(count) => self.found_none = *count == 0,
             Mark::Deliver(_) => self.delivered += 1,
             Mark::Refuse(_) => {
                 let phase = self.handshake.phase();
                 self.handshake.refuse();
                 self.handshake.enter(phase);
             }
-            Mark::Saw(_)
-            | Mark::Full
-            | Mark::Look(_)
-            | Mark::Return
-            | Mark::Done
-            | Mark::Down
-            | Mark::Over => {}
+            Mark::Saw(_) | Mark::Full | Mark::Return | Mark::Done | Mark::Down | Mark::Over => {}
         }
     }
 

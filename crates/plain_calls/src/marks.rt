@@ -11,7 +11,9 @@ ghost use Rattle.plain_calls.specs.Seen.{who_seen, marks_seen};
 ghost use Rattle.plain_calls.specs.Begun.{job_of, place_seen, IsSmall};
 
 use crate::places::{Begun, Place, is_address, is_entry, is_length};
-use crate::words::{address_of, descriptor_of, entry_half, entry_of, frame_in, published_by};
+use crate::words::{
+    address_of, asks_for, descriptor_of, entry_half, entry_of, frame_in, published_by,
+};
 use crate::{Mark, Who};
 use ivs_base::{Frame, NoMemory};
 use link_handshake::Move;
@@ -88,17 +90,20 @@ fn available_index_marks(
     alloc: Global,
     who: &Who,
     begun: &Begun,
+    last: bool,
     value: u32,
 ) -> Result<Vec<Mark>, NoMemory>
-    ensures { IfOk result (λ marks. marks_seen marks.items ≡ marks_at (who_seen who.now) (place_seen begun.now Place.AtAvailIndex) value) }
+    ensures { IfOk result (λ marks. marks_seen marks.items ≡ marks_at (who_seen who.now) (place_seen begun.now (Place.AtAvailIndex last)) value) }
 {
     let found = published_by(u64::from(begun.taken), value);
     if found > u64::from(who.queue.size()) {
         refuse(alloc, FieldName::AvailIndex, u64::from(value / 65_536))
     } else if found > 0 {
         only(alloc, Mark::Look(found))
-    } else {
+    } else if last {
         both(alloc, Mark::Look(0), Mark::Done)
+    } else {
+        only(alloc, Mark::Look(0))
     }
 }
 
@@ -152,7 +157,14 @@ pub fn marks_at(
             let frame = Frame::of(alloc, begun.frame.as_slice())?;
             only(alloc, Mark::Accept(frame))
         }
-        Place::AtAvailIndex => available_index_marks(alloc, who, begun, value),
+        Place::AtEvent => {
+            if asks_for(value, begun.number) {
+                Ok(Vec::new(alloc))
+            } else {
+                only(alloc, Mark::Over)
+            }
+        }
+        Place::AtAvailIndex { last } => available_index_marks(alloc, who, begun, *last, value),
         Place::AtEntry { number, .. } => {
             let entry = entry_half(entry_of(who, *number), value);
             if is_entry(who, entry) {
@@ -200,6 +212,7 @@ pub fn marks_at(
         | Place::WritingLength
         | Place::WritingFlags
         | Place::WritingEntry
+        | Place::Arming
         | Place::AtLow { .. }
         | Place::GivingId { .. }
         | Place::GivingLength { .. } => Ok(Vec::new(alloc)),

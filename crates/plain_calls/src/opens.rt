@@ -44,6 +44,7 @@ impl OpenCall {
                 beside: 0,
                 freed: 0,
                 taken: 0,
+                last: false,
             },
             place: Place::Closed,
         }

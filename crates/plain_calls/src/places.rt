@@ -5,7 +5,7 @@ ghost use Rattle.call_grammar.specs.Steps.{value_given};
 ghost use Rattle.call_grammar.specs.Ticks.{tick_marks};
 ghost use Rattle.call_grammar.specs.Offers.{full_marks, reclaim_marks, refusal};
 ghost use Rattle.call_grammar.specs.Polls.{is_entry, is_address, is_length, look_marks};
-ghost use Rattle.call_grammar.specs.Places.{access_at, marks_at, next_place, first_place, is_open, tick_place, clear_place, fill_place, ids_place, items_place, words_place};
+ghost use Rattle.call_grammar.specs.Places.{access_at, marks_at, next_place, first_place, is_open, tick_place, clear_place, fill_place, ids_place, tell_place, items_place, words_place};
 ghost use Rattle.call_grammar.specs.Ends as ends;
 ghost use Rattle.plain_calls.specs.Seen.{who_seen, call_seen, access_seen, marks_seen, IsSeenAs};
 ghost use Rattle.plain_calls.specs.Begun.{job_of, place_seen, IsSmall, IsBegun};
@@ -32,11 +32,14 @@ pub struct Begun {
     pub freed: u32,
     /// How many frames were taken.
     pub taken: u32,
+    /// Whether the first look of a poll is its last where it finds nothing.
+    pub last: bool,
 }
 
 /// Where a call is: the places of `call_grammar`, one for one. `more` is how many words, ids or items come after the one in hand, and
 /// `number` the number of that item in the session; `entry` is its descriptor, with the `address` and the length in `bytes` that were
-/// read; and of its frame the words `read`, with so many `words` after the next one.
+/// read; and of its frame the words `read`, with so many `words` after the next one. A look that is the `last` one of its poll ends it where it
+/// finds nothing.
 #[derive(Debug, Drop)]
 pub enum Place {
     Closed,
@@ -66,8 +69,12 @@ pub enum Place {
     WritingFlags,
     WritingEntry,
     WritingIndex,
+    AtEvent,
     RingingOffer,
-    AtAvailIndex,
+    AtAvailIndex {
+        last: bool,
+    },
+    Arming,
     AtEntry {
         number: u64,
         more: u64,
@@ -165,11 +172,13 @@ pub fn access_at(who: &Who, begun: &Begun, place: &Place) -> Access
             )
         }
         Place::WritingIndex => Access::Write(own + available_word(queue), index_word(number + 1)),
+        Place::AtEvent => Access::Read(theirs + event_word(queue)),
         Place::RingingOffer | Place::RingingPoll => Access::Ring {
             target: who.other,
             vector: who.vector,
         },
-        Place::AtAvailIndex => Access::Read(theirs + available_word(queue)),
+        Place::AtAvailIndex { .. } => Access::Read(theirs + available_word(queue)),
+        Place::Arming => Access::Write(own + event_word(queue), u64::from(begun.taken) % 65_536),
         Place::AtEntry { number, .. } => Access::Read(
             theirs + entry_word(queue, entry_of(who, *number)),
         ),
@@ -258,6 +267,18 @@ fn ids_place(who: &Who, begun: &Begun, freed: u64, count: u64) -> Place
     }
 }
 
+/// The place after the write of the available index.
+fn tell_place(who: &Who) -> Place
+    ensures place { (begun : Begun) → place_seen begun result ≡ tell_place (who_seen who.now) begun.number }
+    ensures small { IsSmall result }
+{
+    if who.queue.has_events() {
+        Place::AtEvent
+    } else {
+        Place::RingingOffer
+    }
+}
+
 /// The place of the items that are left to take.
 fn items_place(number: u64, count: u64) -> Place
     requires { number + count < 2 ^ 33 }
@@ -342,8 +363,16 @@ pub fn next_place(
         Place::WritingLength => Place::WritingFlags,
         Place::WritingFlags => Place::WritingEntry,
         Place::WritingEntry => Place::WritingIndex,
-        Place::WritingIndex => Place::RingingOffer,
-        Place::AtAvailIndex => after_available_index(who, begun, value),
+        Place::WritingIndex => tell_place(who),
+        Place::AtEvent => {
+            if asks_for(value, begun.number) {
+                Place::RingingOffer
+            } else {
+                Place::Closed
+            }
+        }
+        Place::AtAvailIndex { last } => after_available_index(who, begun, last, value),
+        Place::Arming => Place::AtAvailIndex { last: true },
         Place::AtEntry { number, more } => {
             let entry = entry_half(entry_of(who, number), value);
             if is_entry(who, entry) {
@@ -459,18 +488,20 @@ fn after_used_index(who: &Who, begun: &Begun, value: u32) -> Place
 }
 
 /// The place after a poll's read of the available index.
-fn after_available_index(who: &Who, begun: &Begun, value: u32) -> Place
-    ensures place { place_seen begun.now result ≡ next_place (who_seen who.now) (place_seen begun.now Place.AtAvailIndex) value }
+fn after_available_index(who: &Who, begun: &Begun, last: bool, value: u32) -> Place
+    ensures place { place_seen begun.now result ≡ next_place (who_seen who.now) (place_seen begun.now (Place.AtAvailIndex last)) value }
     ensures small { IsSmall result }
 {
     let taken = u64::from(begun.taken);
     let found = published_by(taken, value);
     if found > u64::from(who.queue.size()) {
         Place::Refusing
-    } else if found == 0 {
+    } else if found > 0 {
+        items_place(taken, found)
+    } else if last {
         Place::Closed
     } else {
-        items_place(taken, found)
+        Place::Arming
     }
 }
 
@@ -514,6 +545,7 @@ pub fn begin(alloc: Global, who: &Who, end: &End, call: &Call) -> Result<Begun, 
         beside: end.written(u64::from(who.own) + entry_word(&who.queue, k)),
         freed: end.freed,
         taken: end.delivered,
+        last: !who.queue.has_events() || end.found_none,
     })
 }
 
@@ -533,7 +565,7 @@ pub fn first_place(begun: &Begun, call: &Call) -> Place
             Place::Downed
         },
         Call::Poll => if runs {
-            Place::AtAvailIndex
+            Place::AtAvailIndex { last: begun.last }
         } else {
             Place::Downed
         },

@@ -118,6 +118,13 @@ fn who(me: u32, words: u32) -> Result<Who, Fail> {
     })
 }
 
+/// The same peer of a link with events.
+fn event_who(me: u32) -> Result<Who, Fail> {
+    let mut who = who(me, 4096)?;
+    who.queue = Queue::of_version(2, 16_384, 256)?;
+    Ok(who)
+}
+
 /// An end in this phase, which accepted so many frames.
 fn end(alloc: Global, phase: Phase, accepted: u32) -> End {
     let mut handshake = Handshake::new();
@@ -127,6 +134,7 @@ fn end(alloc: Global, phase: Phase, accepted: u32) -> End {
         accepted,
         freed: 0,
         delivered: 0,
+        found_none: false,
         stores: Vec::new(alloc),
     }
 }
@@ -291,6 +299,61 @@ fn offers(rt: HostRuntime) -> Result<(), Fail> {
     Ok(())
 }
 
+/// The lines of an offer of frame 65,535, when all before it were freed: by descriptor 15 and entry 63.
+const LAST_WRITES: [Line; 13] = [
+    ('r', 5424, 4_294_901_760),
+    ('c', 0, 0),
+    ('w', 2672, 4_294_967_295),
+    ('w', 2673, 196_607),
+    ('w', 2674, 16_777_216),
+    ('w', 2675, 8),
+    ('w', 1084, 6592),
+    ('w', 1085, 0),
+    ('w', 1086, 14),
+    ('w', 1087, 0),
+    ('w', 1312, 983_040),
+    ('w', 1280, 0),
+    ('a', 0, 0),
+];
+
+/// An offer of the first frame and of frame 65,535 hears the event in the low half of its word, and rings where that is the frame's.
+#[test]
+fn event_asked(rt: HostRuntime) -> Result<(), Fail> {
+    let alloc = rt.alloc();
+    let who = event_who(0)?;
+    let call = Call::Offer(frame(alloc, 0)?);
+    let mut first = Vec::from_slice(alloc, &[('r', 5424, 0), ('c', 0, 0)])?;
+    first.extend_from_slice(&WRITES)?;
+    first.extend_from_slice(&[('w', 1281, 0), ('w', 1280, 65_536), ('a', 0, 0)])?;
+    let rows: [(u32, &[Line], u64, bool); 8] = [
+        (0, first.as_slice(), 0, true),
+        (0, first.as_slice(), 4_294_901_760, true),
+        (0, first.as_slice(), 1, false),
+        (0, first.as_slice(), 65_535, false),
+        (65_535, &LAST_WRITES, 65_535, true),
+        (65_535, &LAST_WRITES, 131_071, true),
+        (65_535, &LAST_WRITES, 65_534, false),
+        (65_535, &LAST_WRITES, 0, false),
+    ];
+    for (number, writes, event, asks) in &rows {
+        let mut end = end(alloc, Phase::Run, *number);
+        end.freed = *number;
+        let mut rings = writes.to_vec(alloc)?;
+        rings.extend_from_slice(&[('r', 5553, *event), ('d', 1, 1), ('o', 0, 0)])?;
+        let mut stays = writes.to_vec(alloc)?;
+        stays.extend_from_slice(&[('r', 5553, *event), ('o', 0, 0)])?;
+        let (lines, others) = if *asks {
+            (rings, stays)
+        } else {
+            (stays, rings)
+        };
+        check(&rt, alloc, &who, &end, &call, lines.as_slice())?;
+        let steps = steps_of(alloc, others.as_slice())?;
+        assert!(rt; !is_call(alloc, &who, &end, &call, steps.as_slice())?);
+    }
+    Ok(())
+}
+
 #[test]
 fn polls(rt: HostRuntime) -> Result<(), Fail> {
     let alloc = rt.alloc();
@@ -353,6 +416,121 @@ fn polls(rt: HostRuntime) -> Result<(), Fail> {
             lines.as_slice(),
         )?;
     }
+    Ok(())
+}
+
+/// A poll that finds nothing writes the event and looks again: where it finds nothing, a frame, and an index out of range.
+#[test]
+fn offer_between_the_looks(rt: HostRuntime) -> Result<(), Fail> {
+    let alloc = rt.alloc();
+    let rows: [(u32, &[Line]); 5] = [
+        (
+            0,
+            &[
+                ('r', 1280, 0),
+                ('l', 0, 0),
+                ('w', 5553, 0),
+                ('r', 1280, 0),
+                ('l', 0, 0),
+                ('k', 0, 0),
+            ],
+        ),
+        (
+            65_535,
+            &[
+                ('r', 1280, 4_294_901_760),
+                ('l', 0, 0),
+                ('w', 5553, 65_535),
+                ('r', 1280, 4_294_901_760),
+                ('l', 0, 0),
+                ('k', 0, 0),
+            ],
+        ),
+        (
+            65_536,
+            &[
+                ('r', 1280, 0),
+                ('l', 0, 0),
+                ('w', 5553, 0),
+                ('r', 1280, 0),
+                ('l', 0, 0),
+                ('k', 0, 0),
+            ],
+        ),
+        (
+            0,
+            &[
+                ('r', 1280, 0),
+                ('l', 0, 0),
+                ('w', 5553, 0),
+                ('r', 1280, 65_536),
+                ('l', 1, 0),
+                ('r', 1281, 64),
+                ('x', 1, 64),
+                ('s', 0, 0),
+                ('o', 0, 0),
+            ],
+        ),
+        (
+            0,
+            &[
+                ('r', 1280, 0),
+                ('l', 0, 0),
+                ('w', 5553, 0),
+                ('r', 1280, 4_259_840),
+                ('x', 0, 65),
+                ('s', 0, 0),
+                ('o', 0, 0),
+            ],
+        ),
+    ];
+    for (delivered, lines) in &rows {
+        let mut end = end(alloc, Phase::Run, 0);
+        end.delivered = *delivered;
+        check(&rt, alloc, &event_who(1)?, &end, &Call::Poll, lines)?;
+    }
+    Ok(())
+}
+
+/// Once a look found nothing the next poll is over at its first one.
+#[test]
+fn armed_poll_stays_quiet(rt: HostRuntime) -> Result<(), Fail> {
+    let alloc = rt.alloc();
+    let who = event_who(1)?;
+    let mut end = end(alloc, Phase::Run, 0);
+    end.found_none = true;
+    let quiet: [Line; 3] = [('r', 1280, 0), ('l', 0, 0), ('k', 0, 0)];
+    check(&rt, alloc, &who, &end, &Call::Poll, &quiet)?;
+    let steps = steps_of(alloc, &quiet)?;
+    end.found_none = false;
+    assert!(rt; !is_call(alloc, &who, &end, &Call::Poll, steps.as_slice())?);
+    Ok(())
+}
+
+/// An end keeps whether its last look found nothing, until its next session.
+#[test]
+fn an_end_keeps_its_last_look(rt: HostRuntime) -> Result<(), Fail> {
+    let alloc = rt.alloc();
+    let mut end = End::fresh(alloc);
+    let mut step = Step {
+        access: Access::Read(1280),
+        value: 0,
+        marks: Vec::new(alloc),
+    };
+    step.marks.push(Mark::Look(0))?;
+    end.follow(&step)?;
+    assert!(rt; end.found_none);
+    step.marks = Vec::new(alloc);
+    step.marks.push(Mark::Look(2))?;
+    end.follow(&step)?;
+    assert!(rt; !end.found_none);
+    step.marks = Vec::new(alloc);
+    step.marks.push(Mark::Look(0))?;
+    end.follow(&step)?;
+    step.access = Access::State(2);
+    step.marks = Vec::new(alloc);
+    end.follow(&step)?;
+    assert!(rt; !end.found_none);
     Ok(())
 }
 

@@ -1,10 +1,10 @@
 //! The words of a section, and the numbers and bytes in a word, as the call grammar tells them.
 ghost use Rattle.std.specs.Prelude.{◌≡◌, ◌+◌, ◌*◌, ◌/◌, ◌<◌, ◌≤◌, ◌^◌, IfOk, take, drop};
 ghost use Rattle.ivs_base.specs.Numbers.{distance};
-ghost use Rattle.split_ring.specs.Layout.{size_of, limit_of, place_of, word_place, Address, Length, Flags, AvailableIndex, Entry, UsedFlags, UsedIndex, Id, Amount, Slot};
+ghost use Rattle.split_ring.specs.Layout.{size_of, limit_of, place_of, word_place, Address, Length, Flags, AvailableIndex, Entry, UsedFlags, UsedIndex, Id, Amount, AvailableEvent, Slot};
 ghost use Rattle.split_ring.specs.Spelling.{high_half, low_half, entry_half};
 ghost use Rattle.call_grammar.specs.Words.{index_word, with_entry, address_of, words_for, frame_word, frame_in};
-ghost use Rattle.call_grammar.specs.Offers.{descriptor_of, entry_of};
+ghost use Rattle.call_grammar.specs.Offers.{descriptor_of, entry_of, asks_for};
 ghost use Rattle.call_grammar.specs.Polls.{published_by};
 ghost use Rattle.plain_calls.specs.Seen.{who_seen};
 
@@ -96,6 +96,14 @@ pub fn amount_word(queue: &Queue, k: u32) -> u64
     (used_start(queue) + 8 + 8 * u64::from(k)) / 4
 }
 
+/// The word of the event: the frame at which the owner of the section asks for a doorbell.
+pub fn event_word(queue: &Queue) -> u64
+    ensures word { result ≡ word_place queue.now AvailableEvent }
+    ensures small { result < 2 ^ 40 }
+{
+    (used_start(queue) + 4 + 8 * u64::from(queue.size())) / 4
+}
+
 /// The byte at which a slot begins.
 pub fn slot_start(queue: &Queue, i: u32) -> u64
     ensures { result ≡ place_of queue.now (Slot i) }
@@ -139,6 +147,13 @@ pub fn published_by(taken: u64, word: u32) -> u64
     ensures small { result < 65536 }
 {
     (u64::from(word / 65_536) + 65_536 - taken % 65_536) % 65_536
+}
+
+/// Does the event in the low half of this word ask for a doorbell at the frame with this number?
+pub fn asks_for(word: u32, number: u32) -> bool
+    ensures { result ≡ asks_for (low_half word) number }
+{
+    word % 65_536 == number % 65_536
 }
 
 /// The address in its low and its high word.

@@ -19,7 +19,7 @@ use Rattle.call_grammar.proofs.Spelled.{word_again, front_word}
 use Rattle.rx_engine.specs.Receiver.{Receiver, is_open_at, is_busy, given}
 use Rattle.rx_engine.specs.Stands.{StandsAt, TakesOn, place_seen}
 use Rattle.rx_engine.specs.declared.place.Place.{Place}
-use Rattle.rx_engine.specs.declared.place.Place.TheVariants.{Closed, AtAvailIndex, AtEntry, AtLow, AtHigh, AtLength, AtFlags, AtWord, GivingId, GivingLength, GivingIndex, Ringing, Refusing}
+use Rattle.rx_engine.specs.declared.place.Place.TheVariants.{Closed, AtAvailIndex, Arming, AtEntry, AtLow, AtHigh, AtLength, AtFlags, AtWord, GivingId, GivingLength, GivingIndex, Ringing, Refusing}
 use Rattle.rx_engine.proofs.Words.{word_delivers, word_goes}
 
 -- the reads of the words that are left
@@ -93,7 +93,8 @@ words_deliver old new notes more entry address bytes at (value ∷ next ∷ valu
 
 open_seen : (number : ℕ) (read : List ℕ) (p : Place) → is_open_at p ≡ laws.is_open (place_seen number read p)
 open_seen number read Closed = refl
-open_seen number read AtAvailIndex = refl
+open_seen number read (AtAvailIndex last) = refl
+open_seen number read Arming = refl
 open_seen number read (AtEntry more) = refl
 open_seen number read (AtLow more entry) = refl
 open_seen number read (AtHigh more entry low) = refl

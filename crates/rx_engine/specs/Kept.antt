@@ -16,6 +16,7 @@ seen a = record {
   target = a.target;
   vector = a.vector;
   returned = a.returned;
+  found_none = a.found_none;
   place = a.place;
   frame = take a.delivered a.last.items;
   gathered = take (4 * words_read a.place) a.buffer.items;

@@ -1,13 +1,13 @@
 -- A receiver, as contracts see it.
-use Rattle.std.specs.Prelude.{ℕ, ◌≡◌, ◌-◌, ◌*◌, ◌<◌, ◌==◌, if◌then◌else◌, Bool, true, false, List, []}
-use Rattle.split_ring.specs.Layout.{Sizes}
+use Rattle.std.specs.Prelude.{ℕ, ◌≡◌, ◌-◌, ◌*◌, ◌<◌, ◌==◌, if◌then◌else◌, Bool, true, false, ◌||◌, not, List, []}
+use Rattle.split_ring.specs.Layout.{Sizes, has_events}
 use Rattle.split_ring.specs.Ranges.{IsAvailEntry, IsDescAddress, IsDescLength}
 use Rattle.call_grammar.specs.Words.{words_for}
 use Rattle.rx_engine.specs.declared.place.Place.{Place}
 use Rattle.rx_engine.specs.declared.place.Place.TheVariants.{Closed, AtLow, AtHigh, AtLength, AtFlags, AtWord, GivingId, GivingLength, GivingIndex}
 
 -- the sizes of the queue, the first words of the own section and of the other's, the peer and the vector of the doorbell; how many frames of the session were
--- returned, modulo 65,536; the place in the open poll; the frame delivered last, or nothing before the first; and the bytes that were read so far of a frame
+-- returned, modulo 65,536, and whether the last look of the session found no new frame; the place in the open poll; the frame delivered last, or nothing before the first; and the bytes that were read so far of a frame
 -- that isn't delivered yet
 pub record Receiver : Type 0 where
   pub sizes : Sizes
@@ -16,6 +16,7 @@ pub record Receiver : Type 0 where
   pub target : ℕ
   pub vector : ℕ
   pub returned : ℕ
+  pub found_none : Bool
   pub place : Place
   pub frame : List ℕ
   pub gathered : List ℕ
@@ -29,6 +30,7 @@ fresh_receiver sizes own theirs target vector = record {
   target = target;
   vector = vector;
   returned = 0;
+  found_none = false;
   place = Closed;
   frame = [];
   gathered = [];
@@ -37,6 +39,10 @@ fresh_receiver sizes own theirs target vector = record {
 -- a receiver whose session begins anew: only the frame delivered last stays
 abbrev pub renewed : Receiver → Receiver
 renewed rx = record (fresh_receiver rx.sizes rx.own rx.theirs rx.target rx.vector) { frame = rx.frame }
+
+-- the first look of a poll that begins now is its last where it finds nothing, and no event is to be written
+abbrev pub is_last : Receiver → Bool
+is_last rx = not (has_events rx.sizes) || rx.found_none
 
 -- a poll is open at each place but one
 abbrev pub is_open_at : Place → Bool

@@ -10,12 +10,13 @@ use Rattle.call_grammar.specs.Words.{word_bytes, words_for, frame_in}
 use Rattle.call_grammar.specs.Places as laws
 use Rattle.rx_engine.specs.Receiver.{Receiver, is_busy, words_read, unreturned}
 use Rattle.rx_engine.specs.declared.place.Place.{Place}
-use Rattle.rx_engine.specs.declared.place.Place.TheVariants.{Closed, AtAvailIndex, AtEntry, AtLow, AtHigh, AtLength, AtFlags, AtWord, GivingId, GivingLength, GivingIndex, Ringing, Refusing}
+use Rattle.rx_engine.specs.declared.place.Place.TheVariants.{Closed, AtAvailIndex, Arming, AtEntry, AtLow, AtHigh, AtLength, AtFlags, AtWord, GivingId, GivingLength, GivingIndex, Ringing, Refusing}
 
 -- the place of the grammar, for the number of the item in hand and the words read of its frame
 abbrev pub place_seen : ℕ → List ℕ → Place → laws.Place
 place_seen number read Closed = laws.Closed
-place_seen number read AtAvailIndex = laws.AtAvailIndex number
+place_seen number read (AtAvailIndex last) = laws.AtAvailIndex number last
+place_seen number read Arming = laws.Arming number
 place_seen number read (AtEntry more) = laws.AtEntry number more
 place_seen number read (AtLow more entry) = laws.AtLow number more entry
 place_seen number read (AtHigh more entry low) = laws.AtHigh number more entry low
@@ -42,10 +43,11 @@ has_session Ready = true
 has_session Run = true
 has_session _ = false
 
--- the receiver's count is the end's modulo 65,536, and all frames delivered are returned but one that is being returned
+-- the receiver's count is the end's modulo 65,536, all frames delivered are returned but one that is being returned, and the last look of both found the same
 pub record Counts (rx : Receiver) (end : End) : Type 0 where
   pub returned : end.returned % 65536 ≡ rx.returned
   pub delivered : length end.delivered ≡ end.returned + unreturned rx.place
+  pub found_none : end.found_none ≡ rx.found_none
 
 -- the receiver stands for this end of this peer, at this place of its open call: it counts the end's frames wherever a poll or a session
 -- is open, and the bytes gathered are those of the words read
@@ -77,15 +79,17 @@ Takes old value notes new = (who : Who) (end : End) (place : laws.Place) → Sta
 abbrev pub TakesOn : Receiver → ℕ → List Note → Receiver → Type 0
 TakesOn old value notes new = Takes old value notes new × (is_busy new ≡ true)
 
--- a fresh session: no frame is delivered or returned
+-- a fresh session: no frame is delivered or returned, and no look was taken
 pub record IsFreshSession (end : End) : Type 0 where
   pub delivered : end.delivered ≡ []
   pub returned : end.returned ≡ 0
+  pub found_none : end.found_none ≡ false
 
 -- what a closed receiver reads of an end is the same in a later one, which has a session only where the first had one
 pub record SameSession (end later : End) : Type 0 where
   pub delivered : later.delivered ≡ end.delivered
   pub returned : later.returned ≡ end.returned
+  pub found_none : later.found_none ≡ end.found_none
   pub session : has_session later.handshake.phase ≡ true → has_session end.handshake.phase ≡ true
 
 -- a closed receiver stands for an end as long as its session goes on

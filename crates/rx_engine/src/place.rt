@@ -6,8 +6,12 @@
 pub(crate) enum Place {
     /// No poll is open.
     Closed,
-    /// The read of the available index.
-    AtAvailIndex,
+    /// The read of the available index. It is the last look of its poll where it finds nothing, or the event is written after it.
+    AtAvailIndex {
+        last: bool,
+    },
+    /// The write of the own event.
+    Arming,
     /// The read of the item's entry in the available ring.
     AtEntry {
         more: u32,

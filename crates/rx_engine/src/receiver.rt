@@ -7,15 +7,15 @@ ghost use Rattle.call_grammar.specs.Ticks.{Who};
 ghost use Rattle.call_grammar.specs.Calls.{Poll};
 ghost use Rattle.call_grammar.specs.Words.{word_bytes, words_for};
 ghost use Rattle.call_grammar.specs.Stretches.{Each, ReadsOn, WritesOn};
-ghost use Rattle.call_grammar.specs.Orders.{is_index};
+ghost use Rattle.call_grammar.specs.Orders.{word_kind};
 ghost use Rattle.call_grammar.specs.Places as laws;
 ghost use Rattle.call_grammar.specs.Reach.{HasSections, InReach};
-ghost use Rattle.rx_engine.specs.Receiver.{fresh_receiver, renewed, is_busy, reads_ahead, writes_ahead, given, words_read, IsReached, KeepsNumbers};
+ghost use Rattle.rx_engine.specs.Receiver.{fresh_receiver, renewed, is_last, is_busy, reads_ahead, writes_ahead, given, words_read, IsReached, KeepsNumbers};
 ghost use Rattle.rx_engine.specs.Stands.{IsMadeFor, IsFreshSession, StandsAt, Takes, TakesOn, ClosedStays};
 
 use crate::place::Place;
 use ivs_base::NoMemory;
-use split_ring::steps::{Access, Note, Notes, leaving, left, refusal};
+use split_ring::steps::{Access, Note, Notes, WordKind, leaving, left, refusal};
 use split_ring::{Queue, Refused};
 use std::alloc::Global;
 use std::marker::Model;
@@ -25,7 +25,8 @@ use std::mem::swap;
 const LONGEST: u32 = 65_553;
 
 /// The receiver of one end. It keeps the queue, the first words of the two sections, the peer and vector of the doorbell, how many
-/// frames of the session were returned, modulo 65,536, its place in the open poll, and the frame delivered last.
+/// frames of the session were returned, modulo 65,536, whether its last look found none, its place in the open poll, and the frame
+/// delivered last.
 ///
 /// It has two buffers, each as long as the longest frame that passes the checks: one for the frame that is read, and one for the frame
 /// delivered last. They are swapped when a frame is delivered, and nothing is copied. A step reads or writes one word, and takes no
@@ -38,6 +39,7 @@ pub struct Rx {
     target: u32,
     vector: u32,
     returned: u16,
+    found_none: bool,
     place: Place,
     buffer: Vec<u8>,
     last: Vec<u8>,
@@ -128,6 +130,7 @@ impl Rx {
             target,
             vector,
             returned: 0,
+            found_none: false,
             place: Place::Closed,
             buffer,
             last,
@@ -148,9 +151,10 @@ impl Rx {
         requires { is_busy self.old ≡ false }
         ensures stands { (who : Who) (end : End) → StandsAt self.old who end laws.Closed → end.handshake.phase ≡ Run →
             StandsAt self.new who end (laws.first_place who end Poll) }
-        ensures value { self.new ≡ record self.old { place = Place.AtAvailIndex } }
+        ensures value { self.new ≡ record self.old { place = Place.AtAvailIndex (is_last self.old) } }
     {
-        self.place = Place::AtAvailIndex;
+        let last = !self.queue.has_events() || self.found_none;
+        self.place = Place::AtAvailIndex { last };
     }
 
     /// The next access of the open poll.
@@ -163,7 +167,8 @@ impl Rx {
         let (queue, own, theirs) = (&self.queue, self.own, self.theirs);
         let number = u32::from(self.returned);
         match self.place {
-            Place::AtAvailIndex => Access::Read(theirs + queue.avail_word()),
+            Place::AtAvailIndex { .. } => Access::Read(theirs + queue.avail_word()),
+            Place::Arming => Access::Write(own + queue.avail_event_word(), number),
             Place::AtEntry { .. } => Access::Read(theirs + queue.entry_word(number)),
             Place::AtLow { entry, .. } => Access::Read(theirs + queue.descriptor(entry)),
             Place::AtHigh { entry, .. } => Access::Read(theirs + queue.descriptor(entry) + 1),
@@ -194,7 +199,8 @@ impl Rx {
         ensures kept { KeepsNumbers self.old self.new }
     {
         match self.place {
-            Place::AtAvailIndex => self.took_index(value),
+            Place::AtAvailIndex { last } => self.took_index(last, value),
+            Place::Arming => self.go_on(Place::AtAvailIndex { last: true }, None),
             Place::AtEntry { more } => self.took_entry(more, value),
             Place::AtLow { more, entry } => {
                 let next = Place::AtHigh {
@@ -226,11 +232,16 @@ impl Rx {
         }
     }
 
-    /// Is the next access that of an index word?
-    pub fn at_index(&self) -> bool
-        ensures { (who : Who) (end : End) (place : laws.Place) → StandsAt self.now who end place → result ≡ is_index place }
+    /// What the word of the next access is to the order of memory.
+    pub fn word_kind(&self) -> WordKind
+        ensures { (who : Who) (end : End) (place : laws.Place) → StandsAt self.now who end place → result ≡ word_kind place }
     {
-        matches!(self.place, Place::AtAvailIndex | Place::GivingIndex { .. })
+        match self.place {
+            Place::AtAvailIndex { .. } => WordKind::IndexRead,
+            Place::Arming => WordKind::EventWrite,
+            Place::GivingIndex { .. } => WordKind::IndexWrite,
+            _ => WordKind::Plain,
+        }
     }
 
     /// How many of the coming accesses read the words of a frame, each the next word, with no note before the last of the frame; else 0.
@@ -321,6 +332,7 @@ impl Rx {
         ensures stands { (who : Who) (end : End) → IsMadeFor self.old who → IsFreshSession end → StandsAt self.new who end laws.Closed }
     {
         self.returned = 0;
+        self.found_none = false;
         self.place = Place::Closed;
     }
 }
@@ -360,9 +372,9 @@ impl Rx {
         left()
     }
 
-    /// The read of the available index.
-    fn took_index(&mut self, value: u32) -> Notes
-        requires { self.old.place ≡ Place.AtAvailIndex }
+    /// The read of the available index. Where it finds nothing and isn't the last look, the event is written next.
+    fn took_index(&mut self, last: bool, value: u32) -> Notes
+        requires { self.old.place ≡ Place.AtAvailIndex last }
         ensures steps { Takes self.old value result.items self.new }
         ensures kept { KeepsNumbers self.old self.new }
     {
@@ -370,11 +382,16 @@ impl Rx {
         match self.queue.check_avail(self.returned, index) {
             Err(refused) => self.refuse(refused),
             Ok(0) => {
+                self.found_none = true;
+                if !last {
+                    return self.go_on(Place::Arming, Some(Note::Look(0)));
+                }
                 let mut notes = self.go_on(Place::Closed, Some(Note::Look(0)));
                 notes.push(Note::Done);
                 notes
             }
             Ok(found) => {
+                self.found_none = false;
                 let first = Place::AtEntry { more: found - 1 };
                 self.go_on(first, Some(Note::Look(found)))
             }

@@ -1,19 +1,20 @@
 -- The fields of a new queue are the numbers of its layout.
 use Rattle.std.proofs.Common.{◌≡◌, ℕ, ◌+◌, ◌-◌, ◌/◌, ◌^◌, ◌≤◌, min, Some, sym, ap, unwrap_or, ◌∙◌}
 use Rattle.ivs_base.specs.Numbers.{up64}
-use Rattle.split_ring.specs.Layout.{Sizes, size_of, queue_size, ring_part, used_place, limit_of, IsQueue}
+use Rattle.split_ring.specs.Layout.{Sizes, IsVersion, size_of, queue_size, ring_part, used_place, limit_of, IsQueue}
 use Rattle.split_ring.specs.Kept.{IsKept}
 use Rattle.split_ring.proofs.Bounds.{bounds}
 
-pub kept : (out mtu n used payload slot limit : ℕ)
-    → queue_size out ≡ Some n → 256 ≤ mtu → mtu ≤ 65535 → out ≤ 2 ^ 24
+pub kept : (version out mtu n used payload slot limit : ℕ)
+    → IsVersion version → queue_size out ≡ Some n → 256 ≤ mtu → mtu ≤ 65535 → out ≤ 2 ^ 24
     → used ≡ used_place n → payload ≡ ring_part n → slot ≡ up64 (18 + mtu) → slot ≤ out - payload → limit ≡ min n ((out - payload) / slot)
-    → IsKept (record { out = out; mtu = mtu; size = n; used = used; payload = payload; slot = slot; limit = limit })
+    → IsKept (record { version = version; out = out; mtu = mtu; size = n; used = used; payload = payload; slot = slot; limit = limit })
 unfolding limit_of
-kept out mtu n used payload slot limit found least most section used_is payload_is slot_is fits limit_is =
-    let q : Sizes = record { out = out; mtu = mtu } in
+kept version out mtu n used payload slot limit known found least most section used_is payload_is slot_is fits limit_is =
+    let q : Sizes = record { version = version; out = out; mtu = mtu } in
     let n_is : size_of q ≡ n = ap (λ o. unwrap_or o 0) found in
     let h : IsQueue q = record {
+      known = known;
       mtu_least = least;
       mtu_most = most;
       section = section;

@@ -4,7 +4,7 @@ use Rattle.split_ring.specs.Layout.{HasBounds, IsQueue, Sizes, size_of, used_pla
 use Rattle.split_ring.specs.declared.layout.Queue.TheInside.{Inside}
 
 abbrev pub sizes_of : Inside → Sizes
-sizes_of a = record { out = a.out; mtu = a.mtu }
+sizes_of a = record { version = a.version; out = a.out; mtu = a.mtu }
 
 -- each field is the number of the layout that it is named after
 pub record IsKept (a : Inside) : Type 0 where
@@ -18,6 +18,7 @@ pub record IsKept (a : Inside) : Type 0 where
 
 abbrev pub inside_of : Sizes → Inside
 inside_of q = record {
+  version = q.version;
   out = q.out;
   mtu = q.mtu;
   size = size_of q;

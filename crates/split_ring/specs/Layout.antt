@@ -1,13 +1,22 @@
 -- Where each field of an output section stands.
 -- Source: VIRTIO 1.1 section 2.6 for the parts of a split virtqueue, their order and the widths of their fields;
 -- profile for the alignments to 64 bytes, the queue's size, the slots and the limit in flight.
-use Rattle.std.specs.Prelude.{◌≡◌, ℕ, ◌+◌, ◌-◌, ◌*◌, ◌/◌, ◌%◌, ◌^◌, ◌<◌, ◌≤◌, min, List, [], ◌∷◌, Option, Some, find, nat_lt, unwrap_or, MatchOption}
+use Rattle.std.specs.Prelude.{◌≡◌, ℕ, ◌+◌, ◌-◌, ◌*◌, ◌/◌, ◌%◌, ◌^◌, ◌<◌, ◌≤◌, min, List, [], ◌∷◌, Bool, Option, Some, find, nat_lt, nat_le, unwrap_or, MatchOption}
 use Rattle.ivs_base.specs.Numbers.{up64}
 
--- the two numbers that fix every place: the bytes of an output section, and the MTU
+-- the numbers that fix every place: the version of the link, the bytes of an output section, and the MTU
 pub record Sizes : Type 0 where
+  pub version : ℕ
   pub out : ℕ
   pub mtu : ℕ
+
+-- the versions of the link (profile): in the first a peer rings at every frame
+abbrev pub IsVersion : ℕ → Type 0
+IsVersion version = (1 ≤ version) × (version ≤ 2)
+
+-- from the second version on, it rings where the other's event index asks for it (VIRTIO 1.1 section 2.6.7)
+abbrev pub has_events : Sizes → Bool
+has_events q = nat_le 2 q.version
 
 -- Places are bytes from the start of the section. The descriptors of a queue of n stand first and have 16 bytes each;
 -- after them stands the available ring
@@ -54,8 +63,9 @@ slot_of q = up64 (18 + q.mtu)
 unfoldable pub limit_of : Sizes → ℕ
 limit_of q = min (size_of q) (room_of q / slot_of q)
 
--- the sizes of a queue: a queue size fits, and the data area has a slot
+-- the sizes of a queue: the version is known, a queue size fits, and the data area has a slot
 pub record IsQueue (q : Sizes) : Type 0 where
+  pub known : IsVersion q.version
   pub mtu_least : 256 ≤ q.mtu
   pub mtu_most : q.mtu ≤ 65535
   pub section : q.out ≤ 2 ^ 24

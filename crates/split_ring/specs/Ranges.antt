@@ -1,6 +1,6 @@
 -- The values that a peer takes from the fields that the other one writes, one definition a field.
 -- Source: VIRTIO 1.1 section 2.6 for the fields; profile for the ranges.
-use Rattle.std.specs.Prelude.{◌≡◌, ℕ, ◌+◌, ◌-◌, ◌%◌, ◌<◌, ◌≤◌}
+use Rattle.std.specs.Prelude.{◌≡◌, ℕ, ◌+◌, ◌-◌, ◌%◌, ◌<◌, ◌≤◌, nat_lt, Bool}
 use Rattle.ivs_base.specs.Numbers.{distance}
 use Rattle.split_ring.specs.Layout.{Sizes, size_of, payload_of}
 
@@ -33,5 +33,5 @@ abbrev pub IsUsedId : (expected id : ℕ) → Type 0
 IsUsedId expected id = id ≡ expected
 
 -- the other peer asked for a notification as the index went from old to new (VIRTIO 1.1 section 2.6.7.2)
-abbrev pub NeedsEvent : (event new old : ℕ) → Type 0
-NeedsEvent event new old = (new + 65536 - event - 1) % 65536 < distance old new
+abbrev pub needs_event : (event new old : ℕ) → Bool
+needs_event event new old = nat_lt ((new + 65536 - event - 1) % 65536) (distance old new)

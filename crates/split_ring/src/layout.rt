@@ -1,6 +1,6 @@
 //! Where the fields of an output section stand.
-ghost use Rattle.std.specs.Prelude.{◌≡◌, ◌+◌, ◌*◌, ◌/◌, ◌%◌, ◌<◌, ◌≤◌, ◌^◌, IfOk, IfErr};
-ghost use Rattle.split_ring.specs.Layout.{used_place, ring_part, queue_size, Sizes, size_of, payload_of, slot_of, limit_of, IsQueue, HasBounds, word_place, Address, AvailableIndex, Entry, UsedEvent, UsedIndex, Id, AvailableEvent, QueueSizeIsGreatest, QueuesAreLaidOut};
+ghost use Rattle.std.specs.Prelude.{◌≡◌, ◌+◌, ◌*◌, ◌/◌, ◌%◌, ◌<◌, ◌≤◌, ◌^◌, nat_le, IfOk, IfErr};
+ghost use Rattle.split_ring.specs.Layout.{used_place, ring_part, queue_size, Sizes, IsVersion, has_events, size_of, payload_of, room_of, slot_of, limit_of, IsQueue, HasBounds, word_place, Address, AvailableIndex, Entry, UsedEvent, UsedIndex, Id, AvailableEvent, QueueSizeIsGreatest, QueuesAreLaidOut};
 ghost use Rattle.split_ring.specs.Faults.{IsQueueFault};
 
 use crate::QueueFault;
@@ -10,12 +10,13 @@ use std::marker::Model;
 /// The queue sizes, the greatest first.
 const SIZES: [u32; 7] = [4096, 2048, 1024, 512, 256, 128, 64];
 
-/// The queue of a link: for the bytes of an output section and the MTU, its size and the place of each field.
+/// The queue of a link: for its version, the bytes of an output section and the MTU, its size and the place of each field.
 ///
-/// A contract sees the two sizes, and each number is a function of them (`specs/Layout`). Both sections of a link
+/// A contract sees these three numbers, and each other number is a function of them (`specs/Layout`). Both sections of a link
 /// have this layout. Words are numbered from the start of the section.
 #[derive(Clone, Copy, Debug, PartialEq, Eq)]
 pub struct Queue {
+    version: u32,
     out: u32,
     mtu: u32,
     size: u32,
@@ -40,14 +41,24 @@ impl Model for Queue {
 }
 
 impl Queue {
-    /// The queue of sections of `out` bytes for frames of at most `mtu` bytes and 18 more.
+    /// The queue of a link of version 1, in sections of `out` bytes, for frames of at most `mtu` bytes and 18 more.
     ///
     /// The first test that fails is the error: BadMtu where the MTU isn't 256 to 65,535, TooSmall where no queue
     /// size fits the section, NoSlot where the data area is shorter than a slot.
     pub fn of(out: u64, mtu: u32) -> Result<Queue, QueueFault>
         requires { out ≤ 2 ^ 24 }
-        ensures queue { IfOk result (λ q. (q ≡ record { out = out; mtu = mtu }) × IsQueue q) }
-        ensures fault { IfErr result (IsQueueFault (record { out = out; mtu = mtu })) }
+        ensures queue { IfOk result (λ q. (q ≡ record { version = 1; out = out; mtu = mtu }) × IsQueue q) }
+        ensures fault { IfErr result (IsQueueFault (record { version = 1; out = out; mtu = mtu })) }
+    {
+        Queue::of_version(1, out, mtu)
+    }
+
+    /// The same for a link of this version. From version 2 on a peer rings where the other's event index asks for it.
+    pub fn of_version(version: u32, out: u64, mtu: u32) -> Result<Queue, QueueFault>
+        requires known { IsVersion version }
+        requires section { out ≤ 2 ^ 24 }
+        ensures queue { IfOk result (λ q. (q ≡ record { version = version; out = out; mtu = mtu }) × IsQueue q) }
+        ensures fault { IfErr result (IsQueueFault (record { version = version; out = out; mtu = mtu })) }
     {
         if !(256..=65_535).contains(&mtu) {
             return Err(QueueFault::BadMtu(mtu));
@@ -66,6 +77,7 @@ impl Queue {
             });
         }
         Ok(Queue {
+            version,
             out,
             mtu,
             size,
@@ -74,6 +86,21 @@ impl Queue {
             slot,
             limit: size.min(room / slot),
         })
+    }
+
+    /// The version of the link.
+    pub fn version(&self) -> u32
+        ensures value { result ≡ self.now.version }
+        ensures queue { IsQueue self.now }
+    {
+        self.version
+    }
+
+    /// Whether a peer tells from which frame on it wants a doorbell, and rings where the other asks for it.
+    pub fn has_events(&self) -> bool
+        ensures { result ≡ has_events self.now }
+    {
+        self.version >= 2
     }
 
     /// The number of descriptors, of available entries and of used elements.
@@ -123,6 +150,14 @@ impl Queue {
         ensures bounds { HasBounds self.now }
     {
         self.payload
+    }
+
+    /// The bytes of the data area.
+    pub fn room(&self) -> u32
+        ensures value { result ≡ room_of self.now }
+        ensures queue { IsQueue self.now }
+    {
+        self.out - self.payload
     }
 
     /// The first of the four words of descriptor `i`: the address's two, the length, then flags and next.

@@ -1,7 +1,7 @@
 //! What a peer takes from the fields that the other one writes.
 ghost use Rattle.std.specs.Prelude.{◌≡◌, ◌↔◌, IsTrue, IfOk, IfErr, OnOk};
 ghost use Rattle.ivs_base.specs.Numbers.{distance};
-ghost use Rattle.split_ring.specs.Ranges.{IsAvailIndex, IsAvailEntry, IsDescAddress, IsDescLength, IsDescFlags, IsUsedIndex, IsUsedId, NeedsEvent};
+ghost use Rattle.split_ring.specs.Ranges.{IsAvailIndex, IsAvailEntry, IsDescAddress, IsDescLength, IsDescFlags, IsUsedIndex, IsUsedId, needs_event};
 
 use crate::Queue;
 use ivs_base::distance;
@@ -136,7 +136,7 @@ impl Queue {
 
 /// Whether the other peer asked, by its event index, for a notification as the own index went from `old` to `new`.
 pub fn need_event(event: u16, new: u16, old: u16) -> bool
-    ensures { IsTrue result ↔ NeedsEvent event new old }
+    ensures { result ≡ needs_event event new old }
 {
     distance(event, new).wrapping_sub(1) < distance(old, new)
 }

@@ -24,6 +24,22 @@ pub enum Access {
     Nothing,
 }
 
+/// What the word of an access is to the order of memory: an index publishes what was written before it, and an event is set against an
+/// index of the other side.
+#[derive(Clone, Copy, Debug, PartialEq, Eq)]
+pub enum WordKind {
+    /// Any other word, or no word of a section.
+    Plain,
+    /// An index of the other side is read.
+    IndexRead,
+    /// An own index is written.
+    IndexWrite,
+    /// The event of the other side is read.
+    EventRead,
+    /// The own event is written.
+    EventWrite,
+}
+
 /// What an engine notes after a step.
 #[derive(Clone, Copy, Debug, PartialEq, Eq, Default)]
 pub enum Note {

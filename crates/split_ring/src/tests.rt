@@ -41,6 +41,22 @@ fn geometry_and_queue(rt: HostRuntime) {
     );
 }
 
+#[test]
+fn versions(rt: HostRuntime) {
+    let first = example(&rt);
+    assert_eq!(rt; first.version(), 1);
+    assert!(rt; !first.has_events());
+    assert_eq!(rt; first.room(), 14_592);
+    let second = Queue::of_version(2, 520_192, 256).expect(&rt, "a queue");
+    assert_eq!(rt; second.version(), 2);
+    assert!(rt; second.has_events());
+    assert_eq!(rt; second.room(), 466_816);
+    assert_eq!(rt;
+        Queue::of_version(2, 16_384, 255).err(),
+        Some(QueueFault::BadMtu(255))
+    );
+}
+
 /// The queue size, the used ring's place, the ring part and the data area of a section.
 fn layout_is(rt: &impl Abort, out: u64, mtu: u32, want: (u32, u32, u32, u32))
     requires { out ≤ 2 ^ 24 }

@@ -19,7 +19,7 @@ use Rattle.call_grammar.specs.Places as laws
 use Rattle.frame_slots.specs.Turns.{Turn, slot_at, oldest_of}
 use Rattle.call_grammar.proofs.OfferLists.{yes, no, within_test}
 use Rattle.tx_engine.specs.declared.place.Place.{Place}
-use Rattle.tx_engine.specs.declared.place.Place.TheVariants.{Closed, Refusing, AtUsedIndex, AtUsedId, Filling, WritingLow, WritingHigh, WritingLength, WritingFlags, WritingEntry, WritingIndex, Ringing}
+use Rattle.tx_engine.specs.declared.place.Place.TheVariants.{Closed, Refusing, AtUsedIndex, AtUsedId, Filling, WritingLow, WritingHigh, WritingLength, WritingFlags, WritingEntry, WritingIndex, AtEvent, Ringing}
 use Rattle.tx_engine.specs.Sender.{Sender, IsSender}
 use Rattle.tx_engine.specs.Reads.{GoesOn}
 use Rattle.tx_engine.specs.Stands.{Counts, IsAt, IsMadeFor, Takes}
@@ -135,6 +135,7 @@ full_keeps end frame (WritingLength slot) = refl
 full_keeps end frame (WritingFlags slot) = refl
 full_keeps end frame (WritingEntry slot) = refl
 full_keeps end frame WritingIndex = refl
+full_keeps end frame AtEvent = refl
 full_keeps end frame Ringing = refl
 
 -- the notes after the used index are its marks
@@ -224,4 +225,5 @@ open_notes (WritingLength slot) still = refl
 open_notes (WritingFlags slot) still = refl
 open_notes (WritingEntry slot) still = refl
 open_notes WritingIndex still = refl
+open_notes AtEvent still = refl
 open_notes Ringing still = refl

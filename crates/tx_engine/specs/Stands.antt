@@ -13,7 +13,7 @@ use Rattle.call_grammar.specs.Places as laws
 use Rattle.frame_slots.specs.declared.slots.Slot as slots
 use Rattle.frame_slots.specs.Turns.{slot_at}
 use Rattle.tx_engine.specs.declared.place.Place.{Place}
-use Rattle.tx_engine.specs.declared.place.Place.TheVariants.{Closed, Refusing, AtUsedIndex, AtUsedId, Filling, WritingLow, WritingHigh, WritingLength, WritingFlags, WritingEntry, WritingIndex, Ringing}
+use Rattle.tx_engine.specs.declared.place.Place.TheVariants.{Closed, Refusing, AtUsedIndex, AtUsedId, Filling, WritingLow, WritingHigh, WritingLength, WritingFlags, WritingEntry, WritingIndex, AtEvent, Ringing}
 use Rattle.tx_engine.specs.Sender.{Sender, IsSender, is_open}
 
 -- the sender was made for this peer: its numbers that never change are the peer's
@@ -69,6 +69,8 @@ IsAt (WritingEntry slot) tx who end place = (place ≡ laws.WritingEntry (job_of
 IsAt WritingIndex tx who end place =
     (beside : ℕ) × (place ≡ laws.WritingIndex (record { frame = tx.frame; number = length end.accepted; beside = beside })) ×
     CountsPlaced tx who end
+IsAt AtEvent tx who end place =
+    (number : ℕ) × (place ≡ laws.AtEvent number) × (number + 1 ≡ length end.accepted) × Counts tx who end end.freed
 IsAt Ringing tx who end place = (place ≡ laws.RingingOffer) × Counts tx who end end.freed
 
 -- the sender stands for this end of this peer, at this place of its open call

@@ -7,7 +7,8 @@ use frame_slots::{Slot, Slots};
 /// The place in the open offer: what its next step is. A slot is that of the frame in hand.
 ///
 /// The index comes after the words, the descriptor and the entry, since the other end reads these once it has seen the index; the
-/// doorbell comes last, since it calls for a look at the index.
+/// doorbell comes last, since it calls for a look at the index, and the other's event is read after the index was written, since the
+/// other writes its event before it looks at the index again.
 #[derive(Clone, Copy, Debug)]
 pub enum Place {
     /// No offer is open.
@@ -42,6 +43,8 @@ pub enum Place {
     WritingEntry(Slot),
     /// Before the write of the index.
     WritingIndex,
+    /// Before the read of the other's event, in a link with events.
+    AtEvent,
     /// Before the doorbell.
     Ringing,
 }

@@ -8,7 +8,7 @@ ghost use Rattle.call_grammar.specs.Places as laws;
 ghost use Rattle.call_grammar.specs.Reach.{HasSections, InReach};
 ghost use Rattle.call_grammar.specs.Words.{words_for, frame_word, word_bytes};
 ghost use Rattle.call_grammar.specs.Stretches.{Each, WritesOn};
-ghost use Rattle.call_grammar.specs.Orders.{is_index};
+ghost use Rattle.call_grammar.specs.Orders.{word_kind};
 ghost use Rattle.link_handshake.specs.declared.Phase.TheVariants.{Run};
 ghost use Rattle.tx_engine.specs.Sender.{IsSender, fresh_sender, is_open, writes_ahead, IsFrame, IsPlace, IsInReach, entry_word_of};
 ghost use Rattle.tx_engine.specs.Stands.{StandsAt, Takes, TakesOn, IsMadeFor, IsFreshSession, ClosedStays};
@@ -16,8 +16,8 @@ ghost use Rattle.tx_engine.specs.Stands.{StandsAt, Takes, TakesOn, IsMadeFor, Is
 use crate::place::{Place, describing, filling, offer_after_ids};
 use frame_slots::{Slot, Slots};
 use ivs_base::{NoMemory, plus, word_of};
-use split_ring::steps::{Access, Note, Notes, leaving, left, noted, refusal};
-use split_ring::{Queue, Refused};
+use split_ring::steps::{Access, Note, Notes, WordKind, leaving, left, noted, refusal};
+use split_ring::{Queue, Refused, need_event};
 use std::alloc::Global;
 use std::marker::Model;
 
@@ -104,7 +104,8 @@ impl Tx {
 
     /// The frame of the open offer, or of the last one since `reset`.
     pub fn frame(&self) -> &[u8]
-        ensures { result.now ≡ self.now.frame }
+        ensures value { result.now ≡ self.now.frame }
+        ensures most { length result.now ≤ self.now.sizes.mtu + 18 }
     {
         &self.buffer[..self.length as usize]
     }
@@ -119,6 +120,17 @@ impl Tx {
     {
         put_first(&mut self.buffer, frame);
         self.length = frame.len() as u32;
+        self.place = Place::AtUsedIndex;
+    }
+
+    /// Opens an offer of the frame of the last one since `reset` again, which isn't copied. The end is in RUN.
+    pub fn begin_again(&mut self)
+        requires closed { is_open self.old.place ≡ false }
+        requires some { 14 ≤ length self.old.frame }
+        ensures stands { (who : Who) (end : End) → StandsAt self.old who end laws.Closed → end.handshake.phase ≡ Run →
+            StandsAt self.new who end (laws.first_place who end (Offer self.old.frame)) }
+        ensures value { self.new ≡ record self.old { place = Place.AtUsedIndex } }
+    {
         self.place = Place::AtUsedIndex;
     }
 
@@ -152,6 +164,7 @@ impl Tx {
                 let index = u32::from(plus(self.accepted, 1));
                 self.write(queue.avail_word(), 65_536 * index)
             }
+            Place::AtEvent => self.read(queue.avail_event_word()),
             Place::Ringing => Access::Ring {
                 target: self.target,
                 vector: self.vector,
@@ -176,17 +189,23 @@ impl Tx {
             Place::WritingFlags(slot) => self.go_on(Place::WritingEntry(slot)),
             Place::WritingEntry(slot) => self.wrote_entry(slot),
             Place::WritingIndex => self.wrote_index(),
+            Place::AtEvent => self.took_event(value),
             Place::Ringing => self.end(),
             Place::Refusing => self.end(),
             Place::Closed => unreachable!(),
         }
     }
 
-    /// Is the next access that of an index word?
-    pub fn at_index(&self) -> bool
-        ensures { (who : Who) (end : End) (place : laws.Place) → StandsAt self.now who end place → result ≡ is_index place }
+    /// What the word of the next access is to the order of memory.
+    pub fn word_kind(&self) -> WordKind
+        ensures { (who : Who) (end : End) (place : laws.Place) → StandsAt self.now who end place → result ≡ word_kind place }
     {
-        matches!(self.place, Place::AtUsedIndex | Place::WritingIndex)
+        match self.place {
+            Place::AtUsedIndex => WordKind::IndexRead,
+            Place::WritingIndex => WordKind::IndexWrite,
+            Place::AtEvent => WordKind::EventRead,
+            _ => WordKind::Plain,
+        }
     }
 
     /// How many of the coming accesses write the words of the frame, or those of its descriptor, each the next word and with no note;
@@ -330,8 +349,26 @@ impl Tx {
         ensures { (value : ℕ) → Takes self.old value result.items self.new }
     {
         self.accepted = plus(self.accepted, 1);
-        self.place = Place::Ringing;
+        self.place = if self.queue.has_events() {
+            Place::AtEvent
+        } else {
+            Place::Ringing
+        };
         noted(Note::Accept)
+    }
+
+    /// Takes the other's event: the doorbell comes next where it asks for the frame that was accepted just now.
+    fn took_event(&mut self, value: u32) -> Notes
+        requires { self.old.place ≡ Place.AtEvent }
+        ensures { Takes self.old value result.items self.new }
+    {
+        let event = (value % 65_536) as u16;
+        let before = self.accepted.wrapping_sub(1);
+        if need_event(event, self.accepted, before) {
+            self.go_on(Place::Ringing)
+        } else {
+            self.end()
+        }
     }
 
     /// Ends the offer.

@@ -1,8 +1,7 @@
 use Rattle.std.proofs.Common.{subst, ap, sym, ◌∙◌}
-use Rattle.call_grammar.specs.Orders.{is_index}
 use Rattle.link_endpoint.specs.Stands.{StandsAt}
 use Rattle.link_endpoint.specs.Kept.{seen}
-use Rattle.link_endpoint.specs.Orders.{step_order}
+use Rattle.link_endpoint.specs.Orders.{order_of}
 use Rattle.link_endpoint.specs.declared.place.Place.TheVariants.{Offering, Polling}
 use Rattle.link_endpoint.proofs.Opening.{at_place}
 use Rattle.link_endpoint.proofs.Going.{offer_at, poll_at}
@@ -13,12 +12,10 @@ pub returns-in-Offering : goal.returns-in-Offering
 returns-in-Offering c = λ who end place stands.
     let inside = subst (λ e. StandsAt e who end place) (sym c.self.view_is) stands in
     let at = at_place Offering (seen c.self.inside) who end place c.in-Offering.is inside in
-    c.step_order.ensures ∙ ap (λ i. step_order i c.next.result) (c.at_index.ensures who end place at.1) ∙ ap (step_order (is_index place)) (c.next.ensures.access who end place at.1)
-    ∙ offer_order who place (offer_at c.self.inside.tx who end place at.1 at.0)
+    c.order_of.ensures ∙ ap order_of (c.word_kind.ensures who end place at.1) ∙ offer_order place (offer_at c.self.inside.tx who end place at.1 at.0)
 
 pub returns-in-Polling : goal.returns-in-Polling
 returns-in-Polling c = λ who end place stands.
     let inside = subst (λ e. StandsAt e who end place) (sym c.self.view_is) stands in
     let at = at_place Polling (seen c.self.inside) who end place c.in-Polling.is inside in
-    c.step_order-in-Polling.ensures ∙ ap (λ i. step_order i c.next-in-Polling.result) (c.at_index-in-Polling.ensures who end place at.2) ∙ ap (step_order (is_index place)) (c.next-in-Polling.ensures.access who end place at.2)
-    ∙ poll_order who place (poll_at c.self.inside.rx who end place at.2 at.0)
+    c.order_of-in-Polling.ensures ∙ ap order_of (c.word_kind-in-Polling.ensures who end place at.2) ∙ poll_order place (poll_at c.self.inside.rx who end place at.2 at.0)

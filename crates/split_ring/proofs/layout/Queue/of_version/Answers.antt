@@ -2,7 +2,7 @@ use Rattle.std.proofs.Common.{◌+◌, sym, ap, ◌∙◌, arith, rules}
 use Rattle.ivs_base.specs.Numbers.{up64}
 use Rattle.split_ring.proofs.QueueSizes.{found}
 use Rattle.split_ring.proofs.Keeps.{kept}
-use Rattle.split_ring.proofs.layout.Queue.of.Goals as goal
+use Rattle.split_ring.proofs.layout.Queue.of_version.Goals as goal
 
 pub ring_part-payload-requires : goal.ring_part-payload-requires
 ring_part-payload-requires c = (found c.args.out c.in-Some.size (sym c.in-Some.ensures)).most
@@ -17,6 +17,6 @@ used_place-requires c = (found c.args.out c.in-Some.size (sym c.in-Some.ensures)
 
 pub invariant_of-result : goal.invariant_of-result
 invariant_of-result c =
-    kept c.args.out c.args.mtu c.in-Some.size c.used_place.result c.ring_part-payload.result c.up64-slot.result c.min.result
-    (sym c.in-Some.ensures) (search rules) (search rules) c.requires
+    kept c.args.version c.args.out c.args.mtu c.in-Some.size c.used_place.result c.ring_part-payload.result c.up64-slot.result c.min.result
+    c.requires.known (sym c.in-Some.ensures) (search rules) (search rules) c.requires.section
     c.used_place.ensures c.ring_part-payload.ensures (c.up64-slot.ensures.value ∙ ap (λ m. up64 (18 + m)) c.from.ensures) c.if-room-slot.false c.min.ensures

@@ -14,6 +14,7 @@ use Rattle.call_grammar.specs.Steps.{Mark}
 use Rattle.call_grammar.specs.Ends.{End, stated}
 use Rattle.call_grammar.specs.Rows.{MovesTo}
 use Rattle.call_grammar.specs.Calls.{Who, Call, Tick, Stop, Offer, Poll, in_run, job_of}
+use Rattle.call_grammar.specs.Polls.{is_last}
 use Rattle.call_grammar.specs.Places.{Place, Closed, Setting, AtUsedIndex, AtAvailIndex, Downed, first_place, access_at, marks_at, is_open}
 use Rattle.call_grammar.specs.Automatic.{Round, Anew, AfterOffer, AfterPoll, Choice, ChoosesTick, ChoosesOffer, ChoosesPoll, IsFinished, choice_of, in_phase}
 use Rattle.link_machine.specs.LinkMachine.{Side}
@@ -31,7 +32,7 @@ use Rattle.frame_bridge.proofs.Steps.{accepted_by, heads_on, counts_on, noted_ac
 pub is_ground : IsGround ground
 unfolding queue_size
 is_ground = record {
-  queue = record { mtu_least = omega arith; mtu_most = omega arith; section = omega arith; fits = refl; one_slot = omega arith };
+  queue = record { known = (omega arith, omega arith); mtu_least = omega arith; mtu_most = omega arith; section = omega arith; fits = refl; one_slot = omega arith };
   words = refl;
   first = omega arith;
 }
@@ -141,7 +142,7 @@ no_head who end Tick frames first = λ frame is. absurd (cc)
 no_head who end Stop frames first = λ frame is. absurd (cc)
 no_head who end Poll frames first = λ frame is. absurd (polls (in_run end.handshake.phase) frame is)
   where
-    polls : (b : Bool) (frame : List ℕ) → job_frame (if b then AtAvailIndex (length end.delivered) else Downed) ≡ Some frame → ⊥
+    polls : (b : Bool) (frame : List ℕ) → job_frame (if b then AtAvailIndex (length end.delivered) (is_last who end.found_none) else Downed) ≡ Some frame → ⊥
     polls true frame is = cc
     polls false frame is = cc
 no_head who end (Offer offer) frames first = λ frame is. offers (in_run end.handshake.phase) frame is

@@ -2,7 +2,7 @@
 use Rattle.std.proofs.Common.{◌≡◌, ℕ, zero, suc, ◌+◌, Bool, true, false, List, [], ◌∷◌, ◌++◌, length, drop, refl, sym, ap, ◌∙◌, append_assoc, inl, inr, ◌-◌, eqb-true}
 use Rattle.std.specs.Prelude.{◌⊎◌, ◌==◌, nat_le, if◌then◌else◌, Some, None}
 use Rattle.std.proofs.lemmas.List.{append-nil}
-use Rattle.split_ring.specs.Layout.{size_of, limit_of}
+use Rattle.split_ring.specs.Layout.{has_events, size_of, limit_of}
 use Rattle.split_ring.specs.Spelling.{low_half}
 use Rattle.link_handshake.specs.declared.Move.{Move}
 use Rattle.link_handshake.specs.declared.Move.TheVariants.{Stay, Set, ClearThenSet}
@@ -12,9 +12,9 @@ use Rattle.call_grammar.specs.Ends.{End, stated, noted, noted_all}
 use Rattle.call_grammar.specs.Words.{words_for, address_of}
 use Rattle.call_grammar.specs.Calls.{Who}
 use Rattle.call_grammar.specs.Ticks.{tick_marks}
-use Rattle.call_grammar.specs.Offers.{Job, descriptor_of, full_marks, reclaim_marks, returned_by}
+use Rattle.call_grammar.specs.Offers.{Job, descriptor_of, asks_for, full_marks, reclaim_marks, returned_by}
 use Rattle.call_grammar.specs.Polls.{is_entry, is_address, is_length, entry_in, look_marks, published_by}
-use Rattle.call_grammar.specs.Places.{Place, Closed, AtState, Clearing, Setting, Refusing, Downed, AtUsedIndex, AtUsedId, Filling, WritingLow, WritingHigh, WritingLength, WritingFlags, WritingEntry, WritingIndex, RingingOffer, AtAvailIndex, AtEntry, AtLow, AtHigh, AtLength, AtFlags, AtWord, GivingId, GivingLength, GivingIndex, RingingPoll, clear_place, tick_place, fill_place, ids_place, items_place, words_place, access_at, marks_at, next_place}
+use Rattle.call_grammar.specs.Places.{Place, Closed, AtState, Clearing, Setting, Refusing, Downed, AtUsedIndex, AtUsedId, Filling, WritingLow, WritingHigh, WritingLength, WritingFlags, WritingEntry, WritingIndex, AtEvent, RingingOffer, AtAvailIndex, Arming, AtEntry, AtLow, AtHigh, AtLength, AtFlags, AtWord, GivingId, GivingLength, GivingIndex, RingingPoll, clear_place, tick_place, fill_place, ids_place, tell_place, none_place, items_place, words_place, access_at, marks_at, next_place}
 use Rattle.frame_bridge.specs.Links.{left_after, delivered_by}
 use Rattle.frame_bridge.specs.Keeps.{job_frame, HeadIs}
 
@@ -51,8 +51,8 @@ full_silent who job freed = if_silent (job.number == freed + limit_of who.sizes)
 reclaim_silent : (who : Who) (job : Job) (freed count : ℕ) → accepted_by (reclaim_marks who job freed count) ≡ []
 reclaim_silent who job freed count = if_silent (count == 0) _ _ (full_silent who job freed) refl
 
-look_silent : (count : ℕ) → accepted_by (look_marks count) ≡ []
-look_silent count = if_silent (count == 0) _ _ refl refl
+look_silent : (last : Bool) (count : ℕ) → accepted_by (look_marks last count) ≡ []
+look_silent last count = if_silent (count == 0) _ _ (if_silent last _ _ refl refl) refl
 
 -- no other place accepts a frame
 silent : (who : Who) (place : Place) (value : ℕ) → is_publishing place ≡ false → accepted_by (marks_at who place value) ≡ []
@@ -62,7 +62,8 @@ silent who (AtUsedIndex job freed) value is =
     if_silent (nat_le (returned_by freed value) (job.number - freed)) _ _ (reclaim_silent who job freed (returned_by freed value)) refl
 silent who (AtUsedId job freed more) value is =
     if_silent (value == descriptor_of who freed) _ _ (if_silent (more == 0) _ _ (full_silent who job (freed + 1)) refl) refl
-silent who (AtAvailIndex taken) value is = if_silent (nat_le (published_by taken value) (size_of who.sizes)) _ _ (look_silent (published_by taken value)) refl
+silent who (AtEvent number) value is = if_silent (asks_for (low_half value) number) _ _ refl refl
+silent who (AtAvailIndex taken last) value is = if_silent (nat_le (published_by taken value) (size_of who.sizes)) _ _ (look_silent last (published_by taken value)) refl
 silent who (AtEntry number more) value is = if_silent (is_entry who.sizes (entry_in who number value)) _ _ refl refl
 silent who (AtHigh number more entry low) value is = if_silent (is_address who.sizes (address_of low value)) _ _ refl refl
 silent who (AtLength number more entry address) value is = if_silent (is_length who.sizes address value) _ _ refl refl
@@ -88,6 +89,17 @@ tick_none : (who : Who) (move : Move) → job_frame (tick_place who move) ≡ No
 tick_none who Stay = refl
 tick_none who (Set state) = refl
 tick_none who (ClearThenSet state) = clear_none who.own who.words state
+
+tell_none : (who : Who) (number : ℕ) → job_frame (tell_place who number) ≡ None
+tell_none who number = by_events (has_events who.sizes)
+  where
+    by_events : (b : Bool) → job_frame (if b then AtEvent number else RingingOffer) ≡ None
+    by_events true = refl
+    by_events false = refl
+
+none_none : (taken : ℕ) (last : Bool) → job_frame (none_place taken last) ≡ None
+none_none taken true = refl
+none_none taken false = refl
 
 items_none : (number count : ℕ) → job_frame (items_place number count) ≡ None
 items_none number zero = refl
@@ -126,11 +138,13 @@ goes who (WritingHigh job) value = inr (refl, refl)
 goes who (WritingLength job) value = inr (refl, refl)
 goes who (WritingFlags job) value = inr (refl, refl)
 goes who (WritingEntry job) value = inr (refl, refl)
-goes who (WritingIndex job) value = inl refl
+goes who (WritingIndex job) value = inl (tell_none who job.number)
+goes who (AtEvent number) value = if_goes (AtEvent number) (asks_for (low_half value) number) _ _ (inl refl) (inl refl)
 goes who RingingOffer value = inl refl
-goes who (AtAvailIndex taken) value =
-    if_goes (AtAvailIndex taken) (nat_le (published_by taken value) (size_of who.sizes)) _ _
-    (if_goes (AtAvailIndex taken) (published_by taken value == 0) _ _ (inl refl) (inl (items_none taken (published_by taken value)))) (inl refl)
+goes who (AtAvailIndex taken last) value =
+    if_goes (AtAvailIndex taken last) (nat_le (published_by taken value) (size_of who.sizes)) _ _
+    (if_goes (AtAvailIndex taken last) (published_by taken value == 0) _ _ (inl (none_none taken last)) (inl (items_none taken (published_by taken value)))) (inl refl)
+goes who (Arming taken) value = inl refl
 goes who (AtEntry number more) value = if_goes (AtEntry number more) (is_entry who.sizes (entry_in who number value)) _ _ (inl refl) (inl refl)
 goes who (AtLow number more entry) value = inl refl
 goes who (AtHigh number more entry low) value = if_goes (AtHigh number more entry low) (is_address who.sizes (address_of low value)) _ _ (inl refl) (inl refl)

@@ -16,9 +16,9 @@ use Rattle.call_grammar.specs.Ends.{end_after}
 use Rattle.call_grammar.specs.Words.{address_of}
 use Rattle.call_grammar.specs.Calls.{Who, in_run}
 use Rattle.call_grammar.specs.Ticks.{tick_marks}
-use Rattle.call_grammar.specs.Offers.{descriptor_of, returned_by}
+use Rattle.call_grammar.specs.Offers.{descriptor_of, asks_for, returned_by}
 use Rattle.call_grammar.specs.Polls.{is_entry, is_address, is_length, entry_in, published_by}
-use Rattle.call_grammar.specs.Places.{Place, AtState, AtUsedIndex, AtUsedId, AtAvailIndex, AtEntry, AtHigh, AtLength, AtFlags, AtWord, access_at, marks_at, next_place, step_at, is_open}
+use Rattle.call_grammar.specs.Places.{Place, AtState, AtUsedIndex, AtUsedId, AtEvent, AtAvailIndex, AtEntry, AtHigh, AtLength, AtFlags, AtWord, access_at, marks_at, next_place, step_at, is_open}
 use Rattle.call_grammar.specs.Automatic.{Choice, ChoosesTick, ChoosesOffer, ChoosesPoll, IsFinished}
 use Rattle.ends_pair.specs.Ground.{who_of}
 use Rattle.link_endpoint.specs.Engine.{offered, delivered}
@@ -101,9 +101,10 @@ at_most_one who (AtUsedIndex job freed) value =
 at_most_one who (AtUsedId job freed more) value =
     nothing (marks_at who (AtUsedId job freed more) value)
     (if_none (value == descriptor_of who freed) _ _ (if_none (more == 0) _ _ (if_none (job.number == (freed + 1) + limit_of who.sizes) _ _ refl refl) refl) refl)
-at_most_one who (AtAvailIndex taken) value =
-    nothing (marks_at who (AtAvailIndex taken) value)
-    (if_none (nat_le (published_by taken value) (size_of who.sizes)) _ _ (if_none (published_by taken value == 0) _ _ refl refl) refl)
+at_most_one who (AtEvent number) value = nothing (marks_at who (AtEvent number) value) (if_none (asks_for (low_half value) number) _ _ refl refl)
+at_most_one who (AtAvailIndex taken last) value =
+    nothing (marks_at who (AtAvailIndex taken last) value)
+    (if_none (nat_le (published_by taken value) (size_of who.sizes)) _ _ (if_none (published_by taken value == 0) _ _ (if_none last _ _ refl refl) refl) refl)
 at_most_one who (AtEntry number more) value = nothing (marks_at who (AtEntry number more) value) (if_none (is_entry who.sizes (entry_in who number value)) _ _ refl refl)
 at_most_one who (AtHigh number more entry low) value =
     nothing (marks_at who (AtHigh number more entry low) value) (if_none (is_address who.sizes (address_of low value)) _ _ refl refl)

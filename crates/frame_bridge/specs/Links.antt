@@ -9,9 +9,9 @@ use Rattle.call_grammar.specs.Places.{Place, Closed, first_place, access_at, mar
 use Rattle.call_grammar.specs.Automatic.{Round, Anew, AfterOffer, AfterPoll, Choice, ChoosesTick, ChoosesOffer, ChoosesPoll, IsFinished, choice_of}
 use Rattle.ends_pair.specs.Ground.{Ground, who_of}
 
--- A region of two peers: a State Table of 4,096 bytes, no common section, and sections of 16,384 bytes with a queue for an MTU of 256. Doorbells have vector 1
+-- A region of two peers: a State Table of 4,096 bytes, no common section, and sections of 16,384 bytes with a queue of version 1 for an MTU of 256. Doorbells have vector 1
 abbrev pub ground : Ground
-ground = record { first = 1024; words = 4096; sizes = record { out = 16384; mtu = 256 }; vector = 1 }
+ground = record { first = 1024; words = 4096; sizes = record { version = 1; out = 16384; mtu = 256 }; vector = 1 }
 
 -- how many deliveries each end expects: more than there can be, so none is ever finished
 abbrev pub expected : ℕ

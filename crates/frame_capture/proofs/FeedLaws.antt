@@ -48,7 +48,7 @@ abbrev world_with : List Act → World
 world_with acts = record {
   version = 1;
   geometry = shape_of 2 4096 0 520192;
-  queue = record { out = 520192; mtu = 16384 };
+  queue = record { version = 1; out = 520192; mtu = 16384 };
   wiring = Msix 2;
   honest = true ∷ true ∷ [];
   acts = acts;
@@ -152,7 +152,7 @@ feed_turns peer frames =
 
 -- ---- the scenario
 
-pub least_queue : is_queue (record { out = 520192; mtu = 16384 }) ≡ true
+pub least_queue : is_queue (record { version = 1; out = 520192; mtu = 16384 }) ≡ true
 unfolding is_queue queue_size
 least_queue = refl
 
@@ -175,7 +175,7 @@ feed_is_world peer frames below all few = let turns = feed_turns peer frames in 
   version = refl;
   geometry = has_shape;
   few = omega arith;
-  queue = has_queue _ (omega arith) least_queue;
+  queue = has_queue _ (omega arith, omega arith) (omega arith) least_queue;
   out = refl;
   wiring = (omega arith, omega arith);
   flags = refl;
@@ -184,7 +184,7 @@ feed_is_world peer frames below all few = let turns = feed_turns peer frames in 
 }
 
 -- made of its parts
-pub made_of : (geometry : Shape) (queue : Sizes) (honest : List Bool) (acts : List Act) (peer : ℕ) (frames : List (List ℕ)) → geometry ≡ shape_of 2 4096 0 520192 → queue ≡ record { out = 520192; mtu = 16384 } → honest ≡ true ∷ true ∷ []
+pub made_of : (geometry : Shape) (queue : Sizes) (honest : List Bool) (acts : List Act) (peer : ℕ) (frames : List (List ℕ)) → geometry ≡ shape_of 2 4096 0 520192 → queue ≡ record { version = 1; out = 520192; mtu = 16384 } → honest ≡ true ∷ true ∷ []
     → acts ≡ feed_acts peer frames → ◌≡◌ {A = World} (record { version = 1; geometry = geometry; queue = queue; wiring = Msix 2; honest = honest; acts = acts }) (feed_world peer frames)
 unfolding feed_world
 made_of geometry queue honest acts peer frames a b c d = cc

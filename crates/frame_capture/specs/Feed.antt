@@ -45,7 +45,7 @@ unfoldable pub feed_world : (peer : ℕ) → List (List ℕ) → World
 feed_world peer frames = record {
   version = 1;
   geometry = shape_of 2 4096 0 520192;
-  queue = record { out = 520192; mtu = 16384 };
+  queue = record { version = 1; out = 520192; mtu = 16384 };
   wiring = Msix 2;
   honest = true ∷ true ∷ [];
   acts = feed_acts peer frames;

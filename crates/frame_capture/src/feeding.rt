@@ -172,7 +172,7 @@ fn region() -> Geometry
 
 /// The queue of such a section.
 fn section() -> Queue
-    ensures { result ≡ record { out = 520192; mtu = 16384 } }
+    ensures { result ≡ record { version = 1; out = 520192; mtu = 16384 } }
 {
     match Queue::of(520_192, 16_384) {
         Ok(queue) => queue,

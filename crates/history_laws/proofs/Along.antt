@@ -33,6 +33,9 @@ use Rattle.history_laws.specs.Rows.{EachLine, KeepsRows, HistoriesRunTheMachine}
 use Rattle.history_laws.proofs.Proper.{ground_of, IsProper, all_proper}
 use Rattle.history_laws.proofs.Stands.{Fine, Stands, ends_alike, device_quiet, Settled, step_quiet, step_brings}
 use Rattle.history_laws.proofs.OwnSteps.{own_reset_stands}
+use Rattle.history_laws.proofs.Armed.{ArmedIs}
+use Rattle.ends_pair.specs.Fields.{AvailEvent}
+use Rattle.ends_pair.specs.Ground.{fields}
 use Rattle.history_laws.proofs.Suits.{Suits, event_suits, starts_suit}
 use Rattle.history_laws.proofs.Turns.{Came, placed, placed_here, placed_beside, turn_stands}
 use Rattle.history_laws.proofs.Others.{after_first, quiet_stands, other_turn_stands, acted_stands, other_reset_stands}
@@ -200,6 +203,8 @@ ran_at_first world = record {
     sides = λ p below honest. subst (λ (x : Peer). SideIs x.end Closed fresh_side) (sym (start p)) follow_lem.starts;
     states = λ p below. refl;
     reads = λ p below honest. refl;
+    unrung = λ p below honest. λ unrung. unrung;
+    armed = λ has p below honest. subst (λ (x : Peer). ArmedIs (fields (ground_of world) (λ at. 0) p AvailEvent) x.end Closed) (sym (start p)) (λ ready. cc, λ run none. cc);
     settled = tt;
     fine = tt;
   };

@@ -1,5 +1,5 @@
 -- A read out of range is refused on its step.
-use Rattle.std.proofs.Common.{◌≡◌, ◌≢◌, ℕ, ◌+◌, ◌-◌, ◌/◌, ◌%◌, ◌<◌, ◌≤◌, false, List, [], ◌∷◌, ◌++◌, length, refl, sym, ◌∙◌, ap, subst, arith}
+use Rattle.std.proofs.Common.{◌≡◌, ◌≢◌, ℕ, ◌+◌, ◌-◌, ◌/◌, ◌%◌, ◌<◌, ◌≤◌, Bool, false, List, [], ◌∷◌, ◌++◌, length, refl, sym, ◌∙◌, ap, subst, arith}
 use mathlib.Core.Logic.{dite}
 use native.Mathlib.Decide.{dec_lt}
 use Rattle.std.specs.Prelude.{◌==◌, nat_le, if◌then◌else◌}
@@ -8,7 +8,7 @@ use Rattle.std.proofs.lemmas.Nat.{mod_below}
 use Rattle.split_ring.specs.declared.ranges.FieldName.{FieldName}
 use Rattle.split_ring.specs.declared.ranges.FieldName.TheVariants as field_name
 use Rattle.split_ring.specs.declared.steps.Access.TheVariants as access
-use Rattle.split_ring.specs.Layout.{size_of, limit_of, payload_of, word_place, Address, Length, Flags, AvailableIndex, Entry, UsedIndex, Id}
+use Rattle.split_ring.specs.Layout.{size_of, limit_of, payload_of, word_place, Address, Length, Flags, AvailableIndex, Entry, UsedIndex, Id, AvailableEvent}
 use Rattle.split_ring.specs.Spelling.{low_half, high_half, entry_half}
 use Rattle.split_ring.specs.Ranges.{IsAvailIndex, IsAvailEntry, IsDescAddress, IsDescLength, IsDescFlags, IsUsedIndex, IsUsedId}
 use Rattle.call_grammar.specs.Steps.{Mark}
@@ -17,7 +17,7 @@ use Rattle.call_grammar.specs.Words.{address_of}
 use Rattle.call_grammar.specs.Calls.{Who}
 use Rattle.call_grammar.specs.Offers.{Job, descriptor_of, entry_of, refusal, returned_by, reclaim_marks, full_marks}
 use Rattle.call_grammar.specs.Polls.{Item, item_entry, item_address, is_entry, is_address, is_length, published_by, look_marks}
-use Rattle.call_grammar.specs.Places.{Place, Closed, AtState, Clearing, Setting, Refusing, Downed, AtUsedIndex, AtUsedId, Filling, WritingLow, WritingHigh, WritingLength, WritingFlags, WritingEntry, WritingIndex, RingingOffer, AtAvailIndex, AtEntry, AtLow, AtHigh, AtLength, AtFlags, AtWord, GivingId, GivingLength, GivingIndex, RingingPoll, access_at, marks_at}
+use Rattle.call_grammar.specs.Places.{Place, Closed, AtState, Clearing, Setting, Refusing, Downed, AtUsedIndex, AtUsedId, Filling, WritingLow, WritingHigh, WritingLength, WritingFlags, WritingEntry, WritingIndex, AtEvent, RingingOffer, AtAvailIndex, Arming, AtEntry, AtLow, AtHigh, AtLength, AtFlags, AtWord, GivingId, GivingLength, GivingIndex, RingingPoll, access_at, marks_at}
 use Rattle.link_machine.specs.LinkMachine.{Side}
 use Rattle.call_grammar.proofs.OfferLists.{no}
 use Rattle.call_grammar.proofs.PollLists.{entry_fails, address_fails, length_fails}
@@ -195,6 +195,16 @@ module _ (who : Who) where
   only_id i low field_name.UsedIndex f = let e = f in absurd (omega arith)
   only_id i low field_name.UsedId f = refl
 
+  no_event : (field : FieldName) → FieldWord who field (who.theirs + word_place who.sizes AvailableEvent) → ⊥
+  unfolding FieldWord
+  no_event field_name.AvailIndex f = let e = f in absurd (omega arith)
+  no_event field_name.AvailEntry f = let s = f.1 in let e = f.2 in absurd (omega arith)
+  no_event field_name.DescAddress f = let s = f.1 in let e = f.2 in absurd (omega arith)
+  no_event field_name.DescLength f = let s = f.1 in let e = f.2 in absurd (omega arith)
+  no_event field_name.DescFlags f = let s = f.1 in let e = f.2 in absurd (omega arith)
+  no_event field_name.UsedIndex f = let e = f in absurd (omega arith)
+  no_event field_name.UsedId f = let s = f.1 in let e = f.2 in absurd (omega arith)
+
   no_word : (a j : ℕ) → payload_of who.sizes ≤ a → (field : FieldName) → FieldWord who field (who.theirs + (a / 4 + j)) → ⊥
   unfolding FieldWord
   no_word a j high field_name.AvailIndex f = let e = f in absurd (omega arith)
@@ -255,16 +265,16 @@ module _ (ground : Ground) (p : ℕ) (memory : ℕ → ℕ) (end : End) (side : 
   number_of : (place : Place) (number : ℕ) → SideIs end place side → number ≡ length end.delivered → number ≡ length side.delivered
   number_of place number si e = e ∙ delivered_number end place side side.delivered si refl
 
-  avail_index_beyond : (taken : ℕ) → Refuses (AtAvailIndex taken)
+  avail_index_beyond : (taken : ℕ) (final : Bool) → Refuses (AtAvailIndex taken final)
   unfolding Refuses Last
-  avail_index_beyond taken f at last there =
+  avail_index_beyond taken final f at last there =
       let who = who_of ground p in
       let count = published_by taken value in
       let only = only_avail_index who field (subst (FieldWord who field) (read_word _ word at) there) in
-      at_field who side reads word value field field_name.AvailIndex refused (marks_at who (AtAvailIndex taken) value) only
-      (λ l. let n = number_of (AtAvailIndex taken) taken f.si f.alone.holds.1 in
+      at_field who side reads word value field field_name.AvailIndex refused (marks_at who (AtAvailIndex taken final) value) only
+      (λ l. let n = number_of (AtAvailIndex taken final) taken f.si f.alone.holds.1 in
       let beyond : ¬ IsAvailIndex ground.sizes (taken % 65536) (high_half value) = subst (λ (k : ℕ). ¬ IsAvailIndex ground.sizes (k % 65536) (high_half value)) (sym n) (subst (λ (r : ℕ). ¬ IsAvailIndex ground.sizes (length side.delivered % 65536) r) l.1 l.2) in
-      refused_as _ field_name.AvailIndex (high_half value) refused (no (nat_le count (size_of ground.sizes)) (look_marks count) (refusal field_name.AvailIndex (high_half value)) (test_fails count (size_of ground.sizes) beyond)) l.1) last
+      refused_as _ field_name.AvailIndex (high_half value) refused (no (nat_le count (size_of ground.sizes)) (look_marks final count) (refusal field_name.AvailIndex (high_half value)) (test_fails count (size_of ground.sizes) beyond)) l.1) last
 
   used_index_beyond : (job : Job) (freed : ℕ) → Refuses (AtUsedIndex job freed)
   unfolding Refuses Last
@@ -381,8 +391,10 @@ module _ (ground : Ground) (p : ℕ) (memory : ℕ → ℕ) (end : End) (side : 
   by_place (WritingFlags job) f e l there = absurd (cc)
   by_place (WritingEntry job) f e l there = absurd (cc)
   by_place (WritingIndex job) f e l there = absurd (cc)
+  by_place (AtEvent number) f e l there = absurd (no_event (who_of ground p) field (subst (FieldWord (who_of ground p) field) (read_word _ word e) there))
   by_place RingingOffer f e l there = absurd (cc)
-  by_place (AtAvailIndex taken) f e l there = avail_index_beyond taken f e l there
+  by_place (AtAvailIndex taken final) f e l there = avail_index_beyond taken final f e l there
+  by_place (Arming taken) f e l there = absurd (cc)
   by_place (AtEntry number more) f e l there = entry_beyond number more f e l there
   by_place (AtLow number more entry) f e l there = low_beyond number more entry f e l there
   by_place (AtHigh number more entry low) f e l there = high_beyond number more entry low f e l there

@@ -1,5 +1,8 @@
 pub mod Proper
 pub mod ReadPlaces
+pub mod MarkLines
+pub mod Unrung
+pub mod Armed
 pub mod Stands
 pub mod Outside
 pub mod Grounds
@@ -22,3 +25,4 @@ pub mod WholeCalls
 pub mod OwnEntries
 pub mod MadeCalls
 pub mod Marking
+pub mod Waking

@@ -8,25 +8,25 @@ use Rattle.split_ring.specs.declared.ranges.FieldName.TheVariants as field_name
 use Rattle.split_ring.specs.declared.steps.Access.{Access}
 use Rattle.split_ring.specs.declared.steps.Access.TheVariants as access
 use Rattle.ivs_base.specs.Numbers.{distance}
-use Rattle.split_ring.specs.Layout.{Field, size_of, limit_of, word_place, AvailableIndex, UsedIndex}
+use Rattle.split_ring.specs.Layout.{Field, has_events, size_of, limit_of, word_place, AvailableIndex, UsedIndex, AvailableEvent}
 use Rattle.split_ring.specs.Spelling.{low_half, high_half, entry_half, Spells}
 use Rattle.split_ring.specs.Ranges.{IsAvailIndex, IsDescLength, IsUsedIndex}
 use Rattle.link_handshake.specs.declared.Move.{Move}
 use Rattle.link_handshake.specs.declared.Move.TheVariants.{Stay, Set, ClearThenSet}
 use Rattle.link_handshake.specs.Standing.{move_of}
 use Rattle.scenario_text.specs.Scenario.{World, IsWorld}
-use Rattle.call_grammar.specs.Steps.{Mark, Reclaim, Full, Look, Done, Deliver}
+use Rattle.call_grammar.specs.Steps.{Mark, Reclaim, Full, Look, Done, Deliver, Over}
 use Rattle.call_grammar.specs.Ends.{End}
 use Rattle.call_grammar.specs.Words.{words_for, address_of, frame_in}
 use Rattle.call_grammar.specs.Ticks.{tick_marks}
 use Rattle.call_grammar.specs.Calls.{Who}
-use Rattle.call_grammar.specs.Offers.{Job, descriptor_of, entry_of, refusal, returned_by, reclaim_marks, full_marks}
+use Rattle.call_grammar.specs.Offers.{Job, descriptor_of, entry_of, refusal, returned_by, reclaim_marks, full_marks, asks_for}
 use Rattle.call_grammar.specs.Polls.{Item, is_entry, is_address, is_length, published_by, look_marks}
-use Rattle.call_grammar.specs.Places.{Place, Closed, AtState, Clearing, Setting, Refusing, Downed, AtUsedIndex, AtUsedId, Filling, WritingLow, WritingHigh, WritingLength, WritingFlags, WritingEntry, WritingIndex, RingingOffer, AtAvailIndex, AtEntry, AtLow, AtHigh, AtLength, AtFlags, AtWord, GivingId, GivingLength, GivingIndex, RingingPoll, access_at, marks_at}
-use Rattle.link_machine.specs.LinkMachine.{Side, Gave}
+use Rattle.call_grammar.specs.Places.{Place, Closed, AtState, Clearing, Setting, Refusing, Downed, AtUsedIndex, AtUsedId, Filling, WritingLow, WritingHigh, WritingLength, WritingFlags, WritingEntry, WritingIndex, AtEvent, RingingOffer, AtAvailIndex, Arming, AtEntry, AtLow, AtHigh, AtLength, AtFlags, AtWord, GivingId, GivingLength, GivingIndex, RingingPoll, access_at, marks_at}
+use Rattle.link_machine.specs.LinkMachine.{Side, Gave, Marked}
 use Rattle.call_grammar.proofs.PollLists.{entry_denies, address_denies, length_denies}
 use Rattle.ends_pair.specs.Ground.{section_of}
-use Rattle.ends_pair.specs.Steps.{Leaves}
+use Rattle.ends_pair.specs.Steps.{Meets, Leaves}
 use Rattle.ends_pair.specs.Alone.{Alone}
 use Rattle.ends_pair.specs.Ground as pair
 use Rattle.ends_pair.specs.Sides.{SideIs}
@@ -35,16 +35,23 @@ use Rattle.lawful_history.specs.declared.line.Line.{Line}
 use Rattle.lawful_history.specs.declared.line.Line.TheVariants as line
 use Rattle.lawful_history.specs.Memory.{last_write}
 use Rattle.lawful_history.specs.Sides.{who_of}
-use Rattle.history_laws.specs.Told.{side_after, side_of}
+use Rattle.history_laws.specs.Told.{Tells, Silent, telling_of, side_after, side_of}
 use Rattle.history_laws.specs.Indexes.{IsLoneRead, IsIndexRead, IsLoneIndex}
 use Rattle.history_laws.specs.Reads.{Got, got, reads_of, IsReadFrame, IsReadBeyond, entry_read}
 use Rattle.history_laws.specs.Spelled.{section_words}
 use Rattle.history_laws.proofs.Proper.{ground_of, is_ground}
 use Rattle.history_laws.proofs.ReadPlaces.{ReadsAre, reads_taken, with_entry_word, high_taken, length_taken, flags_taken, word_taken}
-use Rattle.history_laws.proofs.Stands.{IsQuiet, quiet_lines}
+use Rattle.history_laws.proofs.Stands.{IsQuiet, EndsLook, first_after, quiet_lines}
 use Rattle.history_laws.proofs.Outside.{here_is, section_is}
-use Rattle.history_laws.proofs.StepLines.{MarksRest, after_access, stored_at}
+use Rattle.history_laws.proofs.StepLines.{MarksRest, stored_at}
 use Rattle.history_laws.proofs.Grounds.{who_is}
+use Rattle.history_laws.proofs.MarkLines.{after_access}
+use Rattle.history_laws.proofs.Unrung.{UnrungAt, AreSilent, marked_ends}
+use Rattle.history_laws.proofs.Armed.{ArmedIs}
+use Rattle.ends_pair.specs.Fields.{AvailEvent}
+use Rattle.ends_pair.specs.Ground.{fields}
+use Rattle.ends_pair.proofs.Fields.{field_read}
+use Rattle.history_laws.specs.Wake.{event_word, EventIs}
 
 -- but for a State access the lists and counts of the side stay
 pub record Stays (new old : Side) : Type 0 where
@@ -59,6 +66,21 @@ abbrev pub SideStays : Access → Side → Side → Type 0
 SideStays (access.State state) new old = Unit {0}
 SideStays _ new old = Stays new old
 
+-- after the doorbell of a poll no look is the newest line
+abbrev pub HeadAt : ℕ → Place → List Line → Type 0
+HeadAt p RingingPoll older = ¬ EndsLook p older
+HeadAt p place older = Unit {0}
+
+ends_silent : (p : ℕ) (lines past : List Line) → AreSilent lines → ¬ EndsLook p past → ¬ EndsLook p (reverse lines ++ past)
+ends_silent p [] past silent none = none
+ends_silent p (l ∷ lines) past silent none =
+    let first : ¬ EndsLook p (l ∷ past) = λ look. let told : Silent ≡ Tells p (Marked (Look 0)) = sym silent.0 ∙ ap telling_of look in cc in
+    subst (λ (ls : List Line). ¬ EndsLook p ls) (sym (first_after l lines past)) (ends_silent p lines (l ∷ past) silent.1 first)
+
+pub head_is : (world : World) (p : ℕ) (place : Place) (value : ℕ) (past device : List Line) → AreSilent device → HeadAt p place (reverse device ++ after_access p (access_at (pair.who_of (ground_of world) p) place) value past)
+head_is world p RingingPoll value past device silent = ends_silent p device _ silent (λ look. cc)
+head_is world p place value past device silent = tt
+
 -- what is known after the access of a step, where its marks stand
 pub record AtMarks (world : World) (p : ℕ) (past older : List Line) (place : Place) (value : ℕ) (end : End) : Type 0 where
   pub alone : Alone (ground_of world) (last_write past) p end place
@@ -67,6 +89,10 @@ pub record AtMarks (world : World) (p : ℕ) (past older : List Line) (place : P
   pub left : Leaves p (last_write past) (access_at (pair.who_of (ground_of world) p) place) (last_write older)
   pub stays : SideStays (access_at (pair.who_of (ground_of world) p) place) (side_of older p) (side_of past p)
   pub reads : reads_of older p ≡ reads_taken (access_at (pair.who_of (ground_of world) p) place) value (reads_of past p)
+  pub met : Meets (last_write past) (access_at (pair.who_of (ground_of world) p) place) value
+  pub unrung : UnrungAt world p place older
+  pub armed : has_events world.queue ≡ true → ArmedIs (fields (ground_of world) (last_write past) p AvailEvent) end place
+  pub head : HeadAt p place older
 
 -- the facts of memory, the side and the reads there
 pub record AtAccess (p : ℕ) (past older : List Line) (a : Access) (value : ℕ) : Type 0 where
@@ -108,7 +134,7 @@ by_test world older p true marks others pm po = pm refl
 by_test world older p false marks others pm po = po refl
 
 tick_rest : (world : World) (older : List Line) (p value : ℕ) (move : Move) → MarksRest world older p (tick_marks value move)
-tick_rest world older p value Stay = (tt, (tt, tt))
+tick_rest world older p value Stay = (tt, (λ unrung. absurd (marked_ends world p (line.Saw p value) older refl (λ accept. let e = accept.1 in cc) unrung), tt))
 tick_rest world older p value (Set state) = (tt, tt)
 tick_rest world older p value (ClearThenSet state) = (tt, tt)
 
@@ -216,15 +242,31 @@ module _ (world : World) (p : ℕ) (past older : List Line) (value : ℕ) (end :
         tt,
       )
 
-  avail_index_rest : (taken : ℕ) → AtMarks world p past older (AtAvailIndex taken) value end → MarksRest world older p (marks_at (pair.who_of (ground_of world) p) (AtAvailIndex taken) value)
-  avail_index_rest taken a =
+  -- a poll that is done and found nothing has its event at the next frame
+  done_rest : (taken : ℕ) (last : Bool) → AtMarks world p past older (AtAvailIndex taken last) value end → last ≡ true → taken ≡ length (side_of older p).delivered → has_events world.queue ≡ true →
+      EventIs world (line.Look p 0 ∷ older) p (length (side_of (line.Look p 0 ∷ older) p).delivered)
+  done_rest taken last a final number has =
+      let ground = ground_of world in
+      let stood = subst (λ (b : Bool). ArmedIs (fields ground (last_write past) p AvailEvent) end (AtAvailIndex taken b)) final (a.armed has) in
+      let word = section_of ground p + word_place world.queue AvailableEvent in
+      let event : low_half (last_write past word) ≡ fields ground (last_write past) p AvailEvent = field_read ground (last_write past) p AvailEvent (last_write past word) refl refl in
+      let place : word ≡ event_word world p = ap (λ (s : ℕ). s + word_place world.queue AvailableEvent) (section_is world p) in
+      let side = side_of older p in
+      let looked = ap (λ (x : Side). length x.delivered) (here_is p (side_after (Marked (Look 0)) side) side) in
+      let count : length end.delivered ≡ length (side_of (line.Look p 0 ∷ older) p).delivered = sym a.alone.holds.1 ∙ (number ∙ sym looked) in
+      ap (λ (m : ℕ → ℕ). low_half (m (event_word world p))) a.left ∙ (ap (λ (w : ℕ). low_half (last_write past w)) (sym place) ∙ (event ∙ (stood ∙ ap (λ (k : ℕ). k % 65536) count)))
+
+  avail_index_rest : (taken : ℕ) (last : Bool) → AtMarks world p past older (AtAvailIndex taken last) value end →
+      MarksRest world older p (marks_at (pair.who_of (ground_of world) p) (AtAvailIndex taken last) value)
+  avail_index_rest taken last a =
       let count = published_by taken value in
-      let n = number_is (AtAvailIndex taken) taken a.alone.holds.1 a a.stays in
+      let n = number_is (AtAvailIndex taken last) taken a.alone.holds.1 a a.stays in
       let lone : IsLoneRead (pair.who_of (ground_of world) p) (reads_of older p) AvailableIndex (high_half value) = (value, a.reads ∙ ap (λ (r : List Got). r ++ got ((pair.who_of (ground_of world) p).theirs + word_place world.queue AvailableIndex) value ∷ []) a.were, refl) in
       let read : IsIndexRead (who_of world p) (reads_of older p) AvailableIndex (length (side_of older p).delivered) count = index_rest AvailableIndex (length (side_of older p).delivered) count (high_half value, lone, ap (λ (k : ℕ). distance (k % 65536) (high_half value)) n) in
-      by_test world older p (nat_le count (size_of world.queue)) (look_marks count) (refusal field_name.AvailIndex (high_half value))
-      (λ _. by_test world older p (count == 0) (Look 0 ∷ Done ∷ []) (Look count ∷ [])
-      (λ none. (subst (IsIndexRead (who_of world p) (reads_of older p) AvailableIndex (length (side_of older p).delivered)) (zero_tells count none) read, (tt, tt))) (λ _. (read, tt)))
+      by_test world older p (nat_le count (size_of world.queue)) (look_marks last count) (refusal field_name.AvailIndex (high_half value))
+      (λ _. by_test world older p (count == 0) (if last then Look 0 ∷ Done ∷ [] else Look 0 ∷ []) (Look count ∷ [])
+      (λ none. let found_none = subst (IsIndexRead (who_of world p) (reads_of older p) AvailableIndex (length (side_of older p).delivered)) (zero_tells count none) read in
+      by_test world older p last (Look 0 ∷ Done ∷ []) (Look 0 ∷ []) (λ final. (found_none, (λ has _. done_rest taken last a final n has, tt))) (λ _. (found_none, tt))) (λ _. (read, tt)))
       (λ test. let beyond : ¬ IsAvailIndex world.queue (taken % 65536) (high_half value) = within_denies count (size_of world.queue) test in
       refused_rest field_name.AvailIndex (high_half value) (reads_of past p, value, a.reads, refl, subst (λ (k : ℕ). ¬ IsAvailIndex world.queue (k % 65536) (high_half value)) n beyond) lone)
 
@@ -266,13 +308,24 @@ module _ (world : World) (p : ℕ) (past older : List Line) (value : ℕ) (end :
       (λ test. refused_rest field_name.DescFlags (low_half value)
       (record (r.0) { flags_word = value }, a.reads ∙ flags_taken who number value (reads_of past p) r.0 entry r.1 r.2, r.3, r.5, r.7, refl, nonzero_tells (low_half value) test) tt)
 
+  -- the event that was heard stands there
+  event_rest : (number : ℕ) → AtMarks world p past older (AtEvent number) value end → asks_for (low_half value) number ≡ false →
+      asks_for (low_half (last_write older (event_word world (1 - p)))) (length (side_of older p).accepted - 1) ≡ false
+  event_rest number a test =
+      let heard : value ≡ last_write older (event_word world (1 - p)) =
+      a.met ∙ (ap (λ (w : ℕ). last_write past (w + word_place world.queue AvailableEvent)) (section_is world (1 - p)) ∙ ap (λ (m : ℕ → ℕ). m (event_word world (1 - p))) (sym a.left)) in
+      let count = a.alone.holds.1 in
+      let same = accepted_number end (AtEvent number) (side_of past p) (side_of older p).accepted a.side a.stays.accepted in
+      let last : number ≡ length (side_of older p).accepted - 1 = omega arith in
+      ap (λ (k : ℕ). asks_for (low_half (last_write older (event_word world (1 - p)))) k) (sym last) ∙ (ap (λ (v : ℕ). asks_for (low_half v) number) (sym heard) ∙ test)
+
   -- the marks of the step at each place
   pub marks_rest : (place : Place) → AtMarks world p past older place value end → MarksRest world older p (marks_at (pair.who_of (ground_of world) p) place value)
   marks_rest Closed a = tt
   marks_rest (AtState handshake) a = tick_rest world older p value (move_of handshake value)
   marks_rest (Clearing at more state) a = tt
-  marks_rest (Setting state) a = (tt, tt)
-  marks_rest Refusing a = (tt, tt)
+  marks_rest (Setting state) a = (λ unrung. absurd (a.unrung unrung), tt)
+  marks_rest Refusing a = (λ unrung. absurd (a.unrung unrung), tt)
   marks_rest Downed a = (tt, tt)
   marks_rest (AtUsedIndex job freed) a = used_index_rest job freed a
   marks_rest (AtUsedId job freed more) a =
@@ -287,8 +340,10 @@ module _ (world : World) (p : ℕ) (past older : List Line) (value : ℕ) (end :
   marks_rest (WritingFlags job) a = tt
   marks_rest (WritingEntry job) a = tt
   marks_rest (WritingIndex job) a = accept_rest job a
-  marks_rest RingingOffer a = (tt, tt)
-  marks_rest (AtAvailIndex taken) a = avail_index_rest taken a
+  marks_rest (AtEvent number) a = by_test world older p (asks_for (low_half value) number) [] (Over ∷ []) (λ _. tt) (λ test. (λ _. event_rest number a test, tt))
+  marks_rest RingingOffer a = (λ unrung. absurd (a.unrung unrung), tt)
+  marks_rest (AtAvailIndex taken last) a = avail_index_rest taken last a
+  marks_rest (Arming taken) a = tt
   marks_rest (AtEntry number more) a = by_number (λ k. AtEntry k more) number (number_is (AtEntry number more) number a.alone.holds.1 a a.stays) (λ b. entry_rest more b) a
   marks_rest (AtLow number more entry) a = tt
   marks_rest (AtHigh number more entry low) a = by_number (λ k. AtHigh k more entry low) number (number_is (AtHigh number more entry low) number a.alone.holds.1 a a.stays) (λ b. high_rest more entry low b) a
@@ -299,4 +354,4 @@ module _ (world : World) (p : ℕ) (past older : List Line) (value : ℕ) (end :
   marks_rest (GivingId number more entry) a = tt
   marks_rest (GivingLength number more) a = tt
   marks_rest (GivingIndex number more) a = (tt, tt)
-  marks_rest RingingPoll a = (tt, tt)
+  marks_rest RingingPoll a = (λ has look. absurd (a.head look), tt)

@@ -24,6 +24,7 @@ use Rattle.history_laws.proofs.Proper.{MayAct}
 use Rattle.history_laws.proofs.Stands.{Stands, IsQuiet, Alike, quiet_lines, stands_alike, first_after, answers}
 use Rattle.history_laws.proofs.Outside.{read_stands, write_stands, state_stands, reset_stands}
 use Rattle.history_laws.proofs.Suits.{DriverSuits, Suits}
+use Rattle.history_laws.proofs.Unrung.{line_is}
 
 -- lines of which all but the first are quiet
 pub after_first : (world : World) (line : Line) (lines past : List Line) (ends : ℕ → End) (places : ℕ → Place) → AllByRecursion IsQuiet lines → Stands world (line ∷ past) ends places → Stands world (reverse (line ∷ lines) ++ past) ends places
@@ -92,7 +93,7 @@ write_acted : (world : World) (past device : List Line) (ends : ℕ → End) (pl
     Stands world (reverse (acted_lines p (access.Write word value) (if b then Some (step_of (access.Write word value) 0 []) else None) device) ++ past) ends places
 write_acted world past device ends places p word value true is few no_link quiet law s = other_stands world past device ends places p (access.Write word value) 0 is few no_link quiet law s
 write_acted world past device ends places p word value false is few no_link quiet law s =
-    after_first world (line.Denied p word) device past ends places quiet (silent_stands world (line.Denied p word) past ends places (record { memory = refl; sides = refl; reads = refl; settled = λ settled. tt; fine = λ settled old. ((tt, tt, answers world past (line.Denied p word) settled, tt), old) }) s)
+    after_first world (line.Denied p word) device past ends places quiet (silent_stands world (line.Denied p word) past ends places (record { memory = refl; sides = refl; reads = refl; unrung = λ q place was. line_is world q place (line.Denied p word) past (λ accept. let e = accept.1 in cc) was; settled = λ settled. tt; fine = λ settled old. ((tt, tt, answers world past (line.Denied p word) settled, tt), old) }) s)
 
 pub acted_stands : (world : World) (past device : List Line) (ends : ℕ → End) (places : ℕ → Place) (p : ℕ) (a : Access) → IsWorld world → p < world.geometry.peers → MayAct (is_link world p) a → AllByRecursion IsQuiet device →
     MemoryLaw world.geometry (reverse (acted_lines p a (acted_step world p a past) device) ++ past) → Stands world past ends places → Stands world (reverse (acted_lines p a (acted_step world p a past) device) ++ past) ends places

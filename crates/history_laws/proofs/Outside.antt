@@ -20,6 +20,10 @@ use Rattle.ends_pair.proofs.WholeKept.{whole_kept}
 use Rattle.ends_pair.specs.Ground as pair
 use Rattle.history_laws.specs.Reads.{Got, got, reads_of}
 use Rattle.history_laws.proofs.ReadPlaces.{ReadsAre}
+use Rattle.history_laws.proofs.Unrung.{IsAccept, line_is}
+use Rattle.history_laws.proofs.Armed.{ArmedIs}
+use Rattle.ends_pair.specs.Fields.{AvailEvent}
+use Rattle.ends_pair.proofs.Fields.{fields_same}
 use Rattle.lawful_history.specs.declared.line.Line.{Line}
 use Rattle.lawful_history.specs.declared.line.Line.TheVariants as line
 use Rattle.lawful_history.specs.Memory.{last_write}
@@ -33,6 +37,7 @@ record Outside (world : World) (past : List Line) (line : Line) : Type 0 where
   sides : (q : ℕ) → q < 2 → is_link world q ≡ true → side_of (line ∷ past) q ≡ side_of past q
   states : (q : ℕ) → q < 2 → last_write past q ≡ (side_of past q).state → last_write (line ∷ past) q ≡ (side_of (line ∷ past) q).state
   reads : (q : ℕ) → q < 2 → is_link world q ≡ true → reads_of (line ∷ past) q ≡ reads_of past q
+  accepts : (p : ℕ) → IsAccept p line → ⊥
   settles : Settled world (line ∷ past)
   fine : HasRow world past line (telling_of line) × Rests world past (telling_of line)
   writes : WritesIn world past line
@@ -43,6 +48,9 @@ outside_stands world past line ends places is o s = record {
   sides = λ p below honest. subst (λ (x : Side). SideIs (ends p) (places p) x) (sym (o.sides p below honest)) (s.sides p below honest);
   states = λ p below. o.states p below (s.states p below);
   reads = λ p below honest. subst (λ (r : List Got). ReadsAre (pair.who_of (ground_of world) p) (places p) r) (sym (o.reads p below honest)) (s.reads p below honest);
+  armed = λ has p below honest. subst (λ (event : ℕ). ArmedIs event (ends p) (places p))
+      (sym (fields_same (ground_of world) (last_write past) (last_write (line ∷ past)) p (is_ground world is) (o.untouched p below honest).section AvailEvent)) (s.armed has p below honest);
+  unrung = λ p below honest. line_is world p (places p) line past (o.accepts p) (s.unrung p below honest);
   settled = o.settles;
   fine = ((o.fine.0, o.fine.1, answers world past line s.settled, o.writes), s.fine);
 }
@@ -80,6 +88,7 @@ read_stands world past p word value ends places is no_link = outside_stands worl
   sides = λ q below honest. there_is p q (side_after (told.Gave value) (side_of past q)) (side_of past q) (differ world p q no_link honest);
   states = λ q below old. old ∙ sym (gave (p == q) q);
   reads = λ q below honest. there_is p q (reads_of past q ++ got word value ∷ []) (reads_of past q) (differ world p q no_link honest);
+  accepts = λ q accept. let e = accept.1 in cc;
   settles = λ refused honest beyond. let no : false ≡ true = sym no_link ∙ honest in cc;
   fine = ((λ below. here_is p (side_after (told.Gave value) (side_of past p)) (side_of past p)), tt);
   writes = tt;
@@ -99,6 +108,7 @@ write_stands world past p word value ends places is no_link may = outside_stands
   sides = λ q below honest. refl;
   states = λ q below old. there_is word q value (last_write past q) (below_table q below) ∙ old;
   reads = λ q below honest. refl;
+  accepts = λ q accept. let e = accept.1 in cc;
   settles = tt;
   fine = (tt, tt);
   writes = λ honest. let no : false ≡ true = sym no_link ∙ honest in absurd (cc);
@@ -127,6 +137,7 @@ state_stands world past p value ends places is few no_link = let new = side_afte
   sides = λ q below honest. there_is p q (side_after (told.Wrote value) (side_of past q)) (side_of past q) (differ world p q no_link honest);
   states = λ q below old. state_there past p value q (side_after (told.Wrote value) (side_of past q)) refl old;
   reads = λ q below honest. refl;
+  accepts = λ q accept. let e = accept.1 in cc;
   settles = tt;
   fine = (
     λ below. (subst (λ (b : Bool). MayWriteState b (side_of past p) value) (sym no_link) tt, here_is p new (side_of past p)),
@@ -142,6 +153,7 @@ reset_stands world past p ends places is few no_link = let new = side_after told
   sides = λ q below honest. there_is p q (side_after told.WasReset (side_of past q)) (side_of past q) (differ world p q no_link honest);
   states = λ q below old. state_there past p 0 q (side_after told.WasReset (side_of past q)) refl old;
   reads = λ q below honest. there_is p q [] (reads_of past q) (differ world p q no_link honest);
+  accepts = λ q accept. let e = accept.1 in cc;
   settles = tt;
   fine = (λ below. here_is p new (side_of past p), tt);
   writes = tt;

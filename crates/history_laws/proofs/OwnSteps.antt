@@ -15,11 +15,11 @@ use Rattle.call_grammar.specs.Calls.{Call, Who}
 use Rattle.call_grammar.specs.Places.{Place, Closed, Setting, Refusing, first_place, access_at, marks_at, next_place, step_at, is_open}
 use Rattle.link_machine.specs.LinkMachine.{Side}
 use Rattle.link_machine.specs.LinkMachine as told
-use Rattle.ends_pair.specs.Ground.{Ground, who_of, IsGivenTo}
+use Rattle.ends_pair.specs.Ground.{Ground, who_of, fields, IsGivenTo}
 use Rattle.ends_pair.specs.Steps.{Stored, IsUntouched, OnlyComes, Meets}
 use Rattle.ends_pair.specs.Alone.{Rests, Alone}
 use Rattle.ends_pair.specs.Whole.{Whole}
-use Rattle.ends_pair.proofs.Fields.{theirs_stay}
+use Rattle.ends_pair.proofs.Fields.{fields_same, theirs_stay}
 use Rattle.ends_pair.proofs.AloneKept.{alone_kept}
 use Rattle.ends_pair.specs.Sides.{SideIs}
 use Rattle.ends_pair.proofs.WholeKept.{whole_kept}
@@ -34,11 +34,16 @@ use Rattle.history_laws.specs.Told.{side_of}
 use Rattle.history_laws.specs.Rows.{EachLine}
 use Rattle.history_laws.specs.Reads.{Got, reads_of, IsReadBeyond, got}
 use Rattle.history_laws.proofs.ReadPlaces.{ReadsAre, first_reads, reads_on}
-use Rattle.history_laws.proofs.MarkFacts.{AtMarks, at_access, marks_rest}
+use Rattle.history_laws.proofs.MarkFacts.{AtMarks, at_access, head_is, marks_rest}
 use Rattle.history_laws.proofs.Proper.{ground_of, is_ground}
-use Rattle.history_laws.proofs.Stands.{Fine, Stands, IsQuiet, Settled, BringsNone, answers}
+use Rattle.history_laws.proofs.Stands.{Fine, Stands, IsQuiet, Settled, BringsNone, answers, quiet_silent}
 use Rattle.history_laws.proofs.Outside.{here_is}
-use Rattle.history_laws.proofs.StepLines.{RestsAt, StepWent, after_access, step_went, stored_at, one_told, broken_here, broken_beside, AnswersMarks, ReadsAlone}
+use Rattle.history_laws.proofs.MarkLines.{after_access}
+use Rattle.history_laws.proofs.Armed.{ArmedIs, begin_armed, reset_armed, armed_on}
+use Rattle.split_ring.specs.Layout.{has_events}
+use Rattle.ends_pair.specs.Fields.{AvailEvent}
+use Rattle.history_laws.proofs.Unrung.{UnrungIs, at_place, line_is, lines_are, marked_ends, step_none, step_is, access_is}
+use Rattle.history_laws.proofs.StepLines.{RestsAt, StepWent, step_went, stored_at, one_told, broken_here, broken_beside, AnswersMarks, ReadsAlone}
 use Rattle.history_laws.proofs.Beyond.{refuses}
 use Rattle.history_laws.proofs.Grounds.{who_is}
 use Rattle.split_ring.specs.declared.ranges.Refused.{Refused}
@@ -58,19 +63,22 @@ pub record Keeps (world : World) (past after : List Line) (p : ℕ) (new : Side)
   pub beside : side_of after (1 - p) ≡ side_of past (1 - p)
   pub untouched : IsUntouched (ground_of world) (last_write past) (last_write after) (1 - p)
   pub reads_beside : reads_of after (1 - p) ≡ reads_of past (1 - p)
+  pub unrung_beside : (place : Place) → UnrungIs world (1 - p) place past → UnrungIs world (1 - p) place after
   pub settled : Settled world after
   pub fine : EachLine (Fine world) after
 
 -- The ends after lines by which end p comes to be this end at this place, and the other side stays
 
 come_stands : (world : World) (past after : List Line) (ends after_ends : ℕ → End) (places after_places : ℕ → Place) (p : ℕ) (end : End) (place : Place) (new : Side) → IsWorld world → p < 2 → is_link world p ≡ true →
-    OnlyComes ends after_ends places after_places p end place → Whole (ground_of world) (is_link world) (last_write after) after_ends after_places → SideIs end place new → ReadsAre (who_of (ground_of world) p) place (reads_of after p) → Keeps world past after p new → Stands world past ends places →
+    OnlyComes ends after_ends places after_places p end place → Whole (ground_of world) (is_link world) (last_write after) after_ends after_places → SideIs end place new → ReadsAre (who_of (ground_of world) p) place (reads_of after p) → UnrungIs world p place after → (has_events world.queue ≡ true → ArmedIs (fields (ground_of world) (last_write after) p AvailEvent) end place) → Keeps world past after p new → Stands world past ends places →
     Stands world after after_ends after_places
-come_stands world past after ends after_ends places after_places p end place new is below honest only holds si reads keeps s = record {
+come_stands world past after ends after_ends places after_places p end place new is below honest only holds si reads unrung armed keeps s = record {
   holds = holds;
   sides = λ q below' honest'. sides q below' honest' (one_or_other p q below below');
   states = λ q below'. state q (one_or_other p q below below');
   reads = λ q below' honest'. reads_at q below' honest' (one_or_other p q below below');
+  armed = λ has q below' honest'. armed_at has q below' honest' (one_or_other p q below below');
+  unrung = λ q below' honest'. unrung_at q below' honest' (one_or_other p q below below');
   settled = keeps.settled;
   fine = keeps.fine;
 }
@@ -99,6 +107,27 @@ come_stands world past after ends after_ends places after_places p end place new
         let same : reads_of after q ≡ reads_of past q = subst (λ (k : ℕ). reads_of after k ≡ reads_of past k) (sym e) keeps.reads_beside in
         subst (λ (x : Place). ReadsAre (who_of (ground_of world) q) x (reads_of after q)) (sym (only.places_stay q (apart_of q e))) (subst (λ (r : List Got). ReadsAre (who_of (ground_of world) q) (places q) r) (sym same) (s.reads q below' honest'))
 
+    armed_at : has_events world.queue ≡ true → (q : ℕ) → q < 2 → is_link world q ≡ true → (q ≡ p) ⊎ (q ≡ 1 - p) → ArmedIs (fields (ground_of world) (last_write after) q AvailEvent) (after_ends q) (after_places q)
+    armed_at has q below' honest' (inl e) = subst (λ (k : ℕ). ArmedIs (fields (ground_of world) (last_write after) k AvailEvent) (after_ends k) (after_places k)) (sym e)
+        (subst (λ (x : Place). ArmedIs (fields (ground_of world) (last_write after) p AvailEvent) (after_ends p) x) (sym only.place_is)
+        (subst (λ (x : End). ArmedIs (fields (ground_of world) (last_write after) p AvailEvent) x place) (sym only.end_is) (armed has)))
+    armed_at has q below' honest' (inr e) =
+        let other = other_is p below in
+        let same = fields_same (ground_of world) (last_write past) (last_write after) (1 - p) (is_ground world is) keeps.untouched.section AvailEvent in
+        let before : ArmedIs (fields (ground_of world) (last_write past) (1 - p) AvailEvent) (ends (1 - p)) (places (1 - p)) =
+        subst (λ (k : ℕ). ArmedIs (fields (ground_of world) (last_write past) k AvailEvent) (ends k) (places k)) e (s.armed has q below' honest') in
+        subst (λ (k : ℕ). ArmedIs (fields (ground_of world) (last_write after) k AvailEvent) (after_ends k) (after_places k)) (sym e)
+        (subst (λ (x : Place). ArmedIs (fields (ground_of world) (last_write after) (1 - p) AvailEvent) (after_ends (1 - p)) x) (sym (only.places_stay (1 - p) other))
+        (subst (λ (x : End). ArmedIs (fields (ground_of world) (last_write after) (1 - p) AvailEvent) x (places (1 - p))) (sym (only.ends_stay (1 - p) other))
+        (subst (λ (event : ℕ). ArmedIs event (ends (1 - p)) (places (1 - p))) (sym same) before)))
+
+    unrung_at : (q : ℕ) → q < 2 → is_link world q ≡ true → (q ≡ p) ⊎ (q ≡ 1 - p) → UnrungIs world q (after_places q) after
+    unrung_at q below' honest' (inl e) = subst (λ (k : ℕ). UnrungIs world k (after_places k) after) (sym e) (subst (λ (x : Place). UnrungIs world p x after) (sym only.place_is) unrung)
+    unrung_at q below' honest' (inr e) =
+        let before : UnrungIs world (1 - p) (places (1 - p)) past = subst (λ (k : ℕ). UnrungIs world k (places k) past) e (s.unrung q below' honest') in
+        subst (λ (k : ℕ). UnrungIs world k (after_places k) after) (sym e)
+        (subst (λ (x : Place). UnrungIs world (1 - p) x after) (sym (only.places_stay (1 - p) (other_is p below))) (keeps.unrung_beside (places (1 - p)) before))
+
 -- A call begins
 
 pub begins_stands : (world : World) (past : List Line) (ends after_ends : ℕ → End) (places after_places : ℕ → Place) (p : ℕ) (call : Call) → IsWorld world → p < 2 → is_link world p ≡ true → IsGivenTo (ground_of world) call → places p ≡ Closed →
@@ -110,7 +139,9 @@ begins_stands world past ends after_ends places after_places p call is below hon
     (whole_kept.begins ground (is_link world) (last_write past) ends after_ends places after_places p call (is_ground world is) below honest record { given = given; closed = closed; comes = only } s.holds)
     (follow_lem.begins who (ends p) call (side_of past p) (subst (λ (x : Place). SideIs (ends p) x (side_of past p)) closed (s.sides p below honest)))
     (first_reads who (reads_of past p) (ends p) call (subst (λ (x : Place). ReadsAre who x (reads_of past p)) closed (s.reads p below honest)))
-    (record { here = refl; beside = refl; untouched = record { state = refl; section = λ j small. refl }; reads_beside = refl; settled = s.settled; fine = s.fine }) s
+    (at_place world p (first_place who (ends p) call) past (subst (λ (x : Place). UnrungIs world p x past) closed (s.unrung p below honest)))
+    (λ has. begin_armed who (fields ground (last_write past) p AvailEvent) (ends p) call has (subst (λ (x : Place). ArmedIs (fields ground (last_write past) p AvailEvent) (ends p) x) closed (s.armed has p below honest)))
+    (record { here = refl; beside = refl; untouched = record { state = refl; section = λ j small. refl }; reads_beside = refl; unrung_beside = λ place was. was; settled = s.settled; fine = s.fine }) s
 
 -- A step
 
@@ -180,17 +211,21 @@ step_stands world past device ends after_ends places after_places p value is bel
     let si = s.sides p below honest in
     let reads = s.reads p below honest in
     let alone = s.holds.alone p below honest in
+    let unrung = s.unrung p below honest in
+    let silent = quiet_silent device quiet in
     let f = follow_lem.steps ground (is_link world) (last_write past) ends places p value (side_of past p) (side_of past (1 - p)) (is_ground world is) below honest s.holds si (sym (s.states (1 - p) o2)) (s.sides (1 - p) o2) opened met in
     let rests = rests_at world past p a (λ _ refused. zero_at ground p (ends p) place alone.rests (sym si.refused ∙ refused)) (λ word v e zero. alone_kept.quiet ground p (last_write past) (ends p) place word v alone (phase_reset (ends p).handshake.phase (sym si.state ∙ zero)) e) in
     let older = reverse device ++ after_access p a value past in
     let there = at_access world p a value device past quiet in
-    let at_marks : AtMarks world p past older place value (ends p) = record { alone = alone; side = si; were = reads; left = there.left; stays = there.stays; reads = there.reads } in
+    let at_marks : AtMarks world p past older place value (ends p) = record { alone = alone; side = si; were = reads; left = there.left; stays = there.stays; reads = there.reads; met = met; unrung = access_is world p place value past device silent unrung; armed = λ has. s.armed has p below honest; head = head_is world p place value past device silent } in
     let after = reverse (step_lines p step device) ++ past in
     let went : StepWent world p past a value marks after f.0 = step_went world p a value device marks past f.0 below honest quiet f.1 rests (marks_rest world p past older value (ends p) is below place at_marks) (reads_alone world past device p value (ends p) place is below honest a refl none alone si reads) s.settled s.fine in
     come_stands world past after ends after_ends places after_places p (end_after (ends p) step) (next_place who place value) f.0 is below honest only
     (whole_kept.steps ground (is_link world) (last_write past) (last_write after) ends after_ends places after_places p value (is_ground world is) below honest record { opened = opened; meets = met; leaves = went.left; comes = only } s.holds) f.2
     (subst (λ (r : List Got). ReadsAre who (next_place who place value) r) (sym went.reads_here) (reads_on who place value (reads_of past p) reads))
-    (record { here = went.here; beside = went.beside; untouched = theirs_stay ground (last_write past) (last_write after) p (is_ground world is) below (alone_kept.own ground p (last_write past) (last_write after) (ends p) place (is_ground world is) below went.left alone); reads_beside = went.reads_beside; settled = went.settled; fine = went.fine }) s
+    (step_is world p past device value silent place unrung)
+    (λ has. armed_on ground (is_ground world is) p below (last_write past) (last_write after) (ends p) place value opened went.left alone.holds (s.armed has p below honest))
+    (record { here = went.here; beside = went.beside; untouched = theirs_stay ground (last_write past) (last_write after) p (is_ground world is) below (alone_kept.own ground p (last_write past) (last_write after) (ends p) place (is_ground world is) below went.left alone); reads_beside = went.reads_beside; unrung_beside = λ x was. lines_are world (1 - p) x (step_lines p step device) past (step_none p (1 - p) a value device marks silent (inl (λ e. other_is p below (sym e)))) was; settled = went.settled; fine = went.fine }) s
 
 -- A device reset
 
@@ -204,4 +239,6 @@ own_reset_stands world past ends after_ends places after_places p is below hones
     let one = one_told world past (line.Reset p) p told.WasReset f.0 below honest refl f.1 tt (answers world past (line.Reset p) s.settled) in
     come_stands world past after ends after_ends places after_places p (after_reset (ends p)) Closed f.0 is below honest only
     (whole_kept.resets ground (is_link world) (last_write past) (last_write after) ends after_ends places after_places p (is_ground world is) below honest record { stored = stored; comes = only } s.holds) f.2 (broken_here (line.Reset p) past p refl)
-    (record { here = one.here; beside = one.beside; untouched = theirs_stay ground (last_write past) (last_write after) p (is_ground world is) below (λ w ne apart. stored.beside w ne); reads_beside = broken_beside (line.Reset p) past p below refl; settled = tt; fine = (one.fine, s.fine) }) s
+    (marked_ends world p (line.Reset p) past refl (λ accept. let e = accept.1 in cc))
+    (λ has. reset_armed (fields ground (last_write after) p AvailEvent) (ends p))
+    (record { here = one.here; beside = one.beside; untouched = theirs_stay ground (last_write past) (last_write after) p (is_ground world is) below (λ w ne apart. stored.beside w ne); reads_beside = broken_beside (line.Reset p) past p below refl; unrung_beside = λ x was. line_is world (1 - p) x (line.Reset p) past (λ accept. let e = accept.1 in cc) was; settled = tt; fine = (one.fine, s.fine) }) s

@@ -5,20 +5,20 @@ use Rattle.std.proofs.lemmas.Bool.Decides.{nat_tests}
 use Rattle.split_ring.specs.declared.ranges.FieldName.TheVariants as field_name
 use Rattle.split_ring.specs.declared.steps.Access.{Access}
 use Rattle.split_ring.specs.declared.steps.Access.TheVariants as access
-use Rattle.split_ring.specs.Layout.{size_of, limit_of, word_place, Address, Length, Flags, UsedIndex}
+use Rattle.split_ring.specs.Layout.{has_events, size_of, limit_of, word_place, Address, Length, Flags, UsedIndex}
 use Rattle.split_ring.specs.Spelling.{low_half, high_half, entry_half}
 use Rattle.split_ring.specs.Ranges.{IsAvailEntry, IsDescAddress, IsDescLength, IsDescFlags}
 use Rattle.link_handshake.specs.declared.Move.{Move}
 use Rattle.link_handshake.specs.declared.Move.TheVariants.{Stay, Set, ClearThenSet}
 use Rattle.link_handshake.specs.Standing.{move_of}
-use Rattle.call_grammar.specs.Steps.{Mark, Reclaim, Full, Look, Done, Deliver}
+use Rattle.call_grammar.specs.Steps.{Mark, Reclaim, Full, Look, Done, Deliver, Over}
 use Rattle.call_grammar.specs.Ticks.{tick_marks}
 use Rattle.call_grammar.specs.Ends.{End}
 use Rattle.call_grammar.specs.Words.{words_for, address_of, frame_in}
 use Rattle.call_grammar.specs.Calls.{Who, Call, Tick, Stop, Offer, Poll, in_run, job_of}
-use Rattle.call_grammar.specs.Offers.{Job, descriptor_of, entry_of, refusal, full_marks, returned_by, reclaim_marks}
-use Rattle.call_grammar.specs.Polls.{Item, item_entry, item_address, is_entry, is_address, is_length, published_by, look_marks}
-use Rattle.call_grammar.specs.Places.{Place, Closed, AtState, Clearing, Setting, Refusing, Downed, AtUsedIndex, AtUsedId, Filling, WritingLow, WritingHigh, WritingLength, WritingFlags, WritingEntry, WritingIndex, RingingOffer, AtAvailIndex, AtEntry, AtLow, AtHigh, AtLength, AtFlags, AtWord, GivingId, GivingLength, GivingIndex, RingingPoll, clear_place, tick_place, fill_place, ids_place, items_place, words_place, first_place, access_at, marks_at, next_place}
+use Rattle.call_grammar.specs.Offers.{Job, descriptor_of, entry_of, refusal, full_marks, returned_by, reclaim_marks, asks_for}
+use Rattle.call_grammar.specs.Polls.{Item, item_entry, item_address, is_entry, is_address, is_length, is_last, published_by, look_marks}
+use Rattle.call_grammar.specs.Places.{Place, Closed, AtState, Clearing, Setting, Refusing, Downed, AtUsedIndex, AtUsedId, Filling, WritingLow, WritingHigh, WritingLength, WritingFlags, WritingEntry, WritingIndex, AtEvent, RingingOffer, AtAvailIndex, Arming, AtEntry, AtLow, AtHigh, AtLength, AtFlags, AtWord, GivingId, GivingLength, GivingIndex, RingingPoll, clear_place, tick_place, fill_place, ids_place, none_place, items_place, words_place, first_place, access_at, marks_at, next_place}
 use Rattle.call_grammar.proofs.OfferLists.{no}
 use Rattle.call_grammar.proofs.PollLists.{entry_tells, address_tells, length_tells}
 use Rattle.history_laws.specs.Reads.{Got, got, entry_read, low_read, high_read, length_read, flags_read, word_reads}
@@ -26,7 +26,8 @@ use Rattle.history_laws.specs.Reads.{Got, got, entry_read, low_read, high_read, 
 flags_tells : (f : ℕ) → (f == 0) ≡ true → IsDescFlags f
 flags_tells f test = grind (arith, nat_tests)
 
--- what the call has read since its last mark: of the item in hand, with the tests that it passed; an offer that has begun to read ids, those
+-- what the call has read since its last mark: of the item in hand, with the tests that it passed; an offer that has begun to read ids, those, and one that
+-- is to ring the other's event
 abbrev pub ReadsAre : Who → Place → List Got → Type 0
 ReadsAre who (AtUsedId job freed more) reads = Unit {0}
 ReadsAre who (Filling job at more) reads = Unit {0}
@@ -36,6 +37,7 @@ ReadsAre who (WritingLength job) reads = Unit {0}
 ReadsAre who (WritingFlags job) reads = Unit {0}
 ReadsAre who (WritingEntry job) reads = Unit {0}
 ReadsAre who (WritingIndex job) reads = Unit {0}
+ReadsAre who RingingOffer reads = Unit {0}
 ReadsAre who (AtLow number more entry) reads = (read : Item) × (reads ≡ entry_read who number read ∷ []) × (entry ≡ item_entry who number read) × IsAvailEntry who.sizes (item_entry who number read)
 ReadsAre who (AtHigh number more entry low) reads = (read : Item) × (reads ≡ entry_read who number read ∷ low_read who number read ∷ []) × (entry ≡ item_entry who number read) × IsAvailEntry who.sizes (item_entry who number read) × (low ≡ read.low)
 ReadsAre who (AtLength number more entry address) reads =
@@ -93,7 +95,7 @@ pub first_reads : (who : Who) (reads : List Got) (end : End) (call : Call) → r
 first_reads who reads end Tick none = none
 first_reads who reads end Stop none = none
 first_reads who reads end (Offer frame) none = either (λ x. ReadsAre who x reads) (in_run end.handshake.phase) (AtUsedIndex (job_of who end frame) end.freed) Downed none none
-first_reads who reads end Poll none = either (λ x. ReadsAre who x reads) (in_run end.handshake.phase) (AtAvailIndex (length end.delivered)) Downed none none
+first_reads who reads end Poll none = either (λ x. ReadsAre who x reads) (in_run end.handshake.phase) (AtAvailIndex (length end.delivered) (is_last who end.found_none)) Downed none none
 
 -- A test that decides both the next place and the marks
 
@@ -199,12 +201,16 @@ reads_on who (WritingHigh job) value reads is = tt
 reads_on who (WritingLength job) value reads is = tt
 reads_on who (WritingFlags job) value reads is = tt
 reads_on who (WritingEntry job) value reads is = tt
-reads_on who (WritingIndex job) value reads is = refl
+reads_on who (WritingIndex job) value reads is = either (λ x. ReadsAre who x []) (has_events who.sizes) (AtEvent job.number) RingingOffer refl tt
+reads_on who (AtEvent number) value reads is = by_test who _ (asks_for (low_half value) number) RingingOffer Closed [] (Over ∷ []) (λ _. tt) (λ _. refl)
 reads_on who RingingOffer value reads is = refl
-reads_on who (AtAvailIndex taken) value reads is =
+reads_on who (AtAvailIndex taken last) value reads is =
     let count = published_by taken value in
-    by_test who _ (nat_le count (size_of who.sizes)) (if count == 0 then Closed else items_place taken count) Refusing (look_marks count) (refusal field_name.AvailIndex (high_half value))
-    (λ _. by_test who _ (count == 0) Closed (items_place taken count) (Look 0 ∷ Done ∷ []) (Look count ∷ []) (λ _. refl) (λ _. items_reads who taken count)) (λ _. refl)
+    by_test who _ (nat_le count (size_of who.sizes)) (if count == 0 then none_place taken last else items_place taken count) Refusing (look_marks last count)
+    (refusal field_name.AvailIndex (high_half value))
+    (λ _. by_test who _ (count == 0) (none_place taken last) (items_place taken count) (if last then Look 0 ∷ Done ∷ [] else Look 0 ∷ []) (Look count ∷ [])
+    (λ _. by_test who _ last Closed (Arming taken) (Look 0 ∷ Done ∷ []) (Look 0 ∷ []) (λ _. refl) (λ _. refl)) (λ _. items_reads who taken count)) (λ _. refl)
+reads_on who (Arming taken) value reads is = is
 reads_on who (AtEntry number more) value reads is =
     let entry = entry_half (entry_of who number) value in
     by_test who _ (is_entry who.sizes entry) (AtLow number more entry) Refusing [] (refusal field_name.AvailEntry entry)

@@ -1,5 +1,5 @@
 -- Where two link peers stand after the lines of a history, and the lines that change nothing of it.
-use Rattle.std.proofs.Common.{◌≡◌, ◌≢◌, ℕ, ◌<◌, Bool, true, false, List, [], ◌∷◌, ◌++◌, length, refl, sym, ◌∙◌, ap, subst, append_assoc}
+use Rattle.std.proofs.Common.{◌≡◌, ◌≢◌, ℕ, ◌-◌, ◌<◌, Bool, true, false, List, [], ◌∷◌, ◌++◌, length, refl, sym, ◌∙◌, ap, subst, append_assoc}
 use Rattle.std.specs.Prelude.{if◌then◌else◌, Option, Some, None, nat_lt, reverse}
 use Rattle.std.specs.List.{AllByRecursion}
 use Rattle.std.proofs.lemmas.List.{reverse-append}
@@ -7,7 +7,7 @@ use Rattle.doorbell_irq.specs.declared.effect.Delivery.{Delivery}
 use Rattle.doorbell_irq.specs.Events as device
 use Rattle.doorbell_irq.specs.DeviceRules.{effect_of}
 use Rattle.scenario_text.specs.Scenario.{World, is_link}
-use Rattle.call_grammar.specs.Steps.{Mark, Reclaim, Accept, Look, Deliver, Refuse, Step}
+use Rattle.call_grammar.specs.Steps.{Mark, Reclaim, Accept, Look, Deliver, Done, Refuse, Over, Step}
 use Rattle.call_grammar.specs.Ends.{End}
 use Rattle.call_grammar.specs.Places.{Place}
 use Rattle.link_machine.specs.LinkMachine.{Side, Told, Gave, Wrote, Marked, WasReset}
@@ -28,15 +28,28 @@ use Rattle.history_laws.specs.Rows.{EachLine, HasRow}
 use Rattle.history_laws.specs.Reads.{Got, Reading, Passes, reading_of, reads_with, reads_of, IsReadFrame, IsReadBeyond, Takes, Breaks, got}
 use Rattle.history_laws.specs.Spelled.{SpellsNext}
 use Rattle.history_laws.specs.Indexes.{IsIndexRead, IsLoneIndex}
-use Rattle.split_ring.specs.Layout.{AvailableIndex, UsedIndex}
+use Rattle.split_ring.specs.Layout.{has_events, AvailableIndex, UsedIndex}
 use Rattle.history_laws.proofs.ReadPlaces.{ReadsAre}
+use Rattle.history_laws.proofs.Unrung.{Unrung, UnrungIs, AreSilent, line_is, silent_none}
+use Rattle.history_laws.specs.Wake.{event_word, EventIs}
+use Rattle.history_laws.proofs.Armed.{ArmedIs}
+use Rattle.ends_pair.specs.Fields.{AvailEvent}
+use Rattle.ends_pair.specs.Ground.{fields}
+use Rattle.split_ring.specs.Spelling.{low_half}
+use Rattle.call_grammar.specs.Offers.{asks_for}
 use Rattle.lawful_history.specs.Sides.{who_of}
 use Rattle.history_laws.proofs.Proper.{ground_of}
 use Rattle.split_ring.specs.declared.ranges.Refused.{Refused}
 use Rattle.split_ring.specs.declared.steps.Access.{Access}
 use Rattle.split_ring.specs.declared.steps.Access.TheVariants as access
 
--- what stands where a mark does: an accepted frame is spelled, a delivered one was read, a refused value too, and an index once
+-- the newest of these lines is a look of peer p that found nothing
+abbrev pub EndsLook : ℕ → List Line → Type 0
+EndsLook p [] = ⊥
+EndsLook p (newest ∷ older) = newest ≡ line.Look p 0
+
+-- what stands where a mark does: an accepted frame is spelled, a delivered one was read, a refused value too, and an index once; and where the call of an
+-- accepted frame is over without a doorbell, the other's event doesn't ask for one; and where a poll is done that found nothing, the event is at the next frame
 abbrev pub MarkRests : World → List Line → ℕ → Mark → Type 0
 MarkRests world older p (Reclaim count) = IsIndexRead (who_of world p) (reads_of older p) UsedIndex (side_of older p).freed count
 MarkRests world older p (Accept frame) = SpellsNext world older p frame
@@ -44,6 +57,8 @@ MarkRests world older p (Look count) = IsIndexRead (who_of world p) (reads_of ol
 MarkRests world older p (Deliver frame) = IsReadFrame (who_of world p) (length (side_of older p).delivered) (reads_of older p) frame
 MarkRests world older p (Refuse refused) =
     IsReadBeyond (who_of world p) (side_of older p) (reads_of older p) refused.field refused.value × IsLoneIndex (who_of world p) (reads_of older p) refused.field refused.value
+MarkRests world older p Over = Unrung world p older → asks_for (low_half (last_write older (event_word world (1 - p)))) (length (side_of older p).accepted - 1) ≡ false
+MarkRests world older p Done = has_events world.queue ≡ true → EndsLook p older → EventIs world older p (length (side_of older p).delivered)
 MarkRests world older p mark = Unit {0}
 
 -- and an honest side that refused writes 0 alone
@@ -108,6 +123,8 @@ pub record Stands (world : World) (past : List Line) (ends : ℕ → End) (place
   pub sides : (p : ℕ) → p < 2 → is_link world p ≡ true → SideIs (ends p) (places p) (side_of past p)
   pub states : (p : ℕ) → p < 2 → last_write past p ≡ (side_of past p).state
   pub reads : (p : ℕ) → p < 2 → is_link world p ≡ true → ReadsAre (pair.who_of (ground_of world) p) (places p) (reads_of past p)
+  pub unrung : (p : ℕ) → p < 2 → is_link world p ≡ true → UnrungIs world p (places p) past
+  pub armed : has_events world.queue ≡ true → (p : ℕ) → p < 2 → is_link world p ≡ true → ArmedIs (fields (ground_of world) (last_write past) p AvailEvent) (ends p) (places p)
   pub settled : Settled world past
   pub fine : EachLine (Fine world) past
 
@@ -117,6 +134,7 @@ pub record Alike (world : World) (old new : List Line) : Type 0 where
   pub memory : last_write new ≡ last_write old
   pub sides : side_of new ≡ side_of old
   pub reads : reads_of new ≡ reads_of old
+  pub unrung : (p : ℕ) (place : Place) → UnrungIs world p place old → UnrungIs world p place new
   pub settled : Settled world old → Settled world new
   pub fine : Settled world old → EachLine (Fine world) old → EachLine (Fine world) new
 
@@ -126,6 +144,8 @@ stands_alike world old new ends places a s = record {
   sides = λ p below honest. subst (λ (x : ℕ → Side). SideIs (ends p) (places p) (x p)) (sym a.sides) (s.sides p below honest);
   states = λ p below. ap (λ (m : ℕ → ℕ). m p) a.memory ∙ (s.states p below ∙ ap (λ (x : ℕ → Side). (x p).state) (sym a.sides));
   reads = λ p below honest. subst (λ (r : ℕ → List Got). ReadsAre (pair.who_of (ground_of world) p) (places p) (r p)) (sym a.reads) (s.reads p below honest);
+  unrung = λ p below honest. a.unrung p (places p) (s.unrung p below honest);
+  armed = λ has p below honest. subst (λ (m : ℕ → ℕ). ArmedIs (fields (ground_of world) m p AvailEvent) (ends p) (places p)) (sym a.memory) (s.armed has p below honest);
   settled = a.settled s.settled;
   fine = a.fine s.settled s.fine;
 }
@@ -137,6 +157,8 @@ ends_alike world past ends after_ends places same s = record {
   sides = λ p below honest. subst (λ (x : End). SideIs x (places p) (side_of past p)) (sym (same p below honest)) (s.sides p below honest);
   states = s.states;
   reads = s.reads;
+  unrung = s.unrung;
+  armed = λ has p below honest. subst (λ (x : End). ArmedIs (fields (ground_of world) (last_write past) p AvailEvent) x (places p)) (sym (same p below honest)) (s.armed has p below honest);
   settled = s.settled;
   fine = s.fine;
 }
@@ -146,6 +168,10 @@ pub record IsQuiet (line : Line) : Type 0 where
   pub apart : touch_of line ≡ touch.Apart
   pub silent : telling_of line ≡ Silent
   pub passes : reading_of line ≡ Passes
+
+pub quiet_silent : (lines : List Line) → AllByRecursion IsQuiet lines → AreSilent lines
+quiet_silent [] quiet = tt
+quiet_silent (line ∷ lines) quiet = (quiet.0.silent, quiet_silent lines quiet.1)
 
 pub memory_after : (line : Line) (past : List Line) → touch_of line ≡ touch.Apart → last_write (line ∷ past) ≡ last_write past
 memory_after line past apart = ap (λ (t : Touch). λ (at : ℕ). value_after t at (last_write past at)) apart
@@ -167,19 +193,20 @@ quiet_line world line past q = record {
   memory = memory_after line past q.apart;
   sides = sides_after line past q.silent;
   reads = reads_after line past q.passes;
+  unrung = λ p place is. line_is world p place line past (silent_none p line q.silent) is;
   settled = λ settled. passes_settled world line past q.passes;
   fine = λ settled old. let told = silent_fine world line past (telling_of line) q.silent in ((told.0, told.1, answers world past line settled, writes_apart world past line q.apart), old);
 }
 
 alike_on : (world : World) (old mid new : List Line) → Alike world old mid → Alike world mid new → Alike world old new
-alike_on world old mid new a b = record { memory = b.memory ∙ a.memory; sides = b.sides ∙ a.sides; reads = b.reads ∙ a.reads; settled = λ settled. b.settled (a.settled settled); fine = λ settled f. b.fine (a.settled settled) (a.fine settled f) }
+alike_on world old mid new a b = record { memory = b.memory ∙ a.memory; sides = b.sides ∙ a.sides; reads = b.reads ∙ a.reads; unrung = λ p place is. b.unrung p place (a.unrung p place is); settled = λ settled. b.settled (a.settled settled); fine = λ settled f. b.fine (a.settled settled) (a.fine settled f) }
 
 -- the first of some new lines is the oldest of them
 pub first_after : (line : Line) (lines past : List Line) → reverse (line ∷ lines) ++ past ≡ reverse lines ++ (line ∷ past)
 first_after line lines past = ap (λ r. r ++ past) (reverse-append (line ∷ []) lines) ∙ append_assoc (reverse lines) (line ∷ []) past
 
 pub quiet_lines : (world : World) (lines past : List Line) → AllByRecursion IsQuiet lines → Alike world past (reverse lines ++ past)
-quiet_lines world [] past all = record { memory = refl; sides = refl; reads = refl; settled = λ settled. settled; fine = λ settled old. old }
+quiet_lines world [] past all = record { memory = refl; sides = refl; reads = refl; unrung = λ p place is. is; settled = λ settled. settled; fine = λ settled old. old }
 quiet_lines world (line ∷ lines) past all =
     subst (λ (new : List Line). Alike world past new) (sym (first_after line lines past)) (alike_on world past (line ∷ past) (reverse lines ++ (line ∷ past)) (quiet_line world line past all.0) (quiet_lines world lines (line ∷ past) all.1))
 

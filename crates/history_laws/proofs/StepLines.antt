@@ -20,6 +20,7 @@ use Rattle.history_laws.specs.Told.{Telling, Tells, telling_of, side_marked, sid
 use Rattle.history_laws.specs.Rows.{EachLine, IsRow, HasRow}
 use Rattle.history_laws.specs.Reads.{Got, got, Reading, Breaks, reading_of, reads_with, reads_of}
 use Rattle.history_laws.proofs.ReadPlaces.{reads_taken, reads_marked}
+use Rattle.history_laws.proofs.MarkLines.{mark_is, after_access}
 use Rattle.history_laws.proofs.Stands.{MarkRests, Rests, Fine, IsQuiet, quiet_lines, memory_after, first_after, AnswersTo, SettledBy, Settled, writes_told, answers}
 use Rattle.history_laws.proofs.Outside.{here_is, there_is}
 
@@ -43,20 +44,6 @@ row_new sizes mine theirs side other (Gave value) new row = row
 row_new sizes mine theirs side other (Wrote state) new row = row.1
 row_new sizes mine theirs side other (Marked mark) new row = mark_new sizes theirs side other mark new row.1
 row_new sizes mine theirs side other WasReset new row = row
-
--- the line of a mark tells the mark, and breaks the reads
-mark_is : (p : ℕ) (mark : Mark) → (telling_of (mark_line p mark) ≡ Tells p (Marked mark)) × (reading_of (mark_line p mark) ≡ Breaks p)
-mark_is p (Saw value) = (refl, refl)
-mark_is p (Reclaim count) = (refl, refl)
-mark_is p Full = (refl, refl)
-mark_is p (Accept frame) = (refl, refl)
-mark_is p (Look count) = (refl, refl)
-mark_is p (Deliver frame) = (refl, refl)
-mark_is p Return = (refl, refl)
-mark_is p Done = (refl, refl)
-mark_is p Down = (refl, refl)
-mark_is p (Refuse refused) = (refl, refl)
-mark_is p Over = (refl, refl)
 
 -- A line that tells something of an honest link peer, and its row
 
@@ -201,14 +188,6 @@ RestsAt world past p access.Nothing = Unit {0}
 
 pub stored_at : (word value : ℕ) (memory : ℕ → ℕ) (w : ℕ) → w ≢ word → (if word == w then value else memory w) ≡ memory w
 stored_at word value memory w ne = there_is word w value (memory w) (λ e. ne (sym e))
-
--- the line of the access
-abbrev pub after_access : ℕ → Access → ℕ → List Line → List Line
-after_access p (access.Read word) value past = line.Read p word value ∷ past
-after_access p (access.Write word written) value past = line.Write p word written ∷ past
-after_access p (access.State state) value past = line.State p state ∷ past
-after_access p (access.Ring target vector) value past = line.Doorbell p target vector ∷ past
-after_access p access.Nothing value past = past
 
 -- a read brings no lines of the devices, and its marks answer it
 abbrev pub ReadsAlone : World → ℕ → Access → ℕ → List Line → List Mark → List Line → Type 0

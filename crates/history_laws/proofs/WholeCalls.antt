@@ -1,17 +1,18 @@
 -- A call that was begun: where it has ended it is finished within its bound, else it is open.
-use Rattle.std.proofs.Common.{◌≡◌, ◌≢◌, ℕ, ◌+◌, ◌*◌, ◌<◌, ◌≤◌, inl, inr, List, [], ◌∷◌, ◌++◌, length, refl, sym, ap, ◌∙◌, subst, arith, length-append, ne_eqb}
+use Rattle.std.proofs.Common.{◌≡◌, ◌≢◌, ℕ, ◌+◌, ◌*◌, ◌<◌, ◌≤◌, inl, inr, Bool, true, false, List, [], ◌∷◌, ◌++◌, length, refl, sym, ap, ◌∙◌, subst, arith, length-append, ne_eqb}
 use Rattle.std.specs.Prelude.{◌==◌, if◌then◌else◌}
 use Rattle.std.proofs.lemmas.List.{append-nil}
 use Rattle.link_handshake.specs.declared.Phase.{Phase}
 use Rattle.link_handshake.specs.declared.Phase.TheVariants.{Reset, Init, Ready, Run}
-use Rattle.split_ring.specs.declared.steps.Access.TheVariants.{Read, Ring}
+use Rattle.split_ring.specs.declared.steps.Access.TheVariants.{Read}
 use Rattle.split_ring.specs.Layout.{size_of}
 use Rattle.call_grammar.specs.Steps.{Mark, Deliver, Done, Step, step_of}
 use Rattle.call_grammar.specs.Trees.{CallTree, Ended, Does, Reads, Goes, GoesAlong, Makes}
 use Rattle.call_grammar.specs.Ends.{End}
 use Rattle.call_grammar.specs.Words.{words_for, frame_in}
 use Rattle.call_grammar.specs.Calls.{Who, Call, Tick, Stop, Offer, Poll, RunsOrIsDown, tree_of, IsCall}
-use Rattle.call_grammar.specs.Polls.{Item, item_entry, item_address, IsGood, word_steps, return_steps, item_steps, AreGood, items_steps, IsRefusedItem, IsPoll}
+use Rattle.call_grammar.specs.Offers.{ring_step}
+use Rattle.call_grammar.specs.Polls.{Item, item_entry, item_address, IsGood, word_steps, return_steps, item_steps, AreGood, items_steps, IsRefusedItem, is_last, IsLook, FindsNothing, LooksAgain, IsPoll}
 use Rattle.call_grammar.specs.StepBounds.{marks_bound, items_bound, bound_of, HasFewInFlight}
 use Rattle.call_grammar.proofs.OfferLists.{no}
 use Rattle.call_grammar.proofs.Bounding.{bounding, frame_length}
@@ -84,16 +85,32 @@ refused_most who number read steps (inr (inl is)) = let b = ap items_bound is.2 
 refused_most who number read steps (inr (inr (inl is))) = let b = ap items_bound is.3 in omega arith
 refused_most who number read steps (inr (inr (inr is))) = let b = ap items_bound is.4 in omega arith
 
-poll_most : (who : Who) (taken : ℕ) (steps : List Step) → IsPoll who taken steps → items_bound steps ≤ size_of who.sizes * (8 + words_for 65553)
-poll_most who taken steps (inl r) = let b = ap items_bound r.steps_are in omega arith
-poll_most who taken steps (inr (inl r)) = let b = ap items_bound r.steps_are in omega arith
-poll_most who taken steps (inr (inr (inl r))) =
+-- the items that a look finds take so many steps at most
+abbrev items_most_of : Who → ℕ
+items_most_of who = size_of who.sizes * (8 + words_for 65553)
+
+look_most : (who : Who) (taken : ℕ) (FindsNone : List Step → Type 0) (steps : List Step) → (FindsNone steps → items_bound steps ≤ items_most_of who) →
+    IsLook who taken FindsNone steps → items_bound steps ≤ items_most_of who
+look_most who taken FindsNone steps none (inl r) = let b = ap items_bound r.steps_are in omega arith
+look_most who taken FindsNone steps none (inr (inl r)) = none r
+look_most who taken FindsNone steps none (inr (inr (inl r))) =
     let b = ap items_bound r.steps_are in let items = items_most who taken r.reads r.good in let within = r.within in let all = r.all in
-    omega (arith, added (items_steps who taken r.reads) (step_of (Ring who.other who.vector) 0 (Done ∷ []) ∷ []))
-poll_most who taken steps (inr (inr (inr r))) =
+    omega (arith, added (items_steps who taken r.reads) (ring_step who (Done ∷ []) ∷ []))
+look_most who taken FindsNone steps none (inr (inr (inr r))) =
     let b = ap items_bound r.steps_are in let items = items_most who taken r.reads r.good in let within = r.within in let before = r.before in
     let last = refused_most who (taken + length r.reads) r.last r.last_steps r.refused in
     omega (arith, added (items_steps who taken r.reads) r.last_steps)
+
+nothing_most : (who : Who) (taken : ℕ) (steps : List Step) → FindsNothing who taken steps → items_bound steps ≤ items_most_of who
+nothing_most who taken steps r = let b = ap items_bound r.steps_are in omega arith
+
+again_most : (who : Who) (taken : ℕ) (steps : List Step) → LooksAgain who taken steps → items_bound steps ≤ items_most_of who
+again_most who taken steps r =
+    let b = ap items_bound r.steps_are in let rest = look_most who taken (FindsNothing who taken) r.rest (nothing_most who taken r.rest) r.again in omega arith
+
+poll_most : (who : Who) (taken : ℕ) (last : Bool) (steps : List Step) → IsPoll who taken last steps → items_bound steps ≤ items_most_of who
+poll_most who taken true steps is = look_most who taken (FindsNothing who taken) steps (nothing_most who taken steps) is
+poll_most who taken false steps is = look_most who taken (LooksAgain who taken) steps (again_most who taken steps) is
 
 by_phase : (phase : Phase) (Runs : Type 0) (steps : List Step) (most : ℕ) → (Runs → items_bound steps ≤ most) → RunsOrIsDown phase Runs steps → items_bound steps ≤ most
 by_phase Reset Runs steps most runs is = let b = ap items_bound is in omega arith
@@ -106,7 +123,9 @@ bound_most who end Tick steps is = omega arith
 bound_most who end Stop steps is = omega arith
 bound_most who end (Offer frame) steps is = omega arith
 bound_most who end Poll steps is =
-    let most = by_phase end.handshake.phase (IsPoll who (length end.delivered) steps) steps (size_of who.sizes * (8 + words_for 65553)) (poll_most who (length end.delivered) steps) is in omega arith
+    let last = is_last who end.found_none in
+    let most = by_phase end.handshake.phase (IsPoll who (length end.delivered) last steps) steps (items_most_of who) (poll_most who (length end.delivered) last steps) is in
+    omega arith
 
 -- What a call comes to
 

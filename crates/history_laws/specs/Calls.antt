@@ -1,6 +1,6 @@
 -- The calls of an honest link peer since its last reset: each is begun in its turn, and ends within its bound. Of entries and of calls the newest is the first.
-use Rattle.std.specs.Prelude.{ℕ, ◌≡◌, ◌≢◌, ◌+◌, ◌*◌, ◌<◌, ◌≤◌, ◌⊎◌, true, Option, Some, None, List, [], ◌∷◌, ◌++◌, length, reverse, slice_get, All}
-use Rattle.split_ring.specs.Layout.{size_of}
+use Rattle.std.specs.Prelude.{ℕ, ◌≡◌, ◌≢◌, ◌+◌, ◌*◌, ◌<◌, ◌≤◌, ◌⊎◌, true, if◌then◌else◌, Option, Some, None, List, [], ◌∷◌, ◌++◌, length, reverse, slice_get, All}
+use Rattle.split_ring.specs.Layout.{has_events, size_of}
 use Rattle.scenario_text.specs.Scenario.{World, IsWorld, is_link}
 use Rattle.call_grammar.specs.Steps.{Step}
 use Rattle.call_grammar.specs.Trees.{CallTree, Ended, GoesAlong}
@@ -89,7 +89,7 @@ AreFinished who (begun ∷ earlier) = IsFinishedCall who begun × AreFinished wh
 
 -- as many steps as a call can take, whatever it reads: a Poll finds as many items as the queue has at most, each of them with a frame of 65,553 bytes at most
 abbrev pub most_of : Who → Call → ℕ
-most_of who Poll = 2 + size_of who.sizes * (8 + words_for 65553)
+most_of who Poll = (if has_events who.sizes then 4 else 2) + size_of who.sizes * (8 + words_for 65553)
 most_of who call = bound_of who call []
 
 -- it is open: these are its first steps, and there are more. They are fewer than the bound of each finished call that begins so, and fewer than the call can

@@ -10,3 +10,4 @@ pub mod Devices
 pub mod Indexes
 pub mod Quiet
 pub mod Calls
+pub mod Wake

@@ -13,6 +13,7 @@ ghost use Rattle.history_laws.specs.Refusals.{HonestPeersNeverRefuse, RefusedPee
 ghost use Rattle.history_laws.specs.Rows.{HistoriesRunTheMachine};
 ghost use Rattle.history_laws.specs.Sessions.{HistoriesDeliver};
 ghost use Rattle.history_laws.specs.Spelled.{HistoriesSpellAccepted};
+ghost use Rattle.history_laws.specs.Wake.{WakesAreRung};
 
 use lawful_history::{history_is_lawful, one_history, versions_differ_in_marks};
 
@@ -81,6 +82,12 @@ pub fn values_out_of_range_are_refused()
 /// Each look, each reclaim and each refusal of an index has one read of that index of its own.
 pub fn indexes_are_read_once()
     ensures { IndexesAreReadOnce }
+{}
+
+/// In a link with events a poll that is done and found nothing leaves its peer's event at the next frame, and an honest peer rings where the
+/// other's event stands at the frame that it accepts. So of two honest peers one that found nothing is rung at the next frame.
+pub fn wakes_are_rung()
+    ensures { WakesAreRung }
 {}
 
 /// An honest peer in RESET writes nothing to its section.

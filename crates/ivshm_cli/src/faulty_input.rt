@@ -21,7 +21,7 @@ const HEADS: [Case; 14] = [
     ("\u{feff}ivshm 1\n", "1 BadLine"),
     ("ivshm 1\r\n", "1 BadLine"),
     ("ivshm 01\n", "1 BadNumber"),
-    ("ivshm 2\n", "1 BadNumber"),
+    ("ivshm 4\n", "1 BadNumber"),
     ("ivshm 1\npeers 9\n", "2 BadNumber"),
     ("ivshm 1\npeers 2\ntable 4294967296\n", "3 BadNumber"),
     (

@@ -177,6 +177,8 @@ fn scenarios_that_are_not_run(rt: HostRuntime) -> Result<(), Fail> {
     let alloc = rt.alloc();
     let three =
         "ivshm 1\npeers 3\ntable 4096\ncommon 0\nout 16384\nmtu 256\nirq msix 2\npeer 0 honest\npeer 1 honest\npeer 2 hostile\nbegin\n";
+    let events =
+        "ivshm 2\npeers 2\ntable 4096\ncommon 0\nout 16384\nmtu 256\nirq msix 2\npeer 0 honest\npeer 1 honest\nbegin\n";
     let cases = [
         (HONEST, "tick 0\nturn 0 2\nend\n", "refused 11 NotRunning\n"),
         (
@@ -192,6 +194,9 @@ fn scenarios_that_are_not_run(rt: HostRuntime) -> Result<(), Fail> {
             "auto 0 0\nmmio 1 r 8\nturn 0 1\nend\n",
             "refused 13 NotRunning\n",
         ),
+        (events, "auto 0 0\nturn 0 1\nend\n", "refused 0 Unbuilt\n"),
+        (events, "tick 0\nend\n", "refused 11 NotRunning\n"),
+        (events, "auto 0 0\nturn 0 1\n", "refused 0 NoEnd\n"),
     ];
     for (head, acts, line) in cases {
         let scenario = format!(in alloc; "{head}{acts}")?;

@@ -1,6 +1,6 @@
 -- What is done of a doorbell in one turn.
-use Rattle.std.proofs.Common.{◌≡◌, ◌≢◌, ℕ, zero, suc, ◌<◌, ◌≤◌, nat_lt, Bool, true, false, ◌&&◌, List, [], ◌∷◌, length, get_or, refl, sym, ap, ◌∙◌, subst, arith}
-use Rattle.std.specs.Prelude.{Option, Some, None, ◌==◌, if◌then◌else◌}
+use Rattle.std.proofs.Common.{◌≡◌, ℕ, ◌<◌, nat_lt, Bool, true, false, ◌&&◌, List, length, refl, sym, ap, ◌∙◌, subst, arith}
+use Rattle.std.specs.Prelude.{Option, Some, None, if◌then◌else◌}
 use Rattle.std.specs.Int.{bit_at}
 use Rattle.std.proofs.lemmas.Bool.{eqb-true}
 use Rattle.std.proofs.lemmas.Bool.Decides.{nat_tests}
@@ -15,16 +15,13 @@ use Rattle.doorbell_irq.specs.Routes.{bit_for, bit_rung}
 use Rattle.peer_runner.specs.declared.key.Key.{Key}
 use Rattle.peer_runner.specs.declared.ways.Way.{Way}
 use Rattle.peer_runner.specs.declared.ways.Way.TheVariants.{Silent, Direct, Guarded}
-use Rattle.peer_runner.specs.declared.ways.Done.{Done}
-use Rattle.peer_runner.specs.declared.ways.Done.TheVariants.{Stepped, Cleared, Rung}
 use Rattle.peer_runner.specs.Standings.{Taken}
-use Rattle.peer_runner.specs.Actions.{Action, rang, cleared}
-use Rattle.peer_runner.specs.Interrupts.{one_if, IsOneShot, MayRing}
-use Rattle.peer_runner.specs.Ways.{nowhere, route_to, way_by, way_to, is_guarded, way_in, rung_by, AreRoutes}
+use Rattle.peer_runner.specs.Actions.{Action}
+use Rattle.peer_runner.specs.Interrupts.{one_if, IsOneShot}
+use Rattle.peer_runner.specs.Ways.{nowhere, route_to, way_by, way_to, is_guarded, rung_by, AreRoutes}
 use Rattle.peer_runner.specs.Turns.{is_set}
 use Rattle.peer_runner.specs.Held.{Held}
-use Rattle.peer_runner.specs.Passes.{added}
-use Rattle.peer_runner.specs.Runners.{done_of, IsDone, holds_on, MayRingBy, made}
+use Rattle.peer_runner.specs.Runners.{MayRingBy, made}
 use Rattle.peer_runner.proofs.Keys.{clash}
 
 -- A way that touches a word is one to a peer that is there, by one of 64 bits

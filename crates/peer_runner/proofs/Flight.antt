@@ -3,7 +3,7 @@ use Rattle.std.proofs.Common.{◌≡◌, ℕ, zero, suc, ◌+◌, ◌-◌, ◌<�
 use Rattle.std.specs.Prelude.{◌==◌, nat_le, if◌then◌else◌, Option, Some, None}
 use Rattle.split_ring.specs.declared.ranges.FieldName.{FieldName}
 use Rattle.split_ring.specs.declared.ranges.FieldName.TheVariants as field_name
-use Rattle.split_ring.specs.Layout.{size_of, limit_of}
+use Rattle.split_ring.specs.Layout.{has_events, size_of, limit_of}
 use Rattle.split_ring.specs.Spelling.{low_half, high_half}
 use Rattle.link_handshake.specs.declared.Phase.TheVariants.{Reset}
 use Rattle.link_handshake.specs.declared.Move.{Move}
@@ -13,9 +13,9 @@ use Rattle.call_grammar.specs.Steps.{Mark, Reclaim, Full}
 use Rattle.call_grammar.specs.Words.{words_for, address_of}
 use Rattle.call_grammar.specs.Ends.{End, end_after}
 use Rattle.call_grammar.specs.Calls.{Who, Call, Tick, Stop, Offer, Poll, in_run, job_of}
-use Rattle.call_grammar.specs.Offers.{Job, descriptor_of, returned_by, refusal, full_marks, reclaim_marks}
-use Rattle.call_grammar.specs.Polls.{is_entry, is_address, is_length, entry_in, published_by}
-use Rattle.call_grammar.specs.Places.{Place, step_at, Closed, AtState, Clearing, Refusing, Downed, AtUsedIndex, AtUsedId, Filling, WritingLow, WritingHigh, WritingLength, WritingFlags, WritingEntry, WritingIndex, AtAvailIndex, AtEntry, AtLow, AtHigh, AtLength, AtFlags, AtWord, GivingIndex, clear_place, tick_place, fill_place, ids_place, items_place, words_place, first_place, marks_at, next_place}
+use Rattle.call_grammar.specs.Offers.{Job, descriptor_of, asks_for, returned_by, refusal, full_marks, reclaim_marks}
+use Rattle.call_grammar.specs.Polls.{is_entry, is_address, is_length, entry_in, published_by, is_last}
+use Rattle.call_grammar.specs.Places.{Place, step_at, Closed, AtState, Clearing, Refusing, Downed, AtUsedIndex, AtUsedId, Filling, WritingLow, WritingHigh, WritingLength, WritingFlags, WritingEntry, WritingIndex, AtEvent, RingingOffer, AtAvailIndex, Arming, AtEntry, AtLow, AtHigh, AtLength, AtFlags, AtWord, GivingIndex, clear_place, tick_place, fill_place, ids_place, tell_place, none_place, items_place, words_place, first_place, marks_at, next_place}
 use Rattle.ends_pair.specs.Fields.{Field}
 use Rattle.ends_pair.specs.Ground.{Ground, IsGround, section_of, who_of, fields}
 use Rattle.ends_pair.specs.Alone.{frame_at, Spelled, Opened, Alone}
@@ -52,6 +52,10 @@ unfolding settled_place
 tick_none who Stay = refl
 tick_none who (Set state) = refl
 tick_none who (ClearThenSet state) = clear_none who.own who.words state
+
+pub tell_none : (who : Who) (number : ℕ) → OffersNone (tell_place who number)
+unfolding settled_place
+tell_none who number = test_none (has_events who.sizes) (AtEvent number) RingingOffer refl refl
 
 items_none : (number count : ℕ) → OffersNone (items_place number count)
 unfolding settled_place
@@ -101,8 +105,10 @@ goes_on who (WritingHigh job) value = λ j e. e
 goes_on who (WritingLength job) value = λ j e. e
 goes_on who (WritingFlags job) value = λ j e. e
 goes_on who (WritingEntry job) value = λ j e. e
-goes_on who (AtAvailIndex taken) value = on_none (AtAvailIndex taken) (next_place who (AtAvailIndex taken) value) (test_none (nat_le (published_by taken value) (size_of who.sizes)) (if published_by taken value == 0 then Closed else items_place taken (published_by taken value)) Refusing
-    (test_none (published_by taken value == 0) Closed (items_place taken (published_by taken value)) refl (items_none taken (published_by taken value))) refl)
+goes_on who (WritingIndex job) value = on_none (WritingIndex job) (tell_place who job.number) (tell_none who job.number)
+goes_on who (AtEvent number) value = on_none (AtEvent number) (next_place who (AtEvent number) value) (test_none (asks_for (low_half value) number) RingingOffer Closed refl refl)
+goes_on who (AtAvailIndex taken last) value = on_none (AtAvailIndex taken last) (next_place who (AtAvailIndex taken last) value) (test_none (nat_le (published_by taken value) (size_of who.sizes)) (if published_by taken value == 0 then none_place taken last else items_place taken (published_by taken value)) Refusing
+    (test_none (published_by taken value == 0) (none_place taken last) (items_place taken (published_by taken value)) (test_none last Closed (Arming taken) refl refl) (items_none taken (published_by taken value))) refl)
 goes_on who (AtEntry number more) value = on_none (AtEntry number more) (next_place who (AtEntry number more) value) (test_none (is_entry who.sizes (entry_in who number value)) (AtLow number more (entry_in who number value)) Refusing refl refl)
 goes_on who (AtHigh number more entry low) value = on_none (AtHigh number more entry low) (next_place who (AtHigh number more entry low) value) (test_none (is_address who.sizes (address_of low value)) (AtLength number more entry (address_of low value)) Refusing refl refl)
 goes_on who (AtLength number more entry address) value = on_none (AtLength number more entry address) (next_place who (AtLength number more entry address) value) (test_none (is_length who.sizes address value) (AtFlags number more entry address value) Refusing refl refl)
@@ -154,7 +160,7 @@ freed_on who (WritingHigh job) value x = inl refl
 freed_on who (WritingLength job) value x = inl refl
 freed_on who (WritingFlags job) value x = inl refl
 freed_on who (WritingEntry job) value x = inl refl
-freed_on who (WritingIndex job) value x = inl refl
+freed_on who (WritingIndex job) value x = inl (freed_none x (settled_place (tell_place who job.number)) (tell_none who job.number))
 freed_on who place value x = inl (freed_none x (settled_place (next_place who place value)) (none_of (offered_at (settled_place (next_place who place value))) (λ job e. none_some job (goes_on who place value job e))))
 
 test_same : (x : ℕ) (b : Bool) (y z : Place) → freed_at x y ≡ x → freed_at x z ≡ x → freed_at x (if b then y else z) ≡ x
@@ -165,7 +171,7 @@ first_freed : (x : ℕ) (who : Who) (end : End) (call : Call) → freed_at x (fi
 first_freed x who end Tick = refl
 first_freed x who end Stop = refl
 first_freed x who end (Offer frame) = test_same x (in_run end.handshake.phase) (AtUsedIndex (job_of who end frame) end.freed) Downed refl refl
-first_freed x who end Poll = test_same x (in_run end.handshake.phase) (AtAvailIndex (length end.delivered)) Downed refl refl
+first_freed x who end Poll = test_same x (in_run end.handshake.phase) (AtAvailIndex (length end.delivered) (is_last who end.found_none)) Downed refl refl
 
 -- as it reads them, an offer accepts nothing and writes nothing
 abbrev AcceptsNone : List Mark → Type 0

@@ -1,12 +1,10 @@
 -- Interrupts that running peers tell, and the doorbells that brought them.
-use Rattle.std.proofs.Common.{◌≡◌, ◌≢◌, ℕ, zero, suc, ◌+◌, ◌<◌, ◌≤◌, Bool, true, false, List, [], ◌∷◌, ◌++◌, length, get_or, refl, sym, ap, ◌∙◌, subst, arith, eq-eqb, ne_eqb}
+use Rattle.std.proofs.Common.{◌≡◌, ◌≢◌, ℕ, zero, suc, ◌+◌, ◌<◌, ◌≤◌, Bool, true, false, List, [], ◌∷◌, ◌++◌, refl, sym, ap, ◌∙◌, subst, arith, eq-eqb, ne_eqb}
 use Rattle.std.specs.Prelude.{Option, Some, None, map, ◌==◌, ◌&&◌, ◌||◌, nat_lt, if◌then◌else◌}
-use Rattle.std.specs.List.{flat_map}
 use Rattle.std.specs.Int.{bit_at}
 use Rattle.std.proofs.lemmas.Nat.Bits.{bit_at-lt}
 use Rattle.std.proofs.lemmas.Bool.{eqb-true}
 use Rattle.std.proofs.lemmas.Bool.Decides.{nat_tests}
-use Rattle.std.proofs.lemmas.List.{map-append}
 use mathlib.Core.Logic.{dite}
 use native.Mathlib.Decide.{ℕ_discrete, dec_lt}
 use Rattle.split_ring.specs.declared.steps.Access.{Access}
@@ -20,19 +18,17 @@ use Rattle.lawful_history.specs.declared.line.Line.TheVariants as line
 use Rattle.lawful_history.specs.Entries.{access_lines, mark_line}
 use Rattle.lawful_history.specs.Peers.{Driver, Waits, Chooses, Storms, Peer, opened}
 use Rattle.doorbell_irq.specs.declared.route.Route.{Route}
-use Rattle.doorbell_irq.specs.Routes.{bit_for, bit_rung, is_intx}
-use Rattle.doorbell_irq.specs.DeviceRules.{bit}
+use Rattle.doorbell_irq.specs.Routes.{bit_for, bit_rung}
 use Rattle.peer_runner.specs.declared.ways.Way.{Way}
 use Rattle.peer_runner.specs.declared.ways.Way.TheVariants.{Silent, Direct, Guarded}
-use Rattle.peer_runner.specs.Standings.{Taken, Touch, touch, touch_of}
+use Rattle.peer_runner.specs.Standings.{Taken, Touch, touch_of}
 use Rattle.peer_runner.specs.Actions.{Action, accessed, rang, looked, cleared, seen_by}
 use Rattle.peer_runner.specs.Interrupts.{weigh, tally, one_if, rings, finds}
 use Rattle.peer_runner.specs.Passes.{shown}
 use Rattle.peer_runner.specs.Ways.{route_to, way_by, way_to, rung_by}
-use Rattle.peer_runner.specs.Turns.{Turn, Looks, Makes, Clears, Rings, Running, comes_to, TakesStep, StepsTo, is_set, cleared_to, TakesTurn, TakesTurns, acted_by, cleared_by, acted_in, actions_in, heard_bit, heard, is_quiet, lines_of, marks_of, told_in, told_of}
+use Rattle.peer_runner.specs.Turns.{Turn, Looks, Makes, Clears, Rings, Running, comes_to, TakesStep, is_set, TakesTurn, TakesTurns, acted_by, cleared_by, acted_in, actions_in, heard_bit, heard, is_quiet, lines_of, marks_of, told_in, told_of}
 use Rattle.peer_runner.specs.RunningRecord.{how_many, is_interrupt, is_interrupt_by, is_bell}
-use Rattle.peer_runner.proofs.Weights.{weigh_none, weigh_append, weigh_one, tally_same, tally_zero, tally_sum, finds_looked, finds_rang, finds_cleared, finds_accessed, rings_looked, rings_cleared, rings_accessed}
-use Rattle.peer_runner.proofs.Runs.{told_none, actions_none}
+use Rattle.peer_runner.proofs.Weights.{weigh_none, weigh_append, weigh_one, tally_same, tally_sum, finds_looked, rings_looked}
 
 -- Counts of lines
 

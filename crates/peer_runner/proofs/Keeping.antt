@@ -1,11 +1,11 @@
 -- An access of a peer leads to where the ends' calls reach.
-use Rattle.std.proofs.Common.{◌≡◌, ◌≢◌, ℕ, zero, suc, ◌<◌, Bool, true, false, List, [], ◌∷◌, ◌++◌, refl, sym, ap, ◌∙◌, subst, arith, append-nil}
+use Rattle.std.proofs.Common.{◌≡◌, ◌≢◌, ℕ, ◌<◌, Bool, true, false, List, [], ◌++◌, refl, sym, ap, ◌∙◌, subst, append-nil}
 use mathlib.Core.Logic.{dite}
 use native.Mathlib.Decide.{ℕ_discrete}
 use Rattle.std.specs.Prelude.{Option, Some, None}
 use Rattle.split_ring.specs.declared.steps.Access.{Access}
 use Rattle.call_grammar.specs.Ends.{End}
-use Rattle.call_grammar.specs.Calls.{Who, Call, Stop}
+use Rattle.call_grammar.specs.Calls.{Call, Stop}
 use Rattle.call_grammar.specs.Places.{Place, Closed, Downed, RingingOffer, RingingPoll, access_at, is_open}
 use Rattle.ends_pair.specs.Ground.{Ground, who_of, IsGivenTo}
 use Rattle.ends_pair.specs.Steps.{IsUntouched, Meets, Leaves}

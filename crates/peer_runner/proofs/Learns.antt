@@ -1,5 +1,5 @@
 -- The rule at the start, and what a seat may learn of it.
-use Rattle.std.proofs.Common.{◌≡◌, ◌≢◌, ℕ, zero, suc, ◌+◌, ◌*◌, ◌-◌, true, false, ◌<◌, ◌≤◌, List, [], ◌∷◌, ◌++◌, length, length-append, append_assoc, append-nil, get_or, replicate, refl, sym, ap, ◌∙◌, subst, arith}
+use Rattle.std.proofs.Common.{◌≡◌, ◌≢◌, ℕ, zero, suc, ◌+◌, ◌*◌, ◌-◌, false, ◌<◌, ◌≤◌, List, [], ◌∷◌, ◌++◌, length, length-append, append_assoc, append-nil, get_or, replicate, refl, sym, ap, ◌∙◌, subst, arith}
 use mathlib.Core.Logic.{dite}
 use native.Mathlib.Decide.{ℕ_discrete, dec_lt}
 use Rattle.std.specs.Int.{bit_at}
@@ -17,11 +17,11 @@ use Rattle.ends_pair.specs.Whole.{HonestEndsAgree}
 use Rattle.pair_sessions.specs.Once.{CalmRunsDeliver}
 use Rattle.peer_runner.specs.declared.key.Key.{Key}
 use Rattle.peer_runner.specs.declared.view.View.{View}
-use Rattle.peer_runner.specs.Keys.{honest_of, IsFit}
-use Rattle.peer_runner.specs.Standings.{Taken, Stance, standing}
+use Rattle.peer_runner.specs.Keys.{IsFit}
+use Rattle.peer_runner.specs.Standings.{Taken, standing}
 use Rattle.peer_runner.specs.Made as made
 use Rattle.peer_runner.specs.Actions.{Action, accesses_in}
-use Rattle.peer_runner.specs.Interrupts.{weigh, tally, rings, finds, wins, StandsBehind, interrupt_word, control_word, all_words, interrupts_at_start, words_at_start, Interrupts, AreRung}
+use Rattle.peer_runner.specs.Interrupts.{weigh, tally, rings, finds, wins, StandsBehind, interrupt_word, control_word, interrupts_at_start, words_at_start, Interrupts, AreRung}
 use Rattle.atomic_table.specs.Seated.{TableId}
 use Rattle.peer_runner.specs.Passes.{IsOf, held}
 use Rattle.peer_runner.specs.Rules.{region, accesses_by, Memory, Fits, Kept, view, newcomer, list_of, AreTold, Told}

@@ -1,7 +1,6 @@
 -- Looks between the turns of an automatic peer.
-use Rattle.std.proofs.Common.{◌≡◌, ℕ, Bool, true, false, List, refl, sym, ap, ◌∙◌}
+use Rattle.std.proofs.Common.{◌≡◌, ℕ, Bool, true, false, List, refl, sym, ◌∙◌}
 use Rattle.std.specs.Prelude.{◌&&◌, not}
-use Rattle.split_ring.specs.declared.steps.Access.TheVariants as access
 use Rattle.call_grammar.specs.Calls.{Who}
 use Rattle.call_grammar.specs.Places.{Place, RingingOffer, RingingPoll, access_at, is_open}
 use Rattle.link_endpoint.specs.Engine.{Engine}

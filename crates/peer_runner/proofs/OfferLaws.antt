@@ -7,7 +7,7 @@ use Rattle.split_ring.specs.Layout.{limit_of}
 use Rattle.call_grammar.specs.Ends.{End}
 use Rattle.call_grammar.specs.Calls.{Who, Call}
 use Rattle.call_grammar.specs.Offers.{Job}
-use Rattle.call_grammar.specs.Places.{Place, AtUsedIndex, AtUsedId, Filling, WritingLow, WritingHigh, WritingLength, WritingFlags, WritingEntry, WritingIndex, fill_place, access_at, next_place}
+use Rattle.call_grammar.specs.Places.{Place, AtUsedIndex, AtUsedId, Filling, WritingLow, WritingHigh, WritingLength, WritingFlags, WritingEntry, WritingIndex, fill_place, tell_place, access_at, next_place}
 use Rattle.ends_pair.specs.Ground.{Ground, who_of}
 use Rattle.ends_pair.specs.Alone.{Alone}
 use Rattle.ends_pair.specs.Pair.{freed_at}
@@ -22,7 +22,7 @@ use Rattle.peer_runner.proofs.Standings.{standing_none}
 use Rattle.peer_runner.proofs.Keys.{same_section, is_ground, honest_below}
 use Rattle.peer_runner.proofs.Along.{alone_at, place_before, Turn, along}
 use Rattle.peer_runner.proofs.ListLaws.{fold_more}
-use Rattle.peer_runner.proofs.Flight.{none_some, goes_on}
+use Rattle.peer_runner.proofs.Flight.{tell_none, none_some, goes_on}
 
 -- the frame offered is the next one
 number_is : (ground : Ground) (memory : ℕ → ℕ) (p : ℕ) (end : End) (place : Place) (job : Job) → Alone ground memory p end place → offered_at place ≡ Some job → job.number ≡ length end.accepted
@@ -76,7 +76,7 @@ reading_on who (WritingHigh job) value r = r
 reading_on who (WritingLength job) value r = r
 reading_on who (WritingFlags job) value r = r
 reading_on who (WritingEntry job) value r = r
-reading_on who (WritingIndex job) value r = r
+reading_on who (WritingIndex job) value r = let o = reading_offers (settled_place (tell_place who job.number)) r in none_some o.0 (sym (tell_none who job.number) ∙ o.1)
 reading_on who place value r = let o = reading_offers (settled_place (next_place who place value)) r in absurd (none_some o.0 (goes_on who place value o.0 o.1))
 
 reads_words : (who : Who) (place : Place) → IsReading place → words_of (access_at who place) ≡ []
@@ -109,7 +109,7 @@ module _ (key : Key) (fit : IsFit key) (p : ℕ) (hp : honest_of key p ≡ true)
   stored_at memory end (WritingLength j) value job w a e c = let is = one_in _ w c in let start = same_section key p (honest_below key p hp) in let same : j ≡ job = cc in let n = ap (λ (x : Job). x.number) same in subst (λ k. IsOfFrame key p k w) n (inr (inl (omega arith, omega arith)))
   stored_at memory end (WritingFlags j) value job w a e c = let is = one_in _ w c in let start = same_section key p (honest_below key p hp) in let same : j ≡ job = cc in let n = ap (λ (x : Job). x.number) same in subst (λ k. IsOfFrame key p k w) n (inr (inl (omega arith, omega arith)))
   stored_at memory end (WritingEntry j) value job w a e c = let is = one_in _ w c in let start = same_section key p (honest_below key p hp) in let same : j ≡ job = cc in let n = ap (λ (x : Job). x.number) same in subst (λ k. IsOfFrame key p k w) n (inr (inr (omega arith)))
-  stored_at memory end (WritingIndex j) value job w a e c = absurd (none_some job e)
+  stored_at memory end (WritingIndex j) value job w a e c = absurd (none_some job (sym (tell_none (who_of (ground_of key) p) j.number) ∙ e))
   stored_at memory end place value job w a e c = absurd (none_some job (goes_on (who_of (ground_of key) p) place value job e))
 
   abbrev Stored : List Taken → Type 0

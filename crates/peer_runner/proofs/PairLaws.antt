@@ -11,6 +11,7 @@ use Rattle.link_handshake.specs.declared.Phase.TheVariants.{Reset, Init, Ready, 
 use Rattle.link_handshake.specs.PhaseTable.{state_of}
 use Rattle.call_grammar.specs.Ends.{End}
 use Rattle.call_grammar.specs.Calls.{Who, Call, Tick, Stop, Offer, Poll, in_run, job_of}
+use Rattle.call_grammar.specs.Polls.{is_last}
 use Rattle.call_grammar.specs.Places.{Place, Setting, Refusing, Downed, AtUsedIndex, AtAvailIndex, first_place, access_at}
 use Rattle.link_machine.specs.LinkMachine.{Log}
 use Rattle.ends_pair.specs.Fields.{UsedId}
@@ -51,7 +52,7 @@ first_up : (who : Who) (end : End) (call : Call) → call ≢ Stop → ¬ IsDown
 first_up who end Tick ne = λ d. d
 first_up who end Stop ne = absurd (ne refl)
 first_up who end (Offer frame) ne = test_up (in_run end.handshake.phase) (AtUsedIndex (job_of who end frame) end.freed) Downed (λ d. d) (λ d. d)
-first_up who end Poll ne = test_up (in_run end.handshake.phase) (AtAvailIndex (length end.delivered)) Downed (λ d. d) (λ d. d)
+first_up who end Poll ne = test_up (in_run end.handshake.phase) (AtAvailIndex (length end.delivered) (is_last who end.found_none)) Downed (λ d. d) (λ d. d)
 
 begun_up : (ground : Ground) (who : Who) (s : Stance) (call : Option Call) → Begins ground s call → ¬ IsDown s.place → ¬ IsDown (begun_if who s call).place
 begun_up ground who s None b up = up

@@ -1,5 +1,5 @@
 -- What the acts of a scenario in running form say of a peer.
-use Rattle.std.proofs.Common.{◌≡◌, ◌≢◌, ℕ, zero, suc, ◌+◌, ◌<◌, ◌≤◌, nat_le, nat_lt, Bool, true, false, ◌&&◌, ◌||◌, All, List, [], ◌∷◌, ◌++◌, length, take, drop, refl, sym, ap, ◌∙◌, subst, arith, append-nil, append_assoc, eqb, ⊎_elim, ◌⊎◌, inl, inr, get_or}
+use Rattle.std.proofs.Common.{◌≡◌, ℕ, zero, suc, ◌+◌, ◌<◌, ◌≤◌, nat_le, nat_lt, Bool, true, false, ◌&&◌, ◌||◌, All, List, [], ◌∷◌, ◌++◌, length, take, drop, refl, sym, ap, ◌∙◌, subst, arith, append-nil, append_assoc, ⊎_elim, ◌⊎◌, inl, inr, get_or}
 use Rattle.std.specs.Prelude.{Option, Some, None, ◌==◌, not, if◌then◌else◌, slice_get, slice_index, slice_index_or, is_some, unwrap_or}
 use Rattle.std.specs.List.{list_any, list_all, AllByRecursion}
 use Rattle.std.proofs.lemmas.Bool.{eqb-true}
@@ -10,10 +10,9 @@ use Rattle.std.proofs.lemmas.List.Folds.{list_any-append}
 use Rattle.std.proofs.lemmas.List.Elements.{All-append, All-from_recursion}
 use Rattle.scenario_text.specs.declared.acts.Act.{Act}
 use Rattle.scenario_text.specs.declared.acts.Act.TheVariants as act
-use Rattle.scenario_text.specs.ActRows.{row_of_act}
 use Rattle.scenario_text.specs.Acts.{is_auto, is_storm, has_auto, has_storm}
 use Rattle.scenario_text.specs.Running.{is_turn, is_turn_of, has_turn, breaks, first_break, first_line, not_running}
-use Rattle.scenario_text.specs.Scenario.{World, IsAllowed, IsWorld, is_link, is_hostile, is_its_peer}
+use Rattle.scenario_text.specs.Scenario.{World, IsAllowed, IsWorld, is_link, is_hostile}
 use Rattle.section_map.specs.Geometry.{Shape}
 use Rattle.split_ring.specs.Layout.{Sizes}
 use Rattle.call_grammar.specs.Ends.{fresh}
@@ -24,7 +23,7 @@ use Rattle.link_endpoint.specs.Engine as endpoint
 use Rattle.link_endpoint.specs.Stands.{StandsAt}
 use Rattle.link_endpoint.specs.Plan.{Plan, fresh_plan}
 use Rattle.lawful_history.specs.Sides.{traffic_vector}
-use Rattle.lawful_history.specs.Peers.{Driver, Chooses, Storms, Peer, at_start}
+use Rattle.lawful_history.specs.Peers.{Storms, Peer, at_start}
 use Rattle.peer_runner.specs.declared.key.Key.{Key}
 use Rattle.peer_runner.specs.Keys.{who_in, honest_of, IsMadeFor}
 use Rattle.peer_runner.specs.OwnRecord.{told, told_all, turn_in, first_of, turn_line, start_of, turns_of}

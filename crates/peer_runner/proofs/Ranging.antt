@@ -1,6 +1,6 @@
 -- Peers of a range run: their lists and their traces.
-use Rattle.std.proofs.Common.{◌≡◌, ℕ, zero, suc, ◌+◌, ◌-◌, ◌<◌, ◌≤◌, Bool, true, false, List, [], ◌∷◌, ◌++◌, length, take, drop, replicate, refl, sym, ap, ◌∙◌, subst, arith, append-nil, append_assoc, length-append}
-use Rattle.std.specs.Prelude.{Result, Ok, Err, IfOk, IsErr}
+use Rattle.std.proofs.Common.{◌≡◌, ℕ, zero, suc, ◌+◌, ◌-◌, ◌≤◌, Bool, false, List, [], ◌∷◌, ◌++◌, length, take, drop, replicate, refl, sym, ap, ◌∙◌, subst, arith, append-nil, append_assoc}
+use Rattle.std.specs.Prelude.{Result, Ok, Err, IfOk}
 use Rattle.std.proofs.lemmas.List.{length-replicate}
 use Rattle.atomic_table.specs.Seated.{TableId}
 use Rattle.ivs_base.specs.declared.frames.NoMemory.{NoMemory}
@@ -9,7 +9,6 @@ use Rattle.scenario_text.specs.Running.{has_turn}
 use Rattle.lawful_history.specs.Peers.{Peer}
 use Rattle.record_text.specs.declared.own_trace.OwnTrace.{OwnTrace}
 use Rattle.record_text.specs.OwnParts.{part_of}
-use Rattle.doorbell_irq.specs.declared.route.Route.{Route}
 use Rattle.peer_runner.specs.declared.key.Key.{Key}
 use Rattle.peer_runner.specs.declared.driving.PeerPlan.{PeerPlan}
 use Rattle.peer_runner.specs.Held.{Held}
@@ -18,7 +17,7 @@ use Rattle.peer_runner.specs.Standings.{Taken}
 use Rattle.peer_runner.specs.Actions.{Action}
 use Rattle.peer_runner.specs.Passes.{IsOf, held, lower_pass, upper_pass, join_passes}
 use Rattle.peer_runner.specs.OwnRecord.{IsToldBy, start_of, turns_of}
-use Rattle.peer_runner.specs.Drives.{starting, MayDrive, IsPlan, Did, Drove, HasRun, RanIf, RanOne, RanAll, BothOk}
+use Rattle.peer_runner.specs.Drives.{starting, MayDrive, IsPlan, Did, RanIf, RanOne, RanAll, BothOk}
 
 pub plan_may : (world : World) (key : Key) (me : ℕ) (plan : PeerPlan) → IsPlan world me plan → IsMadeFor world key → MayDrive key plan.peer plan.driver
 plan_may world key me plan is made = subst (λ p. MayDrive key p plan.driver) (sym is.peer) (is.driver.1 key made)

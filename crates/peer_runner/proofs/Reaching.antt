@@ -1,5 +1,5 @@
 -- Where running peers come is where the ends' runs come.
-use Rattle.std.proofs.Common.{◌≡◌, ◌≢◌, ℕ, zero, suc, ◌-◌, ◌<◌, ◌≤◌, Bool, true, false, List, [], ◌∷◌, ◌++◌, refl, sym, ap, ◌∙◌, subst, arith, append-nil, append_assoc, eq-eqb, ne_eqb}
+use Rattle.std.proofs.Common.{◌≡◌, ℕ, zero, suc, ◌-◌, ◌<◌, ◌≤◌, Bool, true, false, List, [], ◌∷◌, ◌++◌, refl, sym, ap, ◌∙◌, subst, arith, append-nil, append_assoc, eq-eqb, ne_eqb}
 use mathlib.Core.Logic.{dite}
 use native.Mathlib.Decide.{ℕ_discrete}
 use Rattle.std.specs.Prelude.{◌==◌, if◌then◌else◌}
@@ -8,21 +8,21 @@ use Rattle.split_ring.specs.declared.steps.Access.TheVariants as access
 use Rattle.link_handshake.specs.PhaseTable.{state_of}
 use Rattle.call_grammar.specs.Steps.{Mark}
 use Rattle.call_grammar.specs.Steps as mark
-use Rattle.call_grammar.specs.Ends.{End, with_state, stated, noted, noted_all, end_after}
+use Rattle.call_grammar.specs.Ends.{End, with_state, stated, noted, noted_all}
 use Rattle.call_grammar.specs.Calls.{Who}
-use Rattle.call_grammar.specs.Places.{Place, Refusing, Setting, access_at, marks_at, next_place, step_at, is_open}
+use Rattle.call_grammar.specs.Places.{Place, Setting, access_at, marks_at}
 use Rattle.ends_pair.specs.Ground.{Ground, IsGround, who_of}
 use Rattle.ends_pair.specs.Steps as ends
 use Rattle.ends_pair.specs.Runs as runs
 use Rattle.ends_pair.specs.Runs.{Runs, HonestRuns, RunsKeepWhole}
-use Rattle.ends_pair.specs.Whole.{Whole, HonestEndsAgree}
+use Rattle.ends_pair.specs.Whole.{HonestEndsAgree}
 use Rattle.ends_pair.specs.Alone.{MaySet, Holds}
 use Rattle.link_machine.specs.LinkMachine.{Log}
 use Rattle.pair_sessions.specs.Once as once
 use Rattle.pair_sessions.specs.Once.{CalmRuns, IsOnce, CalmRunsDeliver}
 use Rattle.peer_runner.specs.declared.key.Key.{Key}
 use Rattle.peer_runner.specs.Keys.{ground_of, honest_of}
-use Rattle.peer_runner.specs.Standings.{Taken, Stance, standing, begun, moved, accepted_once, delivered_once, accepted_by, delivered_by}
+use Rattle.peer_runner.specs.Standings.{Taken, Stance, standing, moved, accepted_once, delivered_once, accepted_by, delivered_by}
 use Rattle.peer_runner.proofs.Reaches.{OnlyComes, Reached}
 use Rattle.peer_runner.proofs.Reaches as reaches
 use Rattle.peer_runner.specs.Rules.{AreTold}

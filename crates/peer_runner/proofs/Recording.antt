@@ -1,22 +1,20 @@
 -- What peers did in threads is a run of their scenario.
-use Rattle.std.proofs.Common.{◌≡◌, ◌≢◌, ℕ, zero, suc, ◌+◌, ◌-◌, ◌<◌, ◌≤◌, ◌==◌, Bool, true, false, ◌||◌, All, List, [], ◌∷◌, ◌++◌, length, map, refl, sym, ap, ◌∙◌, subst, arith, append-nil, append_assoc, eq-eqb, ne_eqb, get_or, take}
+use Rattle.std.proofs.Common.{◌≡◌, ◌≢◌, ℕ, zero, suc, ◌+◌, ◌-◌, ◌<◌, ◌≤◌, ◌==◌, Bool, true, false, ◌||◌, All, List, [], ◌∷◌, ◌++◌, length, map, refl, sym, ap, ◌∙◌, subst, arith, append-nil, eq-eqb, ne_eqb, get_or, take}
 use Rattle.std.specs.Prelude.{if◌then◌else◌, filter}
-use Rattle.std.specs.List.{flat_map, list_any, range_with_len, AllByRecursion}
+use Rattle.std.specs.List.{list_any, range_with_len, AllByRecursion}
 use Rattle.std.proofs.lemmas.List.{map-append}
 use Rattle.std.proofs.lemmas.List.Folds.{list_any-append}
-use Rattle.std.proofs.lemmas.List.Elements.{All-append, All-from_recursion}
+use Rattle.std.proofs.lemmas.List.Elements.{All-from_recursion}
 use Rattle.std.proofs.lemmas.Grind.{flat_map-append}
-use mathlib.Core.Logic.{dite}
-use native.Mathlib.Decide.{dec_lt}
 use Rattle.atomic_table.specs.Seated.{TableId}
 use Rattle.split_ring.specs.declared.steps.Access.{Access}
 use Rattle.split_ring.specs.declared.steps.Access.TheVariants as access
-use Rattle.scenario_text.specs.Scenario.{World, is_link}
+use Rattle.scenario_text.specs.Scenario.{World}
 use Rattle.scenario_text.specs.Running.{has_turn}
 use Rattle.call_grammar.specs.Steps.{Mark, Step}
 use Rattle.call_grammar.specs.Steps as mark
-use Rattle.call_grammar.specs.Trees.{CallTree, Ended, Does, Reads, Goes}
-use Rattle.call_grammar.specs.Ends.{End, stated, noted, noted_all, end_after}
+use Rattle.call_grammar.specs.Trees.{CallTree, Ended, Does, Reads}
+use Rattle.call_grammar.specs.Ends.{End, stated, noted, noted_all}
 use Rattle.call_grammar.specs.Calls.{Who, Call}
 use Rattle.call_grammar.specs.Automatic as automatic
 use Rattle.lawful_history.specs.declared.line.Line.{Line}
@@ -24,7 +22,7 @@ use Rattle.lawful_history.specs.declared.line.Line.TheVariants as line
 use Rattle.lawful_history.specs.Sides.{who_of}
 use Rattle.lawful_history.specs.Storm.{storm_step}
 use Rattle.lawful_history.specs.Entries.{access_lines, mark_line}
-use Rattle.lawful_history.specs.Peers.{Auto, Driver, Waits, Chooses, Storms, Peer, with_choice, chosen, opened_by, opened, stepped}
+use Rattle.lawful_history.specs.Peers.{Auto, Driver, Waits, Chooses, Storms, Peer, with_choice, chosen, opened_by, opened}
 use Rattle.record_text.specs.Parts.{Part, peers_of, running_peers}
 use Rattle.record_text.specs.declared.own_trace.OwnTrace.{OwnTrace}
 use Rattle.record_text.specs.OwnParts.{part_of}
@@ -40,7 +38,7 @@ use Rattle.peer_runner.specs.Passes.{held, lower_pass, join_passes, shown, actio
 use Rattle.doorbell_irq.specs.declared.route.Route.{Route}
 use Rattle.std.specs.Int.{bit_at}
 use Rattle.peer_runner.specs.Ways.{AreRoutesOf}
-use Rattle.peer_runner.specs.Turns.{Turn, Looks, Makes, Clears, Rings, Running, comes_to, TakesStep, TakesTurn, TakesTurns, is_set, cleared_to, heard_bit, heard, finds_nothing, is_quiet, lines_of, marks_of, told_in, told_of, actions_in}
+use Rattle.peer_runner.specs.Turns.{Turn, Looks, Makes, Clears, Rings, Running, comes_to, TakesStep, TakesTurn, TakesTurns, is_set, heard_bit, heard, finds_nothing, is_quiet, lines_of, marks_of, told_in, told_of}
 use Rattle.peer_runner.specs.OwnRecord.{IsToldBy, start_of, turns_of, IsOwnRecord}
 use Rattle.peer_runner.specs.RunningRecord.{lines_if, lines_by, accepted_on, delivered_on, accepted_in, delivered_in, refuses, how_many, is_interrupt, is_interrupt_by, is_bell, bells_in, AreHeard, ArePaired, IsRunOf}
 use Rattle.peer_runner.specs.Runners.{marks_in}

@@ -1,5 +1,5 @@
 -- A run of turns of an automatic peer.
-use Rattle.std.proofs.Common.{◌≡◌, ℕ, zero, suc, ◌+◌, ◌<◌, ◌≤◌, Bool, true, false, List, [], ◌∷◌, ◌++◌, length, refl, sym, ap, ◌∙◌, subst, arith, append-nil, append_assoc, eq-eqb, length-append}
+use Rattle.std.proofs.Common.{◌≡◌, ℕ, zero, suc, ◌+◌, Bool, true, false, List, [], ◌∷◌, ◌++◌, length, refl, sym, ap, ◌∙◌, subst, arith, append-nil, append_assoc, eq-eqb}
 use Rattle.std.specs.Prelude.{Option, Some, None, ◌&&◌, ◌==◌, not, if◌then◌else◌, map, min, Result, Ok, Err, IsErr, IfOk}
 use Rattle.std.specs.List.{list_all, flat_map}
 use Rattle.std.proofs.lemmas.List.{map-append}
@@ -15,9 +15,9 @@ use Rattle.call_grammar.specs.Calls.{Who, Call}
 use Rattle.call_grammar.specs.Calls as calls
 use Rattle.call_grammar.specs.Automatic.{choice_of}
 use Rattle.call_grammar.specs.Automatic as automatic
+use Rattle.call_grammar.specs.Polls.{is_last}
 use Rattle.call_grammar.specs.Places.{Place, Closed, AtUsedIndex, AtAvailIndex, Downed, remaining, first_place, access_at, next_place, step_at, marks_at, is_open, PlacesFollowTrees}
 use Rattle.link_endpoint.specs.Engine.{Engine}
-use Rattle.link_endpoint.specs.Stands.{StandsAt}
 use Rattle.link_endpoint.specs.Plan.{Plan, IsChoice, fresh_plan}
 use Rattle.link_endpoint.specs.declared.auto.Choice.{Choice}
 use Rattle.link_endpoint.specs.declared.auto.Choice.TheVariants.{Tick, Offer, Poll, Finished}
@@ -26,17 +26,16 @@ use Rattle.lawful_history.specs.declared.line.Line.TheVariants as line
 use Rattle.std.specs.Int.{bit_at}
 use Rattle.lawful_history.specs.Entries.{access_lines, mark_line}
 use Rattle.lawful_history.specs.Frames.{has_frame, HaveFrames}
-use Rattle.lawful_history.specs.Peers.{Auto, Driver, Chooses, Peer, with_choice, opened_by, opened, stepped}
+use Rattle.lawful_history.specs.Peers.{Auto, Chooses, Peer, with_choice, opened_by, opened, stepped}
 use Rattle.record_text.specs.OwnLines.{is_own, AreOwn}
-use Rattle.record_text.specs.OwnParts.{part_of}
 use Rattle.record_text.specs.declared.own_trace.OwnTrace.{OwnTrace}
 use Rattle.step_lines.specs.Plans.{IsPlanOf}
 use Rattle.step_lines.specs.Places.{HasFrames}
 use Rattle.step_lines.proofs.Framing.{marks_frames}
 use Rattle.peer_runner.specs.declared.key.Key.{Key}
 use Rattle.peer_runner.specs.Held.{Held}
-use Rattle.peer_runner.specs.Keys.{who_in, honest_of}
-use Rattle.peer_runner.specs.Standings.{Taken, taken, touch_of, outset, Stance, settled_place, standing, accepted_by, delivered_by}
+use Rattle.peer_runner.specs.Keys.{who_in}
+use Rattle.peer_runner.specs.Standings.{Taken, touch_of, Stance, standing, accepted_by, delivered_by}
 use Rattle.peer_runner.specs.Actions.{Action, looked, seen_by}
 use Rattle.peer_runner.specs.Passes.{shown, held}
 use Rattle.doorbell_irq.specs.declared.route.Route.{Route}
@@ -45,10 +44,9 @@ use Rattle.peer_runner.specs.declared.ways.Way.TheVariants.{Silent, Direct, Guar
 use Rattle.peer_runner.specs.declared.ways.Done.{Done}
 use Rattle.peer_runner.specs.declared.ways.Done.TheVariants.{Stepped, Cleared, Rung}
 use Rattle.peer_runner.specs.Ways.{route_to, way_to, is_guarded, way_in, rung_by}
-use Rattle.peer_runner.specs.Turns.{Turn, Looks, Makes, Clears, Rings, Running, comes_to, TakesStep, is_choosing, looks_next, is_set, cleared_to, TakesTurn, TakesTurns, is_end, has_ended, rests, is_finished, acted_by, cleared_by, acted_in, actions_in, heard_bit, heard, is_quiet, lines_of, marks_of, told_in, told_of}
-use Rattle.peer_runner.specs.OwnRecord.{IsToldBy}
-use Rattle.peer_runner.specs.Runners.{Runner, IsFrame, beginning, peer_of, running_of, chosen, round_on, call_chosen, finishes, has_finished, place_for, place_in, Matches, tells_end, taken_of, value_done, done_of, turn_of, IsDone, holds_on, looks_now, looked_on, held_on, stepped_on, turned, marks_in, stance_of, Stands, IsThere}
-use Rattle.peer_runner.specs.Drives.{storm_in, automatic, MayBeAuto, IsLeft, Did, Drove}
+use Rattle.peer_runner.specs.Turns.{Turn, Looks, Clears, Running, comes_to, TakesStep, is_choosing, looks_next, is_set, cleared_to, TakesTurn, TakesTurns, is_end, has_ended, is_finished, acted_by, cleared_by, acted_in, actions_in, heard_bit, heard, is_quiet, lines_of, marks_of, told_in, told_of}
+use Rattle.peer_runner.specs.Runners.{Runner, beginning, peer_of, running_of, chosen, round_on, call_chosen, finishes, has_finished, place_for, place_in, Matches, tells_end, taken_of, value_done, done_of, turn_of, IsDone, holds_on, looks_now, looked_on, held_on, stepped_on, turned, marks_in, Stands, IsThere}
+use Rattle.peer_runner.specs.Drives.{storm_in, automatic, MayBeAuto, Did}
 use Rattle.peer_runner.proofs.Standings.{standing_none}
 use Rattle.peer_runner.proofs.Actions.{accesses_none}
 use Rattle.peer_runner.proofs.Keys.{clash}
@@ -183,7 +181,7 @@ first_open : (who : Who) (end : End) (call : Call) → is_open (first_place who 
 first_open who end calls.Tick = refl
 first_open who end calls.Stop = refl
 first_open who end (calls.Offer frame) = elim (calls.in_run end.handshake.phase) as (λ b. is_open (if b then AtUsedIndex (calls.job_of who end frame) end.freed else Downed) ≡ true) [ true ↦ refl | false ↦ refl ]
-first_open who end calls.Poll = elim (calls.in_run end.handshake.phase) as (λ b. is_open (if b then AtAvailIndex (length end.delivered) else Downed) ≡ true) [ true ↦ refl | false ↦ refl ]
+first_open who end calls.Poll = elim (calls.in_run end.handshake.phase) as (λ b. is_open (if b then AtAvailIndex (length end.delivered) (is_last who end.found_none) else Downed) ≡ true) [ true ↦ refl | false ↦ refl ]
 
 abbrev peer_at : End → CallTree → Auto → Peer
 peer_at end left auto = record { end = end; left = left; waiting = []; driver = Chooses auto }

@@ -1,17 +1,14 @@
 -- A run of a storm.
-use Rattle.std.proofs.Common.{◌≡◌, ℕ, ◌+◌, ◌<◌, Bool, true, false, List, [], ◌∷◌, ◌++◌, length, refl, sym, ap, ◌∙◌, subst}
+use Rattle.std.proofs.Common.{◌≡◌, ℕ, Bool, true, false, List, [], ◌∷◌, ◌++◌, refl, sym, ap, ◌∙◌, subst}
 use Rattle.std.specs.Prelude.{None, ◌&&◌, not, if◌then◌else◌, map}
 use Rattle.split_ring.specs.declared.steps.Access.{Access}
 use Rattle.split_ring.specs.declared.steps.Access.TheVariants as access
-use Rattle.section_map.specs.MayWrite.{MayWrite}
 use Rattle.call_grammar.specs.Steps.{Step, step_of}
-use Rattle.lawful_history.specs.declared.line.Line.{Line}
 use Rattle.lawful_history.specs.Entries.{access_lines, mark_line}
-use Rattle.lawful_history.specs.Peers.{Storms, Peer, at_start}
 use Rattle.lawful_history.specs.Storm.{storm_after}
 use Rattle.record_text.specs.OwnLines.{is_own, AreOwn}
 use Rattle.step_lines.specs.declared.storm.Storm.{Storm}
-use Rattle.step_lines.specs.Storms.{IsStormOf, IsDrawn, DrawsIn}
+use Rattle.step_lines.specs.Storms.{IsStormOf}
 use Rattle.doorbell_irq.specs.declared.route.Route.{Route}
 use Rattle.peer_runner.specs.declared.key.Key.{Key}
 use Rattle.peer_runner.specs.declared.ways.Done.{Done}
@@ -23,7 +20,7 @@ use Rattle.peer_runner.specs.Actions.{Action}
 use Rattle.peer_runner.specs.Ways.{route_to, is_guarded, way_in}
 use Rattle.peer_runner.specs.Passes.{shown, held}
 use Rattle.peer_runner.specs.Rules.{front}
-use Rattle.peer_runner.specs.Turns.{Turn, Makes, Clears, Rings, Running, comes_to, looks_next, is_set, cleared_to, TakesTurn, TakesTurns, actions_in, lines_of, marks_of, told_in, told_of}
+use Rattle.peer_runner.specs.Turns.{Turn, Running, comes_to, looks_next, is_set, cleared_to, TakesTurn, TakesTurns, actions_in, lines_of, told_in, told_of}
 use Rattle.peer_runner.specs.Runners.{value_done, done_of, turn_of, drawn_lines, IsDone, holds_on, MayRingBy, made}
 use Rattle.peer_runner.specs.Drives.{storm_in, storm_on, storming, Did}
 use Rattle.peer_runner.proofs.Keys.{clash}

@@ -1,5 +1,5 @@
 -- Each action of a peer keeps what the table keeps.
-use Rattle.std.proofs.Common.{◌≡◌, ℕ, ◌+◌, ◌*◌, ◌^◌, ◌<◌, ◌≤◌, ◌⊎◌, List, [], length, get_or, set, true, refl, sym, ap, ◌∙◌, subst, arith}
+use Rattle.std.proofs.Common.{◌≡◌, ℕ, ◌^◌, ◌<◌, ◌≤◌, ◌⊎◌, List, [], length, get_or, set, true, refl, sym, ap, ◌∙◌, subst, arith}
 use mathlib.Core.Logic.{dite}
 use native.Mathlib.Decide.{ℕ_discrete}
 use Rattle.std.specs.Prelude.{bit_or, bit_and}
@@ -13,7 +13,7 @@ use Rattle.ends_pair.specs.Steps.{Stored, Meets, Leaves}
 use Rattle.peer_runner.specs.declared.key.Key.{Key}
 use Rattle.peer_runner.specs.Keys.{honest_of, IsFit}
 use Rattle.peer_runner.specs.Standings.{Taken, standing, IsNext}
-use Rattle.peer_runner.specs.Actions.{Action, accessed, rang, looked, cleared, access_in, accesses_in}
+use Rattle.peer_runner.specs.Actions.{Action, accessed, rang, looked, cleared, access_in}
 use Rattle.peer_runner.specs.Interrupts.{interrupt_word, control_word, IsOneShot, MayRing, Interrupts}
 use Rattle.peer_runner.specs.Made.{Grows, IsOwned, Made}
 use Rattle.peer_runner.specs.Made as made

@@ -1,5 +1,5 @@
 -- A turn of an automatic peer.
-use Rattle.std.proofs.Common.{◌≡◌, ℕ, zero, suc, ◌+◌, ◌*◌, ◌-◌, ◌<◌, ◌≤◌, inl, inr, All, Bool, true, false, List, [], ◌∷◌, ◌++◌, length, refl, sym, ap, ◌∙◌, subst, arith, append-nil, append_assoc}
+use Rattle.std.proofs.Common.{◌≡◌, ℕ, zero, suc, ◌+◌, ◌<◌, ◌≤◌, inl, inr, All, Bool, true, false, List, [], ◌∷◌, ◌++◌, length, refl, sym, ap, ◌∙◌, subst, arith, append-nil, append_assoc}
 use Rattle.std.specs.Prelude.{Option, Some, None, drop, map, if◌then◌else◌}
 use Rattle.std.proofs.lemmas.Grind.{flat_map-append}
 use Rattle.std.proofs.lemmas.List.Elements.{recursion_from_All, All-from_recursion}
@@ -13,7 +13,8 @@ use Rattle.call_grammar.specs.Calls.{Who, Call}
 use Rattle.call_grammar.specs.Calls as calls
 use Rattle.call_grammar.specs.Automatic.{choice_of}
 use Rattle.call_grammar.specs.Automatic as automatic
-use Rattle.call_grammar.specs.Reach.{InReach, IsGiven}
+use Rattle.call_grammar.specs.Reach.{InReach}
+use Rattle.call_grammar.specs.Polls.{is_last}
 use Rattle.call_grammar.specs.Places.{Place, Closed, Downed, RingingOffer, RingingPoll, AtUsedIndex, AtAvailIndex, first_place, access_at, next_place, step_at, marks_at, is_open}
 use Rattle.link_endpoint.specs.Engine.{Engine, offered, delivered}
 use Rattle.link_endpoint.specs.Stands.{StandsAt, Takes, marks_between}
@@ -22,7 +23,7 @@ use Rattle.link_endpoint.specs.declared.auto.Choice.{Choice}
 use Rattle.link_endpoint.specs.declared.auto.Choice.TheVariants.{Tick, Offer, Poll, Finished}
 use Rattle.lawful_history.specs.Entries.{access_lines, mark_line}
 use Rattle.lawful_history.specs.Peers.{Auto, counted, counted_all}
-use Rattle.ends_pair.specs.Ground.{Ground, IsOffered, IsGivenTo}
+use Rattle.ends_pair.specs.Ground.{IsOffered}
 use Rattle.step_lines.specs.Plans.{IsPlanOf}
 use Rattle.step_lines.specs.Places.{HasFrames}
 use Rattle.step_lines.proofs.Framing.{first_frames, next_frames}
@@ -40,8 +41,8 @@ use Rattle.peer_runner.specs.declared.ways.Done.{Done}
 use Rattle.peer_runner.specs.declared.ways.Done.TheVariants.{Stepped, Cleared, Rung}
 use Rattle.peer_runner.specs.Ways.{way_to, is_guarded, way_in, rung_by}
 use Rattle.peer_runner.specs.Rules.{front}
-use Rattle.peer_runner.specs.Turns.{Turn, Looks, Makes, Clears, Rings, is_end, is_set, is_quiet, lines_of, cleared_by, marks_of, told_in}
-use Rattle.peer_runner.specs.Runners.{Runner, IsFrame, choice_at, chosen, round_on, call_chosen, finishes, has_finished, place_for, place_in, Matches, tells_end, call_of, call_told, IsBegun, IsBegunIf, touches, taken_of, MayMake, made, value_done, done_of, turn_of, done_lines, IsDone, holds_on, MayRingBy, looked_on, held_on, stepped_on, turned, told_on, marks_in, stance_of, Stands, IsThere, Turns}
+use Rattle.peer_runner.specs.Turns.{Turn, Looks, Makes, is_end, is_quiet, lines_of, cleared_by, marks_of, told_in}
+use Rattle.peer_runner.specs.Runners.{Runner, IsFrame, chosen, round_on, call_chosen, finishes, has_finished, place_for, place_in, Matches, call_of, call_told, IsBegun, IsBegunIf, touches, taken_of, MayMake, made, value_done, done_of, turn_of, done_lines, IsDone, holds_on, MayRingBy, looked_on, held_on, stepped_on, turned, told_on, marks_in, stance_of, Stands, IsThere, Turns}
 use Rattle.peer_runner.proofs.Standings.{standing_snoc, stand_honest}
 use Rattle.peer_runner.proofs.Actions.{accesses_none, accesses_both, accesses_snoc}
 use Rattle.peer_runner.proofs.Keys.{clash, section_ends}
@@ -449,7 +450,7 @@ first_silent : (routes : List Route) (who : Who) (end : End) (call : Call) → i
 first_silent routes who end calls.Tick = refl
 first_silent routes who end calls.Stop = refl
 first_silent routes who end (calls.Offer frame) = elim (calls.in_run end.handshake.phase) as (λ b. is_guarded (way_in routes (access_at who (if b then AtUsedIndex (calls.job_of who end frame) end.freed else Downed))) ≡ false) [ true ↦ refl | false ↦ refl ]
-first_silent routes who end calls.Poll = elim (calls.in_run end.handshake.phase) as (λ b. is_guarded (way_in routes (access_at who (if b then AtAvailIndex (length end.delivered) else Downed))) ≡ false) [ true ↦ refl | false ↦ refl ]
+first_silent routes who end calls.Poll = elim (calls.in_run end.handshake.phase) as (λ b. is_guarded (way_in routes (access_at who (if b then AtAvailIndex (length end.delivered) (is_last who end.found_none) else Downed))) ≡ false) [ true ↦ refl | false ↦ refl ]
 
 begun_silent : (routes : List Route) (who : Who) (end : End) (place : Place) (c : automatic.Choice) → is_end c ≡ false → is_guarded (way_in routes (access_at who (place_for who end place (call_chosen (Some c))))) ≡ false
 begun_silent routes who end place automatic.ChoosesTick goes = first_silent routes who end calls.Tick

@@ -1,5 +1,5 @@
 -- What drives a peer, and what it did.
-use Rattle.std.specs.Prelude.{ℕ, suc, ◌≡◌, ◌<◌, ◌≤◌, ◌+◌, ◌==◌, Bool, true, false, if◌then◌else◌, Option, Some, None, All, List, [], ◌∷◌, ◌++◌, length, map, Result, Ok, Err, IfOk}
+use Rattle.std.specs.Prelude.{ℕ, suc, ◌≡◌, ◌<◌, ◌≤◌, ◌==◌, Bool, true, false, if◌then◌else◌, Option, Some, None, All, List, [], ◌∷◌, ◌++◌, length, Result, Ok, IfOk}
 use Rattle.ivs_base.specs.declared.NoMemory.{NoMemory}
 use Rattle.scenario_text.specs.declared.acts.Act.{Act}
 use Rattle.scenario_text.specs.declared.acts.Act.TheVariants as act
@@ -8,7 +8,6 @@ use Rattle.scenario_text.specs.Acts.{has_auto, has_storm}
 use Rattle.scenario_text.specs.Running.{has_turn}
 use Rattle.call_grammar.specs.Steps.{Step}
 use Rattle.call_grammar.specs.Ends.{fresh}
-use Rattle.call_grammar.specs.Calls.{Who}
 use Rattle.call_grammar.specs.Places.{Closed}
 use Rattle.link_endpoint.specs.Engine.{Engine}
 use Rattle.link_endpoint.specs.Stands.{StandsAt}
@@ -27,7 +26,7 @@ use Rattle.peer_runner.specs.Actions.{Action, accesses_in}
 use Rattle.peer_runner.specs.Passes.{shown}
 use Rattle.doorbell_irq.specs.declared.route.Route.{Route}
 use Rattle.peer_runner.specs.declared.ways.Done.{Done}
-use Rattle.peer_runner.specs.Ways.{AreRoutes, AreRoutesOf}
+use Rattle.peer_runner.specs.Ways.{AreRoutesOf}
 use Rattle.peer_runner.specs.Turns.{Turn, Running, comes_to, TakesTurns, actions_in}
 use Rattle.peer_runner.specs.OwnRecord.{IsToldBy, told_all, start_of, turns_of}
 use Rattle.peer_runner.specs.Runners.{IsFrame, start_auto, holds_on, marks_in}

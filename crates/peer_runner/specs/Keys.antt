@@ -1,9 +1,9 @@
 -- What the rule of a table reads of a scenario: its sizes, its wiring, which of the two link peers are honest, and how peers take
 -- interrupts.
-use Rattle.std.specs.Prelude.{◌≡◌, ℕ, ◌*◌, ◌<◌, ◌≤◌, ◌==◌, nat_lt, if◌then◌else◌, Bool, true, false, []}
+use Rattle.std.specs.Prelude.{◌≡◌, ℕ, ◌*◌, ◌<◌, ◌≤◌, ◌==◌, if◌then◌else◌, Bool, false, []}
 use Rattle.std.specs.Int.{bit_at}
-use Rattle.section_map.specs.Geometry.{Shape, IsShape, section_start}
-use Rattle.split_ring.specs.Layout.{IsQueue}
+use Rattle.section_map.specs.Geometry.{IsShape, section_start}
+use Rattle.split_ring.specs.Layout.{Sizes, has_events, IsQueue}
 use Rattle.scenario_text.specs.Scenario.{World, is_link}
 use Rattle.call_grammar.specs.Calls.{Who}
 use Rattle.doorbell_irq.specs.DeviceRules.{is_enabled, is_one_shot, bytes_after}
@@ -14,9 +14,9 @@ use Rattle.peer_runner.specs.declared.key.Key.{Key}
 use Rattle.peer_runner.specs.Interrupts.{one_if}
 use Rattle.peer_runner.specs.Ways.{events_of}
 
--- a world of these sizes without acts, and a peer of it as the call grammar sees it
+-- a world of these sizes without acts, of the version of its queue, and a peer of it as the call grammar sees it
 abbrev pub world_in : Key → World
-world_in key = record { version = 1; geometry = key.geometry; queue = key.queue; wiring = key.wiring; honest = []; acts = [] }
+world_in key = record { version = key.queue.version; geometry = key.geometry; queue = key.queue; wiring = key.wiring; honest = []; acts = [] }
 
 abbrev pub who_in : Key → ℕ → Who
 who_in key p = who_of (world_in key) p
@@ -45,6 +45,6 @@ pub record IsMadeFor (world : World) (key : Key) : Type 0 where
   pub enabled : (p : ℕ) → p < world.geometry.peers → bit_at key.enabled p ≡ one_if (is_enabled (bytes_after (devices_of world) (events_of world.acts) p))
   pub one_shot : (p : ℕ) → p < world.geometry.peers → bit_at key.one_shot p ≡ one_if (is_one_shot (bytes_after (devices_of world) (events_of world.acts) p))
 
--- a region whose peers `run` can't drive yet: it has more than eight, which no scenario of version 1 has
-abbrev pub is_unbuilt : Shape → Bool
-is_unbuilt shape = nat_lt 8 shape.peers
+-- a link whose peers can't be run yet: one with events, as each version after the first has them
+abbrev pub is_unbuilt : Sizes → Bool
+is_unbuilt sizes = has_events sizes

@@ -1,5 +1,5 @@
 -- Passes of words.
-use Rattle.std.specs.Prelude.{◌≡◌, List, [], ◌∷◌, ℕ, ◌+◌, ◌-◌, ◌≤◌, ◌++◌, length, take, drop, replicate, map, get_or}
+use Rattle.std.specs.Prelude.{◌≡◌, List, [], ℕ, ◌+◌, ◌-◌, ◌≤◌, ◌++◌, length, take, drop, replicate, map, get_or}
 use Rattle.atomic_table.specs.Seated.{TableId}
 use Rattle.scenario_text.specs.Scenario.{World}
 use Rattle.peer_runner.specs.declared.key.Key.{Key}

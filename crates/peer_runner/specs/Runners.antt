@@ -1,5 +1,5 @@
 -- An automatic peer between two turns, as the code steps it: its place in the open call, where the own record has what is left of it.
-use Rattle.std.specs.Prelude.{ℕ, ◌≡◌, ◌+◌, ◌<◌, ◌≤◌, ◌&&◌, not, Bool, true, false, if◌then◌else◌, Option, Some, None, All, List, [], ◌∷◌, ◌++◌, length, map, Result, IfOk}
+use Rattle.std.specs.Prelude.{ℕ, ◌≡◌, ◌+◌, ◌<◌, ◌≤◌, ◌&&◌, not, Bool, true, false, if◌then◌else◌, Option, Some, None, All, List, [], ◌∷◌, ◌++◌, length, map}
 use Rattle.split_ring.specs.declared.steps.Access.{Access}
 use Rattle.split_ring.specs.declared.steps.Access.TheVariants as access
 use Rattle.section_map.specs.Geometry.{word_count}
@@ -23,13 +23,13 @@ use Rattle.step_lines.specs.Plans.{IsPlanOf}
 use Rattle.step_lines.specs.Places.{HasFrames}
 use Rattle.peer_runner.specs.declared.key.Key.{Key}
 use Rattle.peer_runner.specs.Held.{Held}
-use Rattle.peer_runner.specs.Keys.{who_in, ground_of, honest_of}
+use Rattle.peer_runner.specs.Keys.{who_in}
 use Rattle.peer_runner.specs.Standings.{Taken, taken, Stance, settled_place, accepted_by, delivered_by, standing}
-use Rattle.peer_runner.specs.Actions.{Action, accessed, looked, cleared, accesses_in}
+use Rattle.peer_runner.specs.Actions.{Action, accessed, looked, accesses_in}
 use Rattle.peer_runner.specs.Passes.{added}
-use Rattle.peer_runner.specs.Ways.{route_to, way_to, is_guarded, way_in, rung_by, AreRoutes}
+use Rattle.peer_runner.specs.Ways.{way_to, is_guarded, rung_by}
 use Rattle.peer_runner.specs.Interrupts.{MayRing}
-use Rattle.peer_runner.specs.Turns.{Turn, Looks, Makes, Clears, Rings, Running, is_end, is_set, looks_next, cleared_by, lines_of, marks_of, told_in}
+use Rattle.peer_runner.specs.Turns.{Turn, Looks, Makes, Clears, Rings, Running, is_end, is_set, cleared_by, lines_of, marks_of, told_in}
 use Rattle.peer_runner.specs.declared.ways.Done.{Done}
 use Rattle.peer_runner.specs.declared.ways.Done.TheVariants.{Stepped, Cleared, Rung}
 use Rattle.doorbell_irq.specs.declared.route.Route.{Route}

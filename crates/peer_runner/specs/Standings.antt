@@ -1,8 +1,7 @@
 -- What a peer does to the words, and where its list of accesses leaves it.
-use Rattle.std.specs.Prelude.{ℕ, ◌≡◌, ◌≢◌, Bool, true, Option, Some, None, List, [], ◌∷◌, ◌++◌, if◌then◌else◌}
+use Rattle.std.specs.Prelude.{ℕ, ◌≡◌, ◌≢◌, true, Option, Some, None, List, [], ◌∷◌, ◌++◌, if◌then◌else◌}
 use Rattle.std.specs.List.{flat_map}
 use Rattle.split_ring.specs.declared.steps.Access.{Access}
-use Rattle.split_ring.specs.declared.steps.Access.TheVariants as access
 use Rattle.call_grammar.specs.Steps.{Mark, Accept, Deliver, value_given}
 use Rattle.call_grammar.specs.Ends.{End, fresh, end_after}
 use Rattle.call_grammar.specs.Calls.{Who, Call, Stop}

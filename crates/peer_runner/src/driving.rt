@@ -163,7 +163,7 @@ pub fn drive<G: Gate>(
     plan: PeerPlan,
     gate: &G,
 ) -> Result<OwnTrace, NoMemory>
-    requires built { is_unbuilt words.now.shared.key.geometry ≡ false }
+    requires built { is_unbuilt words.now.shared.key.queue ≡ false }
     requires of { IsOf words.now.shared.table_id words.now.shared.key pass.old }
     requires alone { (pass.old.from ≡ plan.peer) × (pass.old.lists ≡ [] ∷ []) }
     requires drives { MayDrive words.now.shared.key plan.peer plan.driver }

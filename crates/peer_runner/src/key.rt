@@ -85,9 +85,9 @@ impl Key {
     }
 }
 
-/// Whether the peers of the scenario can't be run yet: more than eight can't, which no scenario of version 1 has.
+/// Whether the peers of the scenario can't be run yet: those of a link with events can't.
 pub fn is_unbuilt(scenario: &Scenario) -> bool
-    ensures { result ≡ is_unbuilt (world_of scenario.now).geometry }
+    ensures { result ≡ is_unbuilt (world_of scenario.now).queue }
 {
-    scenario.geometry.peers() > 8
+    scenario.queue.has_events()
 }

@@ -416,6 +416,18 @@ fn eight_peers_run(rt: HostRuntime) -> Result<(), Fail> {
     Ok(())
 }
 
+/// The same peers are run in the first version, and aren't in the second one.
+#[test]
+fn peers_of_a_link_with_events_are_not_run(rt: HostRuntime) -> Result<(), Fail> {
+    let first =
+        b"ivshm 1\npeers 2\ntable 4096\ncommon 0\nout 16384\nmtu 256\nirq msix 2\npeer 0 honest\npeer 1 honest\nbegin\nauto 0 1\nturn 0 5\nend\n";
+    let second =
+        b"ivshm 2\npeers 2\ntable 4096\ncommon 0\nout 16384\nmtu 256\nirq msix 2\npeer 0 honest\npeer 1 honest\nbegin\nauto 0 1\nturn 0 5\nend\n";
+    assert!(rt; run(&rt, rt.alloc(), first, &OpenGate)?.is_some());
+    assert!(rt; run(&rt, rt.alloc(), second, &OpenGate)?.is_none());
+    Ok(())
+}
+
 /// Each law may be called: none of them asks anything of its caller.
 #[test]
 fn laws_of_the_rule() {

@@ -67,7 +67,7 @@ fn first_words(alloc: Global, key: &Key) -> Result<Vec<u64>, NoMemory>
 /// NoMemory comes only where memory ran out.
 pub fn words_for(alloc: Global, scenario: &Scenario) -> Result<(Words, Pass), NoMemory>
     requires running { not_running (world_of scenario.now) ≡ None }
-    requires built { is_unbuilt (world_of scenario.now).geometry ≡ false }
+    requires built { is_unbuilt (world_of scenario.now).queue ≡ false }
     ensures whole { IfOk result (λ r. IsWhole (world_of scenario.now) r.0.shared.table_id r.0.shared.key r.1) }
     ensures unused { IfOk result (λ r. IsUnused r.0.shared.key r.1) }
 {

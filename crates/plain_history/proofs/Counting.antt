@@ -10,16 +10,16 @@ use Rattle.link_handshake.specs.declared.Move.TheVariants.{Stay, Set, ClearThenS
 use Rattle.link_handshake.specs.Standing.{move_of}
 use Rattle.split_ring.specs.declared.ranges.FieldName.{FieldName}
 use Rattle.split_ring.specs.declared.ranges.FieldName.TheVariants as field_name
-use Rattle.split_ring.specs.Layout.{size_of, limit_of}
-use Rattle.split_ring.specs.Spelling.{high_half, entry_half}
+use Rattle.split_ring.specs.Layout.{has_events, size_of, limit_of}
+use Rattle.split_ring.specs.Spelling.{high_half, low_half, entry_half}
 use Rattle.call_grammar.specs.Words.{words_for, address_of}
 use Rattle.call_grammar.specs.Steps.{Mark, Reclaim, Full, Accept, Look, Deliver, Return, Done, Down, Over}
 use Rattle.call_grammar.specs.Ends as ends
 use Rattle.call_grammar.specs.Ticks.{tick_marks}
-use Rattle.call_grammar.specs.Offers.{Job, entry_of, full_marks, reclaim_marks, refusal, returned_by}
-use Rattle.call_grammar.specs.Polls.{is_entry, is_address, is_length, published_by}
+use Rattle.call_grammar.specs.Offers.{Job, entry_of, full_marks, reclaim_marks, refusal, returned_by, asks_for}
+use Rattle.call_grammar.specs.Polls.{is_entry, is_address, is_length, published_by, is_last, look_marks}
 use Rattle.call_grammar.specs.Calls.{Who, Call, Tick, Stop, Offer, Poll, in_run, job_of}
-use Rattle.call_grammar.specs.Places.{Place, Closed, AtState, Clearing, Setting, Refusing, Downed, AtUsedIndex, AtUsedId, Filling, WritingLow, WritingHigh, WritingLength, WritingFlags, WritingEntry, WritingIndex, RingingOffer, AtAvailIndex, AtEntry, AtLow, AtHigh, AtLength, AtFlags, AtWord, GivingId, GivingLength, GivingIndex, RingingPoll, clear_place, tick_place, fill_place, ids_place, items_place, words_place, first_place, marks_at, next_place}
+use Rattle.call_grammar.specs.Places.{Place, Closed, AtState, Clearing, Setting, Refusing, Downed, AtUsedIndex, AtUsedId, Filling, WritingLow, WritingHigh, WritingLength, WritingFlags, WritingEntry, WritingIndex, AtEvent, RingingOffer, AtAvailIndex, Arming, AtEntry, AtLow, AtHigh, AtLength, AtFlags, AtWord, GivingId, GivingLength, GivingIndex, RingingPoll, clear_place, tick_place, fill_place, ids_place, none_place, items_place, words_place, first_place, marks_at, next_place}
 use Rattle.plain_calls.specs.declared.ends.End.{End}
 use Rattle.plain_calls.specs.declared.steps.Mark as plain
 use Rattle.plain_calls.specs.Seen.{mark_seen, marks_seen, IsSeenAs}
@@ -60,6 +60,9 @@ short_full who job freed = short_if (job.number == freed + limit_of who.sizes) (
 short_reclaim : (who : Who) (job : Job) (freed count : ℕ) → IsShort (reclaim_marks who job freed count)
 short_reclaim who job freed count = short_if (count == 0) (Reclaim 0 ∷ full_marks who job freed) (Reclaim count ∷ []) (pair_if (job.number == freed + limit_of who.sizes) (Reclaim 0) Full) (single (Reclaim count))
 
+short_look : (last : Bool) (count : ℕ) → IsShort (look_marks last count)
+short_look last count = short_if (count == 0) _ _ (short_if last _ _ (pair_if true (Look 0) Done) (single _)) (single _)
+
 short_at : (who : Who) (place : Place) (value : ℕ) → IsShort (marks_at who place value)
 short_at who Closed value = none
 short_at who (AtState handshake) value = short_tick value (move_of handshake value)
@@ -76,8 +79,10 @@ short_at who (WritingLength job) value = none
 short_at who (WritingFlags job) value = none
 short_at who (WritingEntry job) value = none
 short_at who (WritingIndex job) value = single (Accept job.frame)
+short_at who (AtEvent number) value = short_if _ _ _ none (single Over)
 short_at who RingingOffer value = single Over
-short_at who (AtAvailIndex taken) value = short_if _ _ _ (short_if _ _ _ (pair_if true (Look 0) Done) (single _)) (refused _ _)
+short_at who (AtAvailIndex taken last) value = short_if _ _ _ (short_look last (published_by taken value)) (refused _ _)
+short_at who (Arming taken) value = none
 short_at who (AtEntry number more) value = short_if _ _ _ none (refused _ _)
 short_at who (AtLow number more entry) value = none
 short_at who (AtHigh number more entry low) value = short_if _ _ _ none (refused _ _)
@@ -112,6 +117,12 @@ look_none count = record { none = omega arith }
 
 done_none : FreesNone (Look 0 ∷ Done ∷ [])
 done_none = record { none = omega arith }
+
+looks_none : (last : Bool) (count : ℕ) → FreesNone (look_marks last count)
+looks_none last count = none_if (count == 0) _ _ (none_if last _ _ done_none (look_none 0)) (look_none count)
+
+over_none : FreesNone (Over ∷ [])
+over_none = record { none = omega arith }
 
 deliver_none : (frame : List ℕ) → FreesNone (Deliver frame ∷ [])
 deliver_none frame = record { none = omega arith }
@@ -156,8 +167,10 @@ freed_few most end who (WritingLength job) value fresh few = omega arith
 freed_few most end who (WritingFlags job) value fresh few = omega arith
 freed_few most end who (WritingEntry job) value fresh few = omega arith
 freed_few most end who (WritingIndex job) value fresh few = omega arith
+freed_few most end who (AtEvent number) value fresh few = frees_none most end (marks_at who (AtEvent number) value) (none_if _ _ _ none_freed over_none) few
 freed_few most end who RingingOffer value fresh few = omega arith
-freed_few most end who (AtAvailIndex taken) value fresh few = frees_none most end (marks_at who (AtAvailIndex taken) value) (none_if _ _ _ (none_if _ _ _ done_none (look_none _)) (refused_none _ _)) few
+freed_few most end who (AtAvailIndex taken last) value fresh few = frees_none most end (marks_at who (AtAvailIndex taken last) value) (none_if _ _ _ (looks_none last (published_by taken value)) (refused_none _ _)) few
+freed_few most end who (Arming taken) value fresh few = omega arith
 freed_few most end who (AtEntry number more) value fresh few = frees_none most end (marks_at who (AtEntry number more) value) (none_if _ _ _ none_freed (refused_none _ _)) few
 freed_few most end who (AtLow number more entry) value fresh few = omega arith
 freed_few most end who (AtHigh number more entry low) value fresh few = frees_none most end (marks_at who (AtHigh number more entry low) value) (none_if _ _ _ none_freed (refused_none _ _)) few
@@ -216,9 +229,14 @@ fresh_next most end who (WritingHigh job) value = tt
 fresh_next most end who (WritingLength job) value = tt
 fresh_next most end who (WritingFlags job) value = tt
 fresh_next most end who (WritingEntry job) value = tt
-fresh_next most end who (WritingIndex job) value = tt
+fresh_next most end who (WritingIndex job) value = fresh_if most end (has_events who.sizes) (AtEvent job.number) RingingOffer tt tt
+fresh_next most end who (AtEvent number) value = fresh_if most end (asks_for (low_half value) number) RingingOffer Closed tt tt
 fresh_next most end who RingingOffer value = tt
-fresh_next most end who (AtAvailIndex taken) value = fresh_if most end (nat_le (published_by taken value) (size_of who.sizes)) (if published_by taken value == 0 then Closed else items_place taken (published_by taken value)) Refusing (fresh_if most end (published_by taken value == 0) Closed (items_place taken (published_by taken value)) tt (fresh_items most end taken (published_by taken value))) tt
+fresh_next most end who (AtAvailIndex taken last) value =
+    let count = published_by taken value in
+    fresh_if most end (nat_le count (size_of who.sizes)) (if count == 0 then none_place taken last else items_place taken count) Refusing
+    (fresh_if most end (count == 0) (none_place taken last) (items_place taken count) (fresh_if most end last Closed (Arming taken) tt tt) (fresh_items most end taken count)) tt
+fresh_next most end who (Arming taken) value = tt
 fresh_next most end who (AtEntry number more) value = fresh_if most end (is_entry who.sizes (entry_half (entry_of who number) value)) (AtLow number more (entry_half (entry_of who number) value)) Refusing tt tt
 fresh_next most end who (AtLow number more entry) value = tt
 fresh_next most end who (AtHigh number more entry low) value = fresh_if most end (is_address who.sizes (address_of low value)) (AtLength number more entry (address_of low value)) Refusing tt tt
@@ -243,7 +261,7 @@ fresh_first most end who seen (Offer frame) is few =
     let count = is.accepted in
     let least = few.accepted in
     fresh_run most end seen.handshake.phase (AtUsedIndex (job_of who seen frame) seen.freed) (omega arith, is.freed)
-fresh_first most end who seen Poll is few = fresh_run most end seen.handshake.phase (AtAvailIndex (length seen.delivered)) tt
+fresh_first most end who seen Poll is few = fresh_run most end seen.handshake.phase (AtAvailIndex (length seen.delivered) (is_last who seen.found_none)) tt
 
 -- and few are counted after it
 pub still_few : (most : ℕ) (end new : End) (who : Who) (place : Place) (value : ℕ) (marks : List Mark) → marks ≡ marks_at who place value → IsFresh most end place → AreFew most end → HasCounted end marks new → AreFew (most + 2) new

@@ -10,7 +10,7 @@ use Rattle.call_grammar.specs.Ends as ends
 use Rattle.call_grammar.specs.Ends.{end_after}
 use Rattle.call_grammar.specs.Calls.{Who, tree_of}
 use Rattle.call_grammar.specs.Calls as calls
-use Rattle.call_grammar.specs.Places.{Place, Closed, AtState, Clearing, Setting, Refusing, Downed, AtUsedIndex, AtUsedId, Filling, WritingLow, WritingHigh, WritingLength, WritingFlags, WritingEntry, WritingIndex, RingingOffer, AtAvailIndex, AtEntry, AtLow, AtHigh, AtLength, AtFlags, AtWord, GivingId, GivingLength, GivingIndex, RingingPoll, remaining, first_place, step_at, next_place, is_open, PlacesFollowTrees}
+use Rattle.call_grammar.specs.Places.{Place, Closed, AtState, Clearing, Setting, Refusing, Downed, AtUsedIndex, AtUsedId, Filling, WritingLow, WritingHigh, WritingLength, WritingFlags, WritingEntry, WritingIndex, AtEvent, RingingOffer, AtAvailIndex, Arming, AtEntry, AtLow, AtHigh, AtLength, AtFlags, AtWord, GivingId, GivingLength, GivingIndex, RingingPoll, remaining, first_place, step_at, next_place, is_open, PlacesFollowTrees}
 use Rattle.plain_calls.specs.declared.ends.Call.{Call}
 use Rattle.plain_calls.specs.declared.ends.End.{End}
 use Rattle.plain_calls.specs.Seen.{call_seen, IsSeenAs}
@@ -45,8 +45,10 @@ fresh_wider most more s (WritingLength job) wide fresh = tt
 fresh_wider most more s (WritingFlags job) wide fresh = tt
 fresh_wider most more s (WritingEntry job) wide fresh = tt
 fresh_wider most more s (WritingIndex job) wide fresh = tt
+fresh_wider most more s (AtEvent number) wide fresh = tt
 fresh_wider most more s RingingOffer wide fresh = tt
-fresh_wider most more s (AtAvailIndex taken) wide fresh = tt
+fresh_wider most more s (AtAvailIndex taken last) wide fresh = tt
+fresh_wider most more s (Arming taken) wide fresh = tt
 fresh_wider most more s (AtEntry number count) wide fresh = tt
 fresh_wider most more s (AtLow number count entry) wide fresh = tt
 fresh_wider most more s (AtHigh number count entry low) wide fresh = tt

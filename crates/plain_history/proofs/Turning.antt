@@ -8,7 +8,7 @@ use Rattle.call_grammar.specs.Steps.{Step, value_given, step_of}
 use Rattle.call_grammar.specs.Trees.{CallTree, Ended, Does, Goes}
 use Rattle.call_grammar.specs.Trees as trees
 use Rattle.call_grammar.specs.Calls.{Who}
-use Rattle.call_grammar.specs.Places.{Place, Closed, AtState, Clearing, Setting, Refusing, Downed, AtUsedIndex, AtUsedId, Filling, WritingLow, WritingHigh, WritingLength, WritingFlags, WritingEntry, WritingIndex, RingingOffer, AtAvailIndex, AtEntry, AtLow, AtHigh, AtLength, AtFlags, AtWord, GivingId, GivingLength, GivingIndex, RingingPoll, remaining, access_at, next_place, step_at, is_open, PlacesFollowTrees}
+use Rattle.call_grammar.specs.Places.{Place, Closed, AtState, Clearing, Setting, Refusing, Downed, AtUsedIndex, AtUsedId, Filling, WritingLow, WritingHigh, WritingLength, WritingFlags, WritingEntry, WritingIndex, AtEvent, RingingOffer, AtAvailIndex, Arming, AtEntry, AtLow, AtHigh, AtLength, AtFlags, AtWord, GivingId, GivingLength, GivingIndex, RingingPoll, remaining, access_at, next_place, step_at, is_open, PlacesFollowTrees}
 use Rattle.lawful_history.specs.declared.line.Line.{Line}
 use Rattle.lawful_history.specs.Memory.{last_write}
 use Rattle.lawful_history.specs.Peers.{Driver, Peer, stepped}
@@ -60,8 +60,10 @@ fits_at who (WritingLength job) other vector = tt
 fits_at who (WritingFlags job) other vector = tt
 fits_at who (WritingEntry job) other vector = tt
 fits_at who (WritingIndex job) other vector = tt
+fits_at who (AtEvent number) other vector = tt
 fits_at who RingingOffer other vector = (other, vector)
-fits_at who (AtAvailIndex taken) other vector = tt
+fits_at who (AtAvailIndex taken last) other vector = tt
+fits_at who (Arming taken) other vector = tt
 fits_at who (AtEntry number more) other vector = tt
 fits_at who (AtLow number more entry) other vector = tt
 fits_at who (AtHigh number more entry low) other vector = tt

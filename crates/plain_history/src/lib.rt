@@ -42,6 +42,8 @@ use std::alloc::Global;
 mod tests;
 #[cfg(test)]
 mod worked;
+#[cfg(test)]
+mod worked_events;
 
 /// Reads the lines of an act. False where they don't stand there.
 fn read_act(

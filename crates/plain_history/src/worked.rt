@@ -15,31 +15,31 @@ const HOSTILE: &str =
     "ivshm 1\npeers 2\ntable 4096\ncommon 0\nout 16384\nmtu 256\nirq msix 2\npeer 0 honest\npeer 1 hostile\nbegin\n";
 
 /// Both peers go on to RUN.
-const BOTH_RUN: &str =
+pub(crate) const BOTH_RUN: &str =
     "tick 0\ntick 1\nturn 0 2\nturn 1 2\ntick 0\ntick 1\nturn 0 4098\nturn 1 4098\ntick 0\ntick 1\nturn 0 2\nturn 1 2\n";
 
 /// Peer 0 goes on to RUN, beside a peer 1 that writes its State by hand.
 const ONE_RUNS: &str = "tick 0\nturn 0 2\nset 1 2\ntick 0\nturn 0 4098\ntick 0\nturn 0 2\n";
 
 /// A frame of 14 bytes.
-const FRAME: &str = "ffffffffffff0200000000010800";
+pub(crate) const FRAME: &str = "ffffffffffff0200000000010800";
 
 /// A part of a history: lines as they are spelled; writes of 0 to the 4,096 words of a section; or reads of so many words, which
 /// give 0.
 #[derive(Clone, Copy)]
-enum Part<'a> {
+pub(crate) enum Part<'a> {
     Lines(&'a str),
     Clears(u32, u32),
     Zeros(u32, u32, u32),
 }
 
 /// The lines of `BOTH_RUN`, without those of the sections: at its beginning, between the two, and at its end.
-const FIRST: &str =
+pub(crate) const FIRST: &str =
     "r 0 1 0\nsaw 0 0\ns 0 1\nover 0\nr 1 0 1\nsaw 1 1\ns 1 1\nover 1\nr 0 1 1\nsaw 0 1\n";
 
-const SECOND: &str = "s 0 2\nover 0\nr 1 0 2\nsaw 1 2\n";
+pub(crate) const SECOND: &str = "s 0 2\nover 0\nr 1 0 2\nsaw 1 2\n";
 
-const THIRD: &str =
+pub(crate) const THIRD: &str =
     "s 1 2\nover 1\nr 0 1 2\nsaw 0 2\ns 0 3\nsession 0 1 1\nover 0\nr 1 0 3\nsaw 1 3\ns 1 3\nsession 1 1 1\nover 1\n";
 
 /// The lines of a stop of both peers, and what `THIRD` is in their second session.
@@ -144,7 +144,7 @@ fn stands_in_each_version(
 
 /// A history that ends with this line is lawful after these acts: but not without that line, not with one more, and not with
 /// one of these changes.
-fn stands_alone(
+pub(crate) fn stands_alone(
     rt: &impl Abort,
     alloc: Global,
     head: &str,
@@ -218,7 +218,7 @@ const OFFERED: &str =
     "r 0 5424 0\nreclaim 0 0\nw 0 1472 4294967295\nw 0 1473 196607\nw 0 1474 16777216\nw 0 1475 8\nw 0 1024 1792\nw 0 1025 0\nw 0 1026 14\nw 0 1027 0\nw 0 1281 0\nw 0 1280 65536\naccept 0 ffffffffffff0200000000010800\nd 0 1 1\nover 0\n";
 
 /// Those of the poll that takes it.
-const POLLED: &str =
+pub(crate) const POLLED: &str =
     "r 1 1280 65536\nlook 1 1\nr 1 1281 0\nr 1 1024 1792\nr 1 1025 0\nr 1 1026 14\nr 1 1027 0\nr 1 1472 4294967295\nr 1 1473 196607\nr 1 1474 16777216\nr 1 1475 8\ndeliver 1 ffffffffffff0200000000010800\nw 1 5425 0\nw 1 5426 1\nw 1 5424 65536\nreturn 1\nd 1 0 1\ndone 1\n";
 
 #[test]

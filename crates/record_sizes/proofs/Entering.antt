@@ -10,6 +10,7 @@ use Rattle.call_grammar.specs.Steps.{Step, value_given, step_of}
 use Rattle.call_grammar.specs.Trees.{CallTree, Ended, Does, Reads, Goes}
 use Rattle.call_grammar.specs.Ends.{End}
 use Rattle.call_grammar.specs.Calls.{Who, Call, Tick, Stop, Offer, Poll, in_run, job_of, tree_of}
+use Rattle.call_grammar.specs.Polls.{is_last}
 use Rattle.call_grammar.specs.Automatic.{Choice, ChoosesTick, ChoosesOffer, ChoosesPoll, IsFinished, choice_by_rule}
 use Rattle.call_grammar.specs.Places.{Place, Closed, Downed, AtUsedIndex, AtAvailIndex, remaining, first_place, next_place, access_at, step_at}
 use Rattle.call_grammar.proofs.Following.{following}
@@ -108,7 +109,7 @@ first_credit : (who : Who) (end : End) (call : Call) → credit (first_place who
 first_credit who end Tick = refl
 first_credit who end Stop = refl
 first_credit who end (Offer frame) = by_run (in_run end.handshake.phase) (AtUsedIndex (job_of who end frame) end.freed) refl
-first_credit who end Poll = by_run (in_run end.handshake.phase) (AtAvailIndex (length end.delivered)) refl
+first_credit who end Poll = by_run (in_run end.handshake.phase) (AtAvailIndex (length end.delivered) (is_last who end.found_none)) refl
 
 begun_at : (who : Who) (end : End) (call : Call) (peer : Progress) (most : ℕ) → peer.left ≡ tree_of who end call → StandsAt who peer most
 begun_at who end call peer most is = record {

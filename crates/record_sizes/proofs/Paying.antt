@@ -7,14 +7,14 @@ use Rattle.link_handshake.specs.declared.Move.TheVariants as move
 use Rattle.link_handshake.specs.Standing.{move_of}
 use Rattle.split_ring.specs.declared.steps.Access.{Access}
 use Rattle.split_ring.specs.declared.steps.Access.TheVariants as access
-use Rattle.split_ring.specs.Layout.{size_of, limit_of}
+use Rattle.split_ring.specs.Layout.{has_events, size_of, limit_of}
 use Rattle.split_ring.specs.Spelling.{low_half}
-use Rattle.call_grammar.specs.Steps.{Mark, Full, Deliver}
+use Rattle.call_grammar.specs.Steps.{Mark, Full, Look, Deliver, Done}
 use Rattle.call_grammar.specs.Words.{address_of, words_for, word_bytes, frame_in}
 use Rattle.call_grammar.specs.Ticks.{Who, tick_marks}
-use Rattle.call_grammar.specs.Offers.{Job, descriptor_of, full_marks, id_marks, returned_by, reclaim_marks, used_marks}
+use Rattle.call_grammar.specs.Offers.{Job, descriptor_of, full_marks, id_marks, returned_by, reclaim_marks, used_marks, asks_for, event_marks}
 use Rattle.call_grammar.specs.Polls.{is_entry, is_address, is_length, entry_in, entry_marks, address_marks, length_marks, flags_marks, published_by, look_marks, available_marks}
-use Rattle.call_grammar.specs.Places.{Place, Closed, AtState, Clearing, Setting, Refusing, Downed, AtUsedIndex, AtUsedId, Filling, WritingLow, WritingHigh, WritingLength, WritingFlags, WritingEntry, WritingIndex, RingingOffer, AtAvailIndex, AtEntry, AtLow, AtHigh, AtLength, AtFlags, AtWord, GivingId, GivingLength, GivingIndex, RingingPoll, clear_place, tick_place, fill_place, ids_place, items_place, words_place, access_at, marks_at, next_place}
+use Rattle.call_grammar.specs.Places.{Place, Closed, AtState, Clearing, Setting, Refusing, Downed, AtUsedIndex, AtUsedId, Filling, WritingLow, WritingHigh, WritingLength, WritingFlags, WritingEntry, WritingIndex, AtEvent, RingingOffer, AtAvailIndex, Arming, AtEntry, AtLow, AtHigh, AtLength, AtFlags, AtWord, GivingId, GivingLength, GivingIndex, RingingPoll, clear_place, tick_place, fill_place, ids_place, tell_place, none_place, items_place, words_place, access_at, marks_at, next_place}
 use Rattle.call_grammar.proofs.OfferLists.{no}
 use Rattle.lawful_history.specs.declared.line.Line.{Line}
 use Rattle.lawful_history.specs.Entries.{access_lines, mark_line}
@@ -80,12 +80,17 @@ id_price peer who job freed more value =
     let last = either (marks_price peer) (more == 0) (full_marks who job (freed + 1)) [] 51 (omega arith) (omega arith) in
     either (marks_price peer) (value == descriptor_of who freed) _ _ 51 last (omega arith)
 
-look_price : (peer count : ℕ) → marks_price peer (look_marks count) ≤ 51
-look_price peer count = either (marks_price peer) (count == 0) _ _ 51 (omega arith) (omega arith)
+event_price : (peer number value : ℕ) → marks_price peer (event_marks number value) ≤ 51
+event_price peer number value = either (marks_price peer) (asks_for (low_half value) number) [] _ 51 (omega arith) (omega arith)
 
-available_price : (peer : ℕ) (who : Who) (taken value : ℕ) → marks_price peer (available_marks who taken value) ≤ 51
-available_price peer who taken value =
-    either (marks_price peer) (nat_le (published_by taken value) (size_of who.sizes)) _ _ 51 (look_price peer (published_by taken value)) (omega arith)
+look_price : (peer : ℕ) (last : Bool) (count : ℕ) → marks_price peer (look_marks last count) ≤ 51
+look_price peer last count =
+    let none = either (marks_price peer) last (Look 0 ∷ Done ∷ []) (Look 0 ∷ []) 51 (omega arith) (omega arith) in
+    either (marks_price peer) (count == 0) _ _ 51 none (omega arith)
+
+available_price : (peer : ℕ) (who : Who) (taken : ℕ) (last : Bool) (value : ℕ) → marks_price peer (available_marks who taken last value) ≤ 51
+available_price peer who taken last value =
+    either (marks_price peer) (nat_le (published_by taken value) (size_of who.sizes)) _ _ 51 (look_price peer last (published_by taken value)) (omega arith)
 
 entry_price : (peer : ℕ) (who : Who) (number value : ℕ) → marks_price peer (entry_marks who number value) ≤ 51
 entry_price peer who number value = either (marks_price peer) (is_entry who.sizes (entry_in who number value)) [] _ 51 (omega arith) (omega arith)
@@ -122,6 +127,12 @@ ids_credit : (who : Who) (job : Job) (freed count : ℕ) → credit (ids_place w
 ids_credit who job freed zero =
     either credit (job.number == freed + limit_of who.sizes) Closed (fill_place job 0 (words_for (length job.frame))) 0 (omega arith) (start_credit job (words_for (length job.frame)) refl)
 ids_credit who job freed (suc more) = omega arith
+
+tell_credit : (who : Who) (number : ℕ) → credit (tell_place who number) ≤ 0
+tell_credit who number = either credit (has_events who.sizes) (AtEvent number) RingingOffer 0 (omega arith) (omega arith)
+
+none_credit : (taken : ℕ) (last : Bool) → credit (none_place taken last) ≤ 0
+none_credit taken last = either credit last Closed (Arming taken) 0 (omega arith) (omega arith)
 
 items_credit : (number count : ℕ) → credit (items_place number count) ≤ 0
 items_credit number zero = omega arith
@@ -165,14 +176,18 @@ pays peer one who (WritingHigh job) met value = omega arith
 pays peer one who (WritingLength job) met value = omega arith
 pays peer one who (WritingFlags job) met value = omega arith
 pays peer one who (WritingEntry job) met value = omega arith
-pays peer one who (WritingIndex job) met value = omega arith
+pays peer one who (WritingIndex job) met value = let next = tell_credit who job.number in omega arith
+pays peer one who (AtEvent number) met value =
+    let marks = event_price peer number value in
+    let next = either credit (asks_for (low_half value) number) RingingOffer Closed 0 (omega arith) (omega arith) in omega arith
 pays peer one who RingingOffer met value = omega arith
-pays peer one who (AtAvailIndex taken) met value =
-    let marks = available_price peer who taken value in
+pays peer one who (AtAvailIndex taken last) met value =
+    let marks = available_price peer who taken last value in
     let found = published_by taken value in
-    let items = either credit (found == 0) Closed (items_place taken found) 0 (omega arith) (items_credit taken found) in
-    let next = either credit (nat_le found (size_of who.sizes)) (if found == 0 then Closed else items_place taken found) Refusing 0 items (omega arith) in
+    let items = either credit (found == 0) (none_place taken last) (items_place taken found) 0 (none_credit taken last) (items_credit taken found) in
+    let next = either credit (nat_le found (size_of who.sizes)) (if found == 0 then none_place taken last else items_place taken found) Refusing 0 items (omega arith) in
     omega arith
+pays peer one who (Arming taken) met value = omega arith
 pays peer one who (AtEntry number more) met value =
     let good = is_entry who.sizes (entry_in who number value) in
     let marks = entry_price peer who number value in

@@ -37,7 +37,7 @@ who_of shape me from = record {
   own = section_start shape me;
   theirs = section_start shape from;
   words = shape.out;
-  sizes = record { out = 4 * shape.out; mtu = 256 };
+  sizes = record { version = 1; out = 4 * shape.out; mtu = 256 };
   vector = 0;
 }
 

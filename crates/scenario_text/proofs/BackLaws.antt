@@ -117,8 +117,8 @@ rows_are e good =
     let c : 4 * (e.common / 4) ≡ e.common = whole_pages e.common good.0.region.common_pages in
     let o : 4 * (e.out / 4) ≡ e.out = whole_pages e.out good.0.region.out_pages.1 in
     let after_head : List (Row Form) = row_of_wiring e.wiring ∷ rows_of_peers 0 e.honest in
-    let head : (row Version (1 ∷ []) [] ∷ row Peers (e.peers ∷ []) [] ∷ row Table (e.table ∷ []) [] ∷ row Common (e.common ∷ []) [] ∷ row Out (e.out ∷ []) [] ∷ row Mtu (e.mtu ∷ []) [] ∷ after_head)
-    ≡ (row Version (1 ∷ []) [] ∷ row Peers (e.peers ∷ []) [] ∷ row Table (4 * (e.table / 4) ∷ []) [] ∷ row Common (4 * (e.common / 4) ∷ []) [] ∷ row Out (4 * (e.out / 4) ∷ []) [] ∷ row Mtu (e.mtu ∷ []) [] ∷ after_head) = rw (t, c, o) refl in
+    let head : (row Version (e.version ∷ []) [] ∷ row Peers (e.peers ∷ []) [] ∷ row Table (e.table ∷ []) [] ∷ row Common (e.common ∷ []) [] ∷ row Out (e.out ∷ []) [] ∷ row Mtu (e.mtu ∷ []) [] ∷ after_head)
+    ≡ (row Version (e.version ∷ []) [] ∷ row Peers (e.peers ∷ []) [] ∷ row Table (4 * (e.table / 4) ∷ []) [] ∷ row Common (4 * (e.common / 4) ∷ []) [] ∷ row Out (4 * (e.out / 4) ∷ []) [] ∷ row Mtu (e.mtu ∷ []) [] ∷ after_head) = rw (t, c, o) refl in
     ap (λ (rs : List (Row Form)). rs ++ row Begin [] [] ∷ [] ++ map row_of_act e.acts ++ row End [] [] ∷ []) head
 
 pub ended_is : (e : SoFar) → has_ended e ≡ true → e.position ≡ Ended

@@ -1,6 +1,6 @@
 -- The spelling of a scenario is read as the scenario.
 use Rattle.std.proofs.Common.{◌≡◌, ℕ, ◌+◌, ◌*◌, ◌/◌, ◌%◌, ◌^◌, ◌<◌, ◌≤◌, Bool, true, false, cond, eqb, not, List, [], ◌∷◌, ◌++◌, length, take, map, Option, Some, None, Ok, refl, sym, ap, subst, ◌∙◌, append_assoc, arith, eq-eqb}
-use Rattle.std.specs.Prelude.{slice_get, decimal}
+use Rattle.std.specs.Prelude.{slice_get, decimal, max}
 use Rattle.std.specs.Option.{option_map_or}
 use Rattle.std.proofs.lemmas.Bool.{ne_eqb}
 use Rattle.std.proofs.lemmas.List.{append-nil, length-append}
@@ -15,10 +15,11 @@ use Rattle.section_map.specs.Geometry.{Shape, IsShape}
 use Rattle.pci_space.specs.declared.wiring.Wiring.{Wiring}
 use Rattle.pci_space.specs.declared.wiring.Wiring.TheVariants as wirings
 use Rattle.pci_space.specs.Wiring.{IsWiring}
+use Rattle.split_ring.specs.Layout.{IsVersion}
 use Rattle.scenario_text.specs.declared.acts.Act.{Act}
 use Rattle.scenario_text.specs.declared.forms.Form.{Form}
 use Rattle.scenario_text.specs.declared.forms.Form.TheVariants.{Version, Peers, Table, Common, Out, Mtu, Begin, End}
-use Rattle.scenario_text.specs.declared.positions.Position.TheVariants.{AtWiring, AtPeer, AtBegin, AtActs, Ended}
+use Rattle.scenario_text.specs.declared.positions.Position.TheVariants.{AtWiring, AtPeer, AtBegin, AtActs, Ended, AtPeers}
 use Rattle.scenario_text.specs.Acts.{cost, turns_of}
 use Rattle.scenario_text.specs.Table.{pieces_of, all_forms}
 use Rattle.scenario_text.specs.ActRows.{row_of_act}
@@ -62,50 +63,61 @@ quiet (Some n) = refl
 quiet None = refl
 
 -- a head of these sizes, up to the wiring
-abbrev at_wiring : (peers table common out mtu : ℕ) → SoFar
-at_wiring peers table common out mtu = record { position = AtWiring; peers = peers; table = table; common = common; out = out; mtu = mtu; wiring = wirings.Intx; honest = []; acts = [] }
+abbrev at_wiring : (version peers table common out mtu : ℕ) → SoFar
+at_wiring version peers table common out mtu = record { position = AtWiring; version = version; peers = peers; table = table; common = common; out = out; mtu = mtu; wiring = wirings.Intx; honest = []; acts = [] }
 
-abbrev sizes_rows : (peers table common out mtu : ℕ) → List (Row Form)
-sizes_rows peers table common out mtu = row Version (1 ∷ []) [] ∷ row Peers (peers ∷ []) [] ∷ row Table (table ∷ []) [] ∷ row Common (common ∷ []) [] ∷ row Out (out ∷ []) [] ∷ row Mtu (mtu ∷ []) [] ∷ []
+abbrev sizes_rows : (version peers table common out mtu : ℕ) → List (Row Form)
+sizes_rows version peers table common out mtu = row Version (version ∷ []) [] ∷ row Peers (peers ∷ []) [] ∷ row Table (table ∷ []) [] ∷ row Common (common ∷ []) [] ∷ row Out (out ∷ []) [] ∷ row Mtu (mtu ∷ []) [] ∷ []
 
-sizes_along : (peers table common out mtu : ℕ) → (2 ≤ peers) × (peers ≤ 8) → table < 2 ^ 32 → common < 2 ^ 64 → out < 2 ^ 64 → mtu < 2 ^ 32
-    → is_geometry peers table common out ≡ true → is_queue (record { out = out; mtu = mtu }) ≡ true
-    → Along at_start (sizes_rows peers table common out mtu) (at_wiring peers table common out mtu)
-sizes_along peers table common out mtu few t c o m geometry queue = (
-  record { values = (omega arith, omega arith, tt); bytes = refl; order = quiet _; range = refl; peer = refl; frame = refl; sizes = refl; turns = omega arith },
+-- after the first line
+abbrev at_version : ℕ → SoFar
+at_version version = record at_start { position = AtPeers; version = version }
+
+after_version : (version peers table common out mtu : ℕ) → (2 ≤ peers) × (peers ≤ 8) → table < 2 ^ 32 → common < 2 ^ 64 → out < 2 ^ 64 → mtu < 2 ^ 32
+    → is_geometry peers table common out ≡ true → is_queue (record { version = version; out = out; mtu = mtu }) ≡ true
+    → Along (at_version version) (row Peers (peers ∷ []) [] ∷ row Table (table ∷ []) [] ∷ row Common (common ∷ []) [] ∷ row Out (out ∷ []) [] ∷ row Mtu (mtu ∷ []) [] ∷ []) (at_wiring version peers table common out mtu)
+after_version version peers table common out mtu few t c o m geometry queue = (
+  record { values = (few.0, few.1, tt); bytes = refl; order = quiet _; range = refl; peer = refl; frame = refl; sizes = refl; turns = omega arith },
   refl,
   (
-    record { values = (few.0, few.1, tt); bytes = refl; order = quiet _; range = refl; peer = refl; frame = refl; sizes = refl; turns = omega arith },
+    record { values = (omega arith, omega arith, tt); bytes = refl; order = quiet _; range = refl; peer = refl; frame = refl; sizes = refl; turns = omega arith },
     refl,
     (
       record { values = (omega arith, omega arith, tt); bytes = refl; order = quiet _; range = refl; peer = refl; frame = refl; sizes = refl; turns = omega arith },
       refl,
       (
-        record { values = (omega arith, omega arith, tt); bytes = refl; order = quiet _; range = refl; peer = refl; frame = refl; sizes = refl; turns = omega arith },
+        record { values = (omega arith, omega arith, tt); bytes = refl; order = quiet _; range = refl; peer = refl; frame = refl; sizes = geometry; turns = omega arith },
         refl,
         (
-          record { values = (omega arith, omega arith, tt); bytes = refl; order = quiet _; range = refl; peer = refl; frame = refl; sizes = geometry; turns = omega arith },
+          record { values = (omega arith, omega arith, tt); bytes = refl; order = quiet _; range = refl; peer = refl; frame = refl; sizes = queue; turns = omega arith },
           refl,
-          (
-            record { values = (omega arith, omega arith, tt); bytes = refl; order = quiet _; range = refl; peer = refl; frame = refl; sizes = queue; turns = omega arith },
-            refl,
-            refl,
-          ),
+          refl,
         ),
       ),
     ),
   ),
 )
 
--- with these first flags; where there is one for each peer, `begin` comes next
-abbrev at_peers : (peers table common out mtu : ℕ) → Wiring → List Bool → SoFar
-at_peers peers table common out mtu wiring front = record { position = cond (eqb (length front) peers) AtBegin AtPeer; peers = peers; table = table; common = common; out = out; mtu = mtu; wiring = wiring; honest = front; acts = [] }
+sizes_along : (version peers table common out mtu : ℕ) → (2 ≤ peers) × (peers ≤ 8) → table < 2 ^ 32 → common < 2 ^ 64 → out < 2 ^ 64 → mtu < 2 ^ 32
+    → is_geometry peers table common out ≡ true → IsVersion version → is_queue (record { version = version; out = out; mtu = mtu }) ≡ true
+    → Along at_start (sizes_rows version peers table common out mtu) (at_wiring version peers table common out mtu)
+sizes_along version peers table common out mtu few t c o m geometry known queue =
+    let itself : version ≡ max 1 version = omega (arith, known.0) in
+    let later : List (Row Form) = row Peers (peers ∷ []) [] ∷ row Table (table ∷ []) [] ∷ row Common (common ∷ []) [] ∷ row Out (out ∷ []) [] ∷ row Mtu (mtu ∷ []) [] ∷ [] in (
+      record { values = (known.0, known.1, tt); bytes = refl; order = quiet _; range = refl; peer = refl; frame = refl; sizes = refl; turns = omega arith },
+      refl,
+      subst (λ v. Along (at_version v) later (at_wiring version peers table common out mtu)) itself (after_version version peers table common out mtu few t c o m geometry queue),
+    )
 
-wiring_along : (peers table common out mtu : ℕ) (wiring : Wiring) → 2 ≤ peers → IsWiring wiring → Along (at_wiring peers table common out mtu) (row_of_wiring wiring ∷ []) (at_peers peers table common out mtu wiring [])
-wiring_along peers table common out mtu (wirings.Msix vectors) some is =
+-- with these first flags; where there is one for each peer, `begin` comes next
+abbrev at_peers : (version peers table common out mtu : ℕ) → Wiring → List Bool → SoFar
+at_peers version peers table common out mtu wiring front = record { position = cond (eqb (length front) peers) AtBegin AtPeer; version = version; peers = peers; table = table; common = common; out = out; mtu = mtu; wiring = wiring; honest = front; acts = [] }
+
+wiring_along : (version peers table common out mtu : ℕ) (wiring : Wiring) → 2 ≤ peers → IsWiring wiring → Along (at_wiring version peers table common out mtu) (row_of_wiring wiring ∷ []) (at_peers version peers table common out mtu wiring [])
+wiring_along version peers table common out mtu (wirings.Msix vectors) some is =
     let open_ : eqb 0 peers ≡ false = ne_eqb 0 peers (λ none. omega arith) in
     (record { values = (is.0, is.1, tt); bytes = refl; order = quiet _; range = refl; peer = refl; frame = refl; sizes = refl; turns = omega arith }, refl, rw open_ refl)
-wiring_along peers table common out mtu wirings.Intx some is =
+wiring_along version peers table common out mtu wirings.Intx some is =
     let open_ : eqb 0 peers ≡ false = ne_eqb 0 peers (λ none. omega arith) in
     (record { values = tt; bytes = refl; order = quiet _; range = refl; peer = refl; frame = refl; sizes = refl; turns = omega arith }, refl, rw open_ refl)
 
@@ -116,35 +128,35 @@ not_ended false = refl
 same_number : (p n : ℕ) → p ≡ n → p < 2 ^ 64 → option_map_or (λ q. not (eqb q n)) (number_of (decimal p)) false ≡ false
 same_number p n same small = rw (number_of-decimal p small, same, eq-eqb n n refl) refl
 
-peer_follows : (peers table common out mtu : ℕ) (wiring : Wiring) (front : List Bool) (p : ℕ) (b : Bool) → p ≡ length front → length front < peers → peers ≤ 8 → CanFollow (at_peers peers table common out mtu wiring front) (row_of_peer p b)
-peer_follows peers table common out mtu wiring front p true same less few =
+peer_follows : (version peers table common out mtu : ℕ) (wiring : Wiring) (front : List Bool) (p : ℕ) (b : Bool) → p ≡ length front → length front < peers → peers ≤ 8 → CanFollow (at_peers version peers table common out mtu wiring front) (row_of_peer p b)
+peer_follows version peers table common out mtu wiring front p true same less few =
     let open_ : eqb (length front) peers ≡ false = ne_eqb (length front) peers (λ full. omega arith) in
     record { values = (omega arith, omega arith, tt); bytes = refl; order = rw open_ (same_number p (length front) same (omega arith)); range = refl; peer = refl; frame = refl; sizes = refl; turns = omega arith }
-peer_follows peers table common out mtu wiring front p false same less few =
+peer_follows version peers table common out mtu wiring front p false same less few =
     let open_ : eqb (length front) peers ≡ false = ne_eqb (length front) peers (λ full. omega arith) in
     record { values = (omega arith, omega arith, tt); bytes = refl; order = rw open_ (same_number p (length front) same (omega arith)); range = refl; peer = refl; frame = refl; sizes = refl; turns = omega arith }
 
-peer_gives : (peers table common out mtu : ℕ) (wiring : Wiring) (front : List Bool) (p : ℕ) (b : Bool) → with_row (row_of_peer p b) (at_peers peers table common out mtu wiring front) ≡ at_peers peers table common out mtu wiring (front ++ b ∷ [])
-peer_gives peers table common out mtu wiring front p true = refl
-peer_gives peers table common out mtu wiring front p false = refl
+peer_gives : (version peers table common out mtu : ℕ) (wiring : Wiring) (front : List Bool) (p : ℕ) (b : Bool) → with_row (row_of_peer p b) (at_peers version peers table common out mtu wiring front) ≡ at_peers version peers table common out mtu wiring (front ++ b ∷ [])
+peer_gives version peers table common out mtu wiring front p true = refl
+peer_gives version peers table common out mtu wiring front p false = refl
 
-peers_along : (peers table common out mtu : ℕ) (wiring : Wiring) (front rest : List Bool) (p : ℕ) → p ≡ length front → length front + length rest ≡ peers → peers ≤ 8
-    → Along (at_peers peers table common out mtu wiring front) (rows_of_peers p rest) (at_peers peers table common out mtu wiring (front ++ rest))
-peers_along peers table common out mtu wiring front [] p same all few = ap (at_peers peers table common out mtu wiring) (sym (append-nil front))
-peers_along peers table common out mtu wiring front (b ∷ rest) p same all few =
+peers_along : (version peers table common out mtu : ℕ) (wiring : Wiring) (front rest : List Bool) (p : ℕ) → p ≡ length front → length front + length rest ≡ peers → peers ≤ 8
+    → Along (at_peers version peers table common out mtu wiring front) (rows_of_peers p rest) (at_peers version peers table common out mtu wiring (front ++ rest))
+peers_along version peers table common out mtu wiring front [] p same all few = ap (at_peers version peers table common out mtu wiring) (sym (append-nil front))
+peers_along version peers table common out mtu wiring front (b ∷ rest) p same all few =
     let one : length (front ++ b ∷ []) ≡ length front + 1 = length-append front (b ∷ []) in
-    let P : SoFar → Type 0 = λ x. (has_ended x ≡ false) × Along x (rows_of_peers (p + 1) rest) (at_peers peers table common out mtu wiring (front ++ b ∷ rest)) in
+    let P : SoFar → Type 0 = λ x. (has_ended x ≡ false) × Along x (rows_of_peers (p + 1) rest) (at_peers version peers table common out mtu wiring (front ++ b ∷ rest)) in
     let whole : (front ++ b ∷ []) ++ rest ≡ front ++ b ∷ rest = append_assoc front (b ∷ []) rest in
-    let later = subst (λ (bs : List Bool). Along (at_peers peers table common out mtu wiring (front ++ b ∷ [])) (rows_of_peers (p + 1) rest) (at_peers peers table common out mtu wiring bs)) whole
-    (peers_along peers table common out mtu wiring (front ++ b ∷ []) rest (p + 1) (omega arith) (omega arith) few) in
-    let t = subst P (sym (peer_gives peers table common out mtu wiring front p b)) (not_ended _, later) in
-    (peer_follows peers table common out mtu wiring front p b same (omega arith) few, t.0, t.1)
+    let later = subst (λ (bs : List Bool). Along (at_peers version peers table common out mtu wiring (front ++ b ∷ [])) (rows_of_peers (p + 1) rest) (at_peers version peers table common out mtu wiring bs)) whole
+    (peers_along version peers table common out mtu wiring (front ++ b ∷ []) rest (p + 1) (omega arith) (omega arith) few) in
+    let t = subst P (sym (peer_gives version peers table common out mtu wiring front p b)) (not_ended _, later) in
+    (peer_follows version peers table common out mtu wiring front p b same (omega arith) few, t.0, t.1)
 
 -- ---- the acts
 
 -- at the acts of this world, after these
 abbrev pub at_acts : World → List Act → SoFar
-at_acts w front = record { position = AtActs; peers = w.geometry.peers; table = 4 * w.geometry.table; common = 4 * w.geometry.common; out = 4 * w.geometry.out; mtu = w.queue.mtu; wiring = w.wiring; honest = w.honest; acts = front }
+at_acts w front = record { position = AtActs; version = w.version; peers = w.geometry.peers; table = 4 * w.geometry.table; common = 4 * w.geometry.common; out = 4 * w.geometry.out; mtu = w.queue.mtu; wiring = w.wiring; honest = w.honest; acts = front }
 
 quarter : (n : ℕ) → 4 * n / 4 ≡ n
 quarter n = omega arith
@@ -152,7 +164,7 @@ quarter n = omega arith
 -- the sizes in bytes are those in words
 pub world_is : (w : World) (front : List Act) → IsWorld w → world_so_far (at_acts w front) ≡ record w { acts = front }
 world_is w front is =
-    rw (quarter w.geometry.table, quarter w.geometry.common, quarter w.geometry.out, ← is.version, ← is.out) refl
+    rw (quarter w.geometry.table, quarter w.geometry.common, quarter w.geometry.out, is.version, ← is.out) refl
 
 act_gives : (d : SoFar) (a : Act) → with_row (row_of_act a) d ≡ record d { acts = d.acts ++ a ∷ [] }
 act_gives d a = rw (act_of-row a) refl
@@ -211,10 +223,10 @@ region_of g is =
     swap p n = omega arith
 
 abbrev pub at_end : World → SoFar
-at_end w = record { position = Ended; peers = w.geometry.peers; table = 4 * w.geometry.table; common = 4 * w.geometry.common; out = 4 * w.geometry.out; mtu = w.queue.mtu; wiring = w.wiring; honest = w.honest; acts = w.acts }
+at_end w = record { position = Ended; version = w.version; peers = w.geometry.peers; table = 4 * w.geometry.table; common = 4 * w.geometry.common; out = 4 * w.geometry.out; mtu = w.queue.mtu; wiring = w.wiring; honest = w.honest; acts = w.acts }
 
 abbrev measured : World → List (Row Form)
-measured w = sizes_rows w.geometry.peers (4 * w.geometry.table) (4 * w.geometry.common) (4 * w.geometry.out) w.queue.mtu
+measured w = sizes_rows w.version w.geometry.peers (4 * w.geometry.table) (4 * w.geometry.common) (4 * w.geometry.out) w.queue.mtu
 
 abbrev wired : World → List (Row Form)
 wired w = measured w ++ row_of_wiring w.wiring ∷ []
@@ -243,22 +255,23 @@ head_along w is =
     let o : 4 * g.out < 2 ^ 64 = omega arith in
     let most = is.queue.mtu_most in
     let m : w.queue.mtu < 2 ^ 32 = omega arith in
-    let queue : is_queue (record { out = 4 * g.out; mtu = w.queue.mtu }) ≡ true = rw (← same_out) (is_queue-true w.queue is.queue) in
-    let measured_state : SoFar = at_wiring g.peers (4 * g.table) (4 * g.common) (4 * g.out) w.queue.mtu in
-    let wired_state : SoFar = at_peers g.peers (4 * g.table) (4 * g.common) (4 * g.out) w.queue.mtu w.wiring [] in
-    let sizes = sizes_along g.peers (4 * g.table) (4 * g.common) (4 * g.out) w.queue.mtu (two, few) t c o m (is_geometry-true _ _ _ _ region) queue in
-    let wires = wiring_along g.peers (4 * g.table) (4 * g.common) (4 * g.out) w.queue.mtu w.wiring two is.wiring in
+    let queue : is_queue (record { version = w.version; out = 4 * g.out; mtu = w.queue.mtu }) ≡ true = rw (← same_out, is.version) (is_queue-true w.queue is.queue) in
+    let known : IsVersion w.version = rw is.version is.queue.known in
+    let measured_state : SoFar = at_wiring w.version g.peers (4 * g.table) (4 * g.common) (4 * g.out) w.queue.mtu in
+    let wired_state : SoFar = at_peers w.version g.peers (4 * g.table) (4 * g.common) (4 * g.out) w.queue.mtu w.wiring [] in
+    let sizes = sizes_along w.version g.peers (4 * g.table) (4 * g.common) (4 * g.out) w.queue.mtu (two, few) t c o m (is_geometry-true _ _ _ _ region) known queue in
+    let wires = wiring_along w.version g.peers (4 * g.table) (4 * g.common) (4 * g.out) w.queue.mtu w.wiring two is.wiring in
     let flags = is.flags in
-    let peers = peers_along g.peers (4 * g.table) (4 * g.common) (4 * g.out) w.queue.mtu w.wiring [] w.honest 0 refl (omega arith) few in
+    let peers = peers_along w.version g.peers (4 * g.table) (4 * g.common) (4 * g.out) w.queue.mtu w.wiring [] w.honest 0 refl (omega arith) few in
     let full : eqb (length w.honest) g.peers ≡ true = eq-eqb _ _ flags in
-    let full_state : SoFar = at_peers g.peers (4 * g.table) (4 * g.common) (4 * g.out) w.queue.mtu w.wiring w.honest in
+    let full_state : SoFar = at_peers w.version g.peers (4 * g.table) (4 * g.common) (4 * g.out) w.queue.mtu w.wiring w.honest in
     let begin : CanFollow full_state (row Begin [] []) = record { values = tt; bytes = refl; order = rw full refl; range = refl; peer = refl; frame = refl; sizes = refl; turns = omega arith } in
     let last : Along full_state (row Begin [] [] ∷ []) (at_acts w []) = (begin, refl, refl) in
     along-append at_start (flagged w) (row Begin [] [] ∷ []) full_state (at_acts w [])
     (along-append at_start (wired w) (rows_of_peers 0 w.honest) wired_state full_state (along-append at_start (measured w) (row_of_wiring w.wiring ∷ []) measured_state wired_state sizes wires) peers) last
 
-rows_same : (w : World) → w.version ≡ 1 → acted w ++ row End [] [] ∷ [] ≡ rows_of w
-rows_same w is = rw is refl
+rows_same : (w : World) → acted w ++ row End [] [] ∷ [] ≡ rows_of w
+rows_same w = refl
 
 -- the lines of a scenario's rows lead to its end
 pub spelled_leads : (w : World) → IsWorld w → Leads machine at_start (map (bare pieces_of) (rows_of w)) (at_end w)
@@ -266,7 +279,7 @@ spelled_leads w world =
     let acts = acts_along w [] w.acts world refl in
     let all = along-append at_start (begun w) (map row_of_act w.acts) (at_acts w []) (at_acts w w.acts) (head_along w world) acts in
     let end : CanFollow (at_acts w w.acts) (row End [] []) = record { values = tt; bytes = refl; order = refl; range = refl; peer = refl; frame = refl; sizes = refl; turns = omega arith } in
-    subst (λ (rs : List (Row Form)). Leads machine at_start (map (bare pieces_of) rs) (at_end w)) (rows_same w world.version) (leads at_start (acted w) (at_acts w w.acts) (row End [] []) (at_end w) all end refl refl)
+    subst (λ (rs : List (Row Form)). Leads machine at_start (map (bare pieces_of) rs) (at_end w)) (rows_same w) (leads at_start (acted w) (at_acts w w.acts) (row End [] []) (at_end w) all end refl refl)
 
 pub text_is : (w : World) → spelling w ≡ text_of_lines (map (bare pieces_of) (rows_of w))
 text_is w = text_is_lines pieces_of (rows_of w)

@@ -12,8 +12,8 @@ out_fits d out is = rw is refl
 pub out_refused : (d : SoFar) (out : ℕ) → is_geometry d.peers d.table d.common out ≡ false → head_with Out (out ∷ []) d ≡ Err BadGeometry
 out_refused d out is = rw is refl
 
-pub mtu_fits : (d : SoFar) (mtu : ℕ) → is_queue (record { out = d.out; mtu = mtu }) ≡ true → head_with Mtu (mtu ∷ []) d ≡ Ok (record d { position = AtWiring; mtu = mtu })
+pub mtu_fits : (d : SoFar) (mtu : ℕ) → is_queue (record { version = d.version; out = d.out; mtu = mtu }) ≡ true → head_with Mtu (mtu ∷ []) d ≡ Ok (record d { position = AtWiring; mtu = mtu })
 mtu_fits d mtu is = rw is refl
 
-pub mtu_refused : (d : SoFar) (mtu : ℕ) → is_queue (record { out = d.out; mtu = mtu }) ≡ false → head_with Mtu (mtu ∷ []) d ≡ Err BadGeometry
+pub mtu_refused : (d : SoFar) (mtu : ℕ) → is_queue (record { version = d.version; out = d.out; mtu = mtu }) ≡ false → head_with Mtu (mtu ∷ []) d ≡ Err BadGeometry
 mtu_refused d mtu is = rw is refl

@@ -26,7 +26,7 @@ abbrev world_with : List Act → World
 world_with acts = record {
   version = 1;
   geometry = shape_of 2 4096 0 16384;
-  queue = record { out = 16384; mtu = 256 };
+  queue = record { version = 1; out = 16384; mtu = 256 };
   wiring = Msix 2;
   honest = true ∷ true ∷ [];
   acts = acts;
@@ -128,7 +128,7 @@ load_turns count =
 
 -- ---- the scenario
 
-pub least_queue : is_queue (record { out = 16384; mtu = 256 }) ≡ true
+pub least_queue : is_queue (record { version = 1; out = 16384; mtu = 256 }) ≡ true
 unfolding is_queue queue_size
 least_queue = refl
 
@@ -152,7 +152,7 @@ load_is_world count few = let turns = load_turns count in record {
   version = refl;
   geometry = has_shape;
   few = omega arith;
-  queue = has_queue _ (omega arith) least_queue;
+  queue = has_queue _ (omega arith, omega arith) (omega arith) least_queue;
   out = refl;
   wiring = (omega arith, omega arith);
   flags = refl;
@@ -161,7 +161,7 @@ load_is_world count few = let turns = load_turns count in record {
 }
 
 -- made of its parts
-pub made_of : (geometry : Shape) (queue : Sizes) (honest : List Bool) (acts : List Act) (count : ℕ) → geometry ≡ shape_of 2 4096 0 16384 → queue ≡ record { out = 16384; mtu = 256 } → honest ≡ true ∷ true ∷ [] → acts ≡ load_acts count →
+pub made_of : (geometry : Shape) (queue : Sizes) (honest : List Bool) (acts : List Act) (count : ℕ) → geometry ≡ shape_of 2 4096 0 16384 → queue ≡ record { version = 1; out = 16384; mtu = 256 } → honest ≡ true ∷ true ∷ [] → acts ≡ load_acts count →
     ◌≡◌ {A = World} (record { version = 1; geometry = geometry; queue = queue; wiring = Msix 2; honest = honest; acts = acts }) (load_world count)
 unfolding load_world
 made_of geometry queue honest acts count a b c d = cc

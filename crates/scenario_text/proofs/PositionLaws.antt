@@ -1,6 +1,6 @@
 -- What holds of the lines so far at each position, and that each row that can follow keeps it.
 use Rattle.std.proofs.Common.{◌≡◌, ℕ, zero, suc, ◌+◌, ◌^◌, ◌<◌, ◌≤◌, Bool, true, false, cond, eqb, ◌||◌, not, List, [], ◌∷◌, ◌++◌, length, get_or, take, map, Some, refl, sym, ap, subst, ◌∙◌, append_assoc, arith, ◌⊎◌, inl, inr}
-use Rattle.std.specs.Prelude.{option_and_then, slice_get, codes}
+use Rattle.std.specs.Prelude.{option_and_then, slice_get, codes, max}
 use Rattle.std.specs.Option.{option_map_or}
 use Rattle.std.proofs.lemmas.Bool.{eqb-true, eqb-false, cases_lt}
 use Rattle.std.proofs.lemmas.List.{append-nil, map-append, length-append}
@@ -13,7 +13,7 @@ use Rattle.line_text.proofs.NumberLaws.{number_of-decimal}
 use Rattle.line_text.proofs.StepLaws.{not_false, same_some}
 use Rattle.pci_space.specs.declared.wiring.Wiring.{Wiring}
 use Rattle.pci_space.specs.Wiring.{IsWiring}
-use Rattle.split_ring.specs.Layout.{IsQueue}
+use Rattle.split_ring.specs.Layout.{IsVersion, IsQueue}
 use Rattle.scenario_text.specs.declared.acts.Act.{Act}
 use Rattle.scenario_text.specs.declared.forms.Form.{Form}
 use Rattle.scenario_text.specs.declared.forms.Form.TheVariants.{Version, Peers, Table, Common, Out, Mtu, Msix, Intx, Honest, Hostile, Begin, End}
@@ -32,7 +32,7 @@ use Rattle.scenario_text.proofs.ActRowLaws.{same_row, act_row, allowed_act}
 -- ---- the rows before a position
 
 abbrev sizes_rows : SoFar → List (Row Form)
-sizes_rows d = row Version (1 ∷ []) [] ∷ row Peers (d.peers ∷ []) [] ∷ row Table (d.table ∷ []) [] ∷ row Common (d.common ∷ []) [] ∷ row Out (d.out ∷ []) [] ∷ row Mtu (d.mtu ∷ []) [] ∷ []
+sizes_rows d = row Version (d.version ∷ []) [] ∷ row Peers (d.peers ∷ []) [] ∷ row Table (d.table ∷ []) [] ∷ row Common (d.common ∷ []) [] ∷ row Out (d.out ∷ []) [] ∷ row Mtu (d.mtu ∷ []) [] ∷ []
 
 abbrev head_so_far : SoFar → List (Row Form)
 head_so_far d = sizes_rows d ++ row_of_wiring d.wiring ∷ rows_of_peers 0 d.honest
@@ -42,11 +42,11 @@ acts_so_far d = head_so_far d ++ row Begin [] [] ∷ [] ++ map row_of_act d.acts
 
 abbrev pub before : Position → SoFar → List (Row Form)
 before AtVersion d = []
-before AtPeers d = row Version (1 ∷ []) [] ∷ []
-before AtTable d = row Version (1 ∷ []) [] ∷ row Peers (d.peers ∷ []) [] ∷ []
-before AtCommon d = row Version (1 ∷ []) [] ∷ row Peers (d.peers ∷ []) [] ∷ row Table (d.table ∷ []) [] ∷ []
-before AtOut d = row Version (1 ∷ []) [] ∷ row Peers (d.peers ∷ []) [] ∷ row Table (d.table ∷ []) [] ∷ row Common (d.common ∷ []) [] ∷ []
-before AtMtu d = row Version (1 ∷ []) [] ∷ row Peers (d.peers ∷ []) [] ∷ row Table (d.table ∷ []) [] ∷ row Common (d.common ∷ []) [] ∷ row Out (d.out ∷ []) [] ∷ []
+before AtPeers d = row Version (d.version ∷ []) [] ∷ []
+before AtTable d = row Version (d.version ∷ []) [] ∷ row Peers (d.peers ∷ []) [] ∷ []
+before AtCommon d = row Version (d.version ∷ []) [] ∷ row Peers (d.peers ∷ []) [] ∷ row Table (d.table ∷ []) [] ∷ []
+before AtOut d = row Version (d.version ∷ []) [] ∷ row Peers (d.peers ∷ []) [] ∷ row Table (d.table ∷ []) [] ∷ row Common (d.common ∷ []) [] ∷ []
+before AtMtu d = row Version (d.version ∷ []) [] ∷ row Peers (d.peers ∷ []) [] ∷ row Table (d.table ∷ []) [] ∷ row Common (d.common ∷ []) [] ∷ row Out (d.out ∷ []) [] ∷ []
 before AtWiring d = sizes_rows d
 before AtPeer d = head_so_far d
 before AtBegin d = head_so_far d
@@ -59,18 +59,24 @@ pub record Clean (honest : List Bool) (acts : List Act) : Type 0 where
   pub honest_none : honest ≡ []
   pub acts_none : acts ≡ []
 
+-- the same after the version
+pub record Versioned (version : ℕ) (honest : List Bool) (acts : List Act) : Type 0 where
+  pub known : IsVersion version
+  pub honest_none : honest ≡ []
+  pub acts_none : acts ≡ []
+
 abbrev pub IsFew : ℕ → Type 0
 IsFew peers = (2 ≤ peers) × (peers ≤ 8)
 
 -- the head's sizes are right
-pub record Measured (peers table common out mtu : ℕ) (wiring : Wiring) : Type 0 where
+pub record Measured (version peers table common out mtu : ℕ) (wiring : Wiring) : Type 0 where
   pub few : IsFew peers
   pub region : HasRegion peers table common out
-  pub queue : IsQueue (record { out = out; mtu = mtu })
+  pub queue : IsQueue (record { version = version; out = out; mtu = mtu })
   pub wired : IsWiring wiring
 
 abbrev pub IsMeasured : SoFar → Type 0
-IsMeasured d = Measured d.peers d.table d.common d.out d.mtu d.wiring
+IsMeasured d = Measured d.version d.peers d.table d.common d.out d.mtu d.wiring
 
 -- the acts so far are a scenario's
 pub record Acted (d : SoFar) : Type 0 where
@@ -80,12 +86,12 @@ pub record Acted (d : SoFar) : Type 0 where
 
 abbrev pub Good : Position → SoFar → Type 0
 Good AtVersion d = Clean d.honest d.acts
-Good AtPeers d = Clean d.honest d.acts
-Good AtTable d = Clean d.honest d.acts × IsFew d.peers
-Good AtCommon d = Clean d.honest d.acts × IsFew d.peers
-Good AtOut d = Clean d.honest d.acts × IsFew d.peers
-Good AtMtu d = Clean d.honest d.acts × IsFew d.peers × HasRegion d.peers d.table d.common d.out
-Good AtWiring d = Clean d.honest d.acts × IsFew d.peers × HasRegion d.peers d.table d.common d.out × IsQueue (record { out = d.out; mtu = d.mtu })
+Good AtPeers d = Versioned d.version d.honest d.acts
+Good AtTable d = Versioned d.version d.honest d.acts × IsFew d.peers
+Good AtCommon d = Versioned d.version d.honest d.acts × IsFew d.peers
+Good AtOut d = Versioned d.version d.honest d.acts × IsFew d.peers
+Good AtMtu d = Versioned d.version d.honest d.acts × IsFew d.peers × HasRegion d.peers d.table d.common d.out
+Good AtWiring d = Versioned d.version d.honest d.acts × IsFew d.peers × HasRegion d.peers d.table d.common d.out × IsQueue (record { version = d.version; out = d.out; mtu = d.mtu })
 Good AtPeer d = IsMeasured d × (d.acts ≡ []) × (length d.honest < d.peers)
 Good AtBegin d = IsMeasured d × (d.acts ≡ []) × (length d.honest ≡ d.peers)
 Good AtActs d = IsMeasured d × Acted d
@@ -130,11 +136,6 @@ stands d r can = same_position (position_of r.form) d.position (not_false _ (eit
 in_range : (low high : ℕ) (ps : List Piece) (ns : List ℕ) → Fit (Number low high ∷ ps) ns → (low ≤ get_or ns 0 0) × (get_or ns 0 0 ≤ high)
 in_range low high ps [] fit = absurd fit
 in_range low high ps (n ∷ ns) fit = (fit.0, fit.1)
-
-one_alone : (ns : List ℕ) → Fit (Number 1 1 ∷ []) ns → 1 ∷ [] ≡ ns
-one_alone [] fit = absurd fit
-one_alone (n ∷ []) fit = ap (λ (k : ℕ). k ∷ []) (omega arith)
-one_alone (n ∷ m ∷ ns) fit = absurd fit.2
 
 the_number : (form : Form) (ns frame : List ℕ) → length ns ≡ 1 → frame ≡ [] → row form (get_or ns 0 0 ∷ []) [] ≡ row form ns frame
 the_number form ns frame one none = same_row form _ ns frame (list_1 ns one) (sym none)
@@ -228,29 +229,34 @@ adds_act d form ns frame is where_ can good =
 adds : (form : Form) (ns frame : List ℕ) (d : SoFar) → CanFollow d (row form ns frame) → Good d.position d → Adds d (row form ns frame)
 adds Version ns frame d can good =
     let at = stands d (row Version ns frame) can in
-    record { rows = rw at (ap (λ (r : Row Form). r ∷ []) (same_row Version _ ns frame (one_alone ns can.values) (sym can.bytes))); good = rw at at good }
+    let same = the_number Version ns frame (counted (pieces_of Version) ns can.values) can.bytes in
+    let g = (rw at at good) in
+    let known = in_range 1 2 [] ns can.values in
+    let itself : max 1 (get_or ns 0 0) ≡ get_or ns 0 0 = omega (arith, known.0) in
+    let same_row : row Version (max 1 (get_or ns 0 0) ∷ []) [] ≡ row Version ns frame = ap (λ n. row Version (n ∷ []) []) itself ∙ same in
+    record { rows = rw at (ap (λ (r : Row Form). r ∷ []) same_row); good = record { known = (omega (arith, known.0, known.1), omega (arith, known.0, known.1)); honest_none = g.honest_none; acts_none = g.acts_none } }
 adds Peers ns frame d can good =
     let at = stands d (row Peers ns frame) can in
     let same = the_number Peers ns frame (counted (pieces_of Peers) ns can.values) can.bytes in
-    record { rows = rw at (ap (λ (r : Row Form). row Version (1 ∷ []) [] ∷ r ∷ []) same); good = ((rw at at good), in_range 2 8 [] ns can.values) }
+    record { rows = rw at (ap (λ (r : Row Form). row Version (d.version ∷ []) [] ∷ r ∷ []) same); good = ((rw at at good), in_range 2 8 [] ns can.values) }
 adds Table ns frame d can good =
     let at = stands d (row Table ns frame) can in
     let same = the_number Table ns frame (counted (pieces_of Table) ns can.values) can.bytes in
-    record { rows = rw at (ap (λ (r : Row Form). row Version (1 ∷ []) [] ∷ row Peers (d.peers ∷ []) [] ∷ r ∷ []) same); good = rw at at good }
+    record { rows = rw at (ap (λ (r : Row Form). row Version (d.version ∷ []) [] ∷ row Peers (d.peers ∷ []) [] ∷ r ∷ []) same); good = rw at at good }
 adds Common ns frame d can good =
     let at = stands d (row Common ns frame) can in
     let same = the_number Common ns frame (counted (pieces_of Common) ns can.values) can.bytes in
-    record { rows = rw at (ap (λ (r : Row Form). row Version (1 ∷ []) [] ∷ row Peers (d.peers ∷ []) [] ∷ row Table (d.table ∷ []) [] ∷ r ∷ []) same); good = rw at at good }
+    record { rows = rw at (ap (λ (r : Row Form). row Version (d.version ∷ []) [] ∷ row Peers (d.peers ∷ []) [] ∷ row Table (d.table ∷ []) [] ∷ r ∷ []) same); good = rw at at good }
 adds Out ns frame d can good =
     let at = stands d (row Out ns frame) can in
     let same = the_number Out ns frame (counted (pieces_of Out) ns can.values) can.bytes in
     let g = (rw at at good) in
-    record { rows = rw at (ap (λ (r : Row Form). row Version (1 ∷ []) [] ∷ row Peers (d.peers ∷ []) [] ∷ row Table (d.table ∷ []) [] ∷ row Common (d.common ∷ []) [] ∷ r ∷ []) same); good = (g.0, g.1, has_region _ _ _ _ can.sizes) }
+    record { rows = rw at (ap (λ (r : Row Form). row Version (d.version ∷ []) [] ∷ row Peers (d.peers ∷ []) [] ∷ row Table (d.table ∷ []) [] ∷ row Common (d.common ∷ []) [] ∷ r ∷ []) same); good = (g.0, g.1, has_region _ _ _ _ can.sizes) }
 adds Mtu ns frame d can good =
     let at = stands d (row Mtu ns frame) can in
     let same = the_number Mtu ns frame (counted (pieces_of Mtu) ns can.values) can.bytes in
     let g = (rw at at good) in
-    record { rows = rw at (ap (λ (r : Row Form). row Version (1 ∷ []) [] ∷ row Peers (d.peers ∷ []) [] ∷ row Table (d.table ∷ []) [] ∷ row Common (d.common ∷ []) [] ∷ row Out (d.out ∷ []) [] ∷ r ∷ []) same); good = (g.0, g.1, g.2, has_queue _ (small_section _ _ _ _ g.2) can.sizes) }
+    record { rows = rw at (ap (λ (r : Row Form). row Version (d.version ∷ []) [] ∷ row Peers (d.peers ∷ []) [] ∷ row Table (d.table ∷ []) [] ∷ row Common (d.common ∷ []) [] ∷ row Out (d.out ∷ []) [] ∷ r ∷ []) same); good = (g.0, g.1, g.2, has_queue _ g.0.known (small_section _ _ _ _ g.2) can.sizes) }
 adds Msix ns frame d can good =
     let at = stands d (row Msix ns frame) can in
     let same = the_number Msix ns frame (counted (pieces_of Msix) ns can.values) can.bytes in

@@ -10,7 +10,7 @@ use Rattle.section_map.specs.Faults.{IsPeerCount, IsPages, IsSomePages, byte_cou
 use Rattle.section_map.specs.declared.sizes.Part.TheVariants.{Table, Common, Out}
 use Rattle.section_map.specs.declared.sizes.GeometryFault.{GeometryFault}
 use Rattle.section_map.specs.declared.sizes.GeometryFault.TheVariants.{BadPeers, BadPage, TableTooSmall, TooLarge}
-use Rattle.split_ring.specs.Layout.{Sizes, queue_size, size_of, IsQueue}
+use Rattle.split_ring.specs.Layout.{IsVersion, Sizes, queue_size, size_of, IsQueue}
 use Rattle.split_ring.specs.Faults.{IsQueueFault}
 use Rattle.split_ring.specs.declared.faults.QueueFault.{QueueFault}
 use Rattle.split_ring.specs.declared.faults.QueueFault.TheVariants as queue_faults
@@ -108,13 +108,13 @@ pub some_size : (o : Option ℕ) → is_some o ≡ true → o ≡ Some (unwrap_o
 some_size (Some n) e = refl
 some_size None e = absurd cc
 
-pub has_queue : (q : Sizes) → q.out ≤ 2 ^ 24 → is_queue q ≡ true → IsQueue q
+pub has_queue : (q : Sizes) → IsVersion q.version → q.out ≤ 2 ^ 24 → is_queue q ≡ true → IsQueue q
 unfolding is_queue
-has_queue q section e =
+has_queue q known section e =
     let a = both_true _ _ e in
     let b = both_true _ _ a.0 in
     let c = both_true _ _ b.0 in
-    record { mtu_least = leb-true 256 q.mtu c.0; mtu_most = leb-true q.mtu 65535 c.1; section = section; fits = some_size (queue_size q.out) b.1; one_slot = leb-true _ _ a.1 }
+    record { known = known; mtu_least = leb-true 256 q.mtu c.0; mtu_most = leb-true q.mtu 65535 c.1; section = section; fits = some_size (queue_size q.out) b.1; one_slot = leb-true _ _ a.1 }
 
 pub is_queue-true : (q : Sizes) → IsQueue q → is_queue q ≡ true
 unfolding is_queue
@@ -125,9 +125,9 @@ queue_refused q (queue_faults.BadMtu mtu) is has = is.0 (has.mtu_least, has.mtu_
 queue_refused q (queue_faults.TooSmall bytes) is has = let none : Some (size_of q) ≡ None = sym has.fits ∙ is.1 in absurd cc
 queue_refused q (queue_faults.NoSlot slot room) is has = let less = is.2 in let le = has.one_slot in omega arith
 
-pub queue_is : (q : Sizes) (r : Result Sizes QueueFault) → q.out ≤ 2 ^ 24 → IfOk r (λ made. (made ≡ q) × IsQueue made) → IfErr r (IsQueueFault q) → is_ok r ≡ is_queue q
-queue_is q (Ok made) section is fault = sym (is_queue-true q (subst IsQueue is.0 is.1))
-queue_is q (Err e) section is fault = sym (never _ (λ yes. queue_refused q e fault (has_queue q section yes)))
+pub queue_is : (q : Sizes) (r : Result Sizes QueueFault) → IsVersion q.version → q.out ≤ 2 ^ 24 → IfOk r (λ made. (made ≡ q) × IsQueue made) → IfErr r (IsQueueFault q) → is_ok r ≡ is_queue q
+queue_is q (Ok made) known section is fault = sym (is_queue-true q (subst IsQueue is.0 is.1))
+queue_is q (Err e) known section is fault = sym (never _ (λ yes. queue_refused q e fault (has_queue q known section yes)))
 
 -- a section of a region has at most 16,777,216 bytes
 pub small_section : (peers table common out : ℕ) → HasRegion peers table common out → out ≤ 2 ^ 24

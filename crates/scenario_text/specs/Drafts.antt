@@ -5,6 +5,7 @@ use Rattle.scenario_text.specs.Judge.{SoFar}
 abbrev pub so_far : Draft → SoFar
 so_far d = record {
   position = d.position;
+  version = d.version;
   peers = d.peers;
   table = d.table;
   common = d.common;

@@ -1,5 +1,5 @@
 -- Reading line by line: what a good line adds, and what is wrong with a bad one.
-use Rattle.std.specs.Prelude.{ℕ, ◌+◌, ◌==◌, ◌||◌, ◌&&◌, not, nat_lt, if◌then◌else◌, Bool, true, false, List, [], ◌∷◌, ◌++◌, length, slice_index, slice_get, Option, Some, None, Result, Ok, Err, option_and_then}
+use Rattle.std.specs.Prelude.{ℕ, ◌+◌, ◌==◌, ◌||◌, ◌&&◌, not, nat_lt, if◌then◌else◌, Bool, true, false, List, [], ◌∷◌, ◌++◌, length, slice_index, slice_get, max, Option, Some, None, Result, Ok, Err, option_and_then}
 use Rattle.std.specs.List.{list_all}
 use Rattle.std.specs.Option.{option_map_or}
 use Rattle.line_text.specs.Numbers.{number_of}
@@ -25,9 +25,10 @@ use Rattle.scenario_text.specs.Acts.{cost, turns_of}
 use Rattle.scenario_text.specs.Sizes.{is_geometry, is_queue}
 use Rattle.scenario_text.specs.Scenario.{World, is_too_late, is_in_range, is_its_peer, is_frame_size}
 
--- what the lines so far say, with sizes in bytes; what no line has said yet is 0, INTx or empty
+-- what the lines so far say, with sizes in bytes; what no line has said yet is version 1, 0, INTx or empty
 pub record SoFar : Type 0 where
   pub position : Position
+  pub version : ℕ
   pub peers : ℕ
   pub table : ℕ
   pub common : ℕ
@@ -40,9 +41,9 @@ pub record SoFar : Type 0 where
 -- the world that they describe
 abbrev pub world_so_far : SoFar → World
 world_so_far d = record {
-  version = 1;
+  version = d.version;
   geometry = shape_of d.peers d.table d.common d.out;
-  queue = record { out = d.out; mtu = d.mtu };
+  queue = record { version = d.version; out = d.out; mtu = d.mtu };
   wiring = d.wiring;
   honest = d.honest;
   acts = d.acts;
@@ -107,7 +108,7 @@ frame_in d form fields =
 -- the geometry is judged on the `out` line, and the queue on the `mtu` line
 abbrev pub fits_sizes : SoFar → Form → List ℕ → Bool
 fits_sizes d Out ns = is_geometry d.peers d.table d.common (slice_index ns 0)
-fits_sizes d Mtu ns = is_queue (record { out = d.out; mtu = slice_index ns 0 })
+fits_sizes d Mtu ns = is_queue (record { version = d.version; out = d.out; mtu = slice_index ns 0 })
 fits_sizes d _ ns = true
 
 -- ---- what a line adds
@@ -153,7 +154,7 @@ act_of Again ns frame = Some (acts.Again (slice_index ns 0) (slice_index ns 1))
 act_of _ ns frame = None
 
 abbrev pub add_head : Form → List ℕ → SoFar → SoFar
-add_head Version ns d = record d { position = AtPeers }
+add_head Version ns d = record d { position = AtPeers; version = max 1 (slice_index ns 0) }
 add_head Peers ns d = record d { position = AtTable; peers = slice_index ns 0 }
 add_head Table ns d = record d { position = AtCommon; table = slice_index ns 0 }
 add_head Common ns d = record d { position = AtOut; common = slice_index ns 0 }
@@ -199,7 +200,7 @@ step d line =
 -- ---- the text
 
 abbrev pub at_start : SoFar
-at_start = record { position = AtVersion; peers = 0; table = 0; common = 0; out = 0; mtu = 0; wiring = wirings.Intx; honest = []; acts = [] }
+at_start = record { position = AtVersion; version = 1; peers = 0; table = 0; common = 0; out = 0; mtu = 0; wiring = wirings.Intx; honest = []; acts = [] }
 
 abbrev pub has_ended : SoFar → Bool
 has_ended d = ordinal_of d.position == 10

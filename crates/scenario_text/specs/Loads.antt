@@ -30,7 +30,7 @@ unfoldable pub load_world : ℕ → World
 load_world count = record {
   version = 1;
   geometry = shape_of 2 4096 0 16384;
-  queue = record { out = 16384; mtu = 256 };
+  queue = record { version = 1; out = 16384; mtu = 256 };
   wiring = Msix 2;
   honest = true ∷ true ∷ [];
   acts = load_acts count;

@@ -110,10 +110,10 @@ pub record IsAllowed (w : World) (before : List Act) (act : Act) : Type 0 where
 abbrev pub AreAllowed : World → Type 0
 AreAllowed w = (k : ℕ) (act : Act) → slice_get w.acts k ≡ Some act → IsAllowed w (take k w.acts) act
 
--- a scenario: its sizes have a region and a queue, each peer has a flag, each act is allowed in its place, and all
+-- a scenario: its version is that of its link, its sizes have a region and a queue, each peer has a flag, each act is allowed in its place, and all
 -- acts together count for at most 4,000,000
 pub record IsWorld (w : World) : Type 0 where
-  pub version : w.version ≡ 1
+  pub version : w.version ≡ w.queue.version
   pub geometry : IsShape w.geometry
   pub few : w.geometry.peers ≤ 8
   pub queue : IsQueue w.queue

@@ -1,6 +1,7 @@
 //! What the lines so far say.
 ghost use Rattle.std.specs.Prelude.{◌≡◌, ◌≤◌, ◌<◌, ◌^◌, ℕ, Some, slice_index_or, false};
 ghost use Rattle.section_map.specs.Faults.{shape_of};
+ghost use Rattle.split_ring.specs.Layout.{IsVersion};
 ghost use Rattle.scenario_text.specs.Acts.{turns_of, has_auto, has_storm, has_call};
 ghost use Rattle.scenario_text.specs.Judge.{ordinal_of};
 
@@ -10,10 +11,12 @@ use pci_space::Wiring;
 use section_map::Geometry;
 use split_ring::Queue;
 
-/// A scenario of which some lines are read. What no line has said yet is 0, none, INTx or empty; sizes are in bytes.
+/// A scenario of which some lines are read. What no line has said yet is version 1, 0, none, INTx or
+/// empty; sizes are in bytes.
 #[derive(Drop)]
 pub struct Draft {
     pub(crate) position: Position,
+    pub(crate) version: u32,
     pub(crate) peers: u32,
     pub(crate) table: u32,
     pub(crate) common: u64,
@@ -34,10 +37,11 @@ pub struct Draft {
     pub(crate) storms: [bool; 8],
     /// Which peers have call lines.
     pub(crate) called: [bool; 8],
+    ghost known: { IsVersion version },
     ghost few: { peers ≤ 8 },
     ghost section: { out ≤ 2 ^ 24 },
     ghost region: { 4 < ordinal_of position → geometry ≡ Some (shape_of peers table common out) },
-    ghost ring: { 5 < ordinal_of position → queue ≡ Some (record { out = out; mtu = mtu }) },
+    ghost ring: { 5 < ordinal_of position → queue ≡ Some (record { version = version; out = out; mtu = mtu }) },
     ghost counted: { turns ≡ turns_of acts },
     ghost most: { turns ≤ 4000000 },
     ghost autos_of: { (p : ℕ) → slice_index_or autos p false ≡ has_auto acts p },

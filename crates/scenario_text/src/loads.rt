@@ -90,7 +90,7 @@ fn region() -> Geometry
 
 /// The queue of such a section, for the least MTU.
 fn section() -> Queue
-    ensures { result ≡ record { out = 16384; mtu = 256 } }
+    ensures { result ≡ record { version = 1; out = 16384; mtu = 256 } }
 {
     match Queue::of(16_384, 256) {
         Ok(queue) => queue,

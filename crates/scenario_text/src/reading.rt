@@ -22,6 +22,7 @@ impl Draft {
     {
         Draft {
             position: Position::AtVersion,
+            version: 1,
             peers: 0,
             table: 0,
             common: 0,
@@ -47,6 +48,7 @@ impl Draft {
     {
         let Draft {
             geometry,
+            version,
             queue,
             wiring,
             honest,
@@ -62,7 +64,7 @@ impl Draft {
             wiring,
             honest,
             acts,
-            version: 1,
+            version,
         }
     }
 }

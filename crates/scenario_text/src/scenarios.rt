@@ -20,7 +20,7 @@ pub struct Scenario {
     pub honest: Flags,
     /// The schedule.
     pub acts: Acts,
-    /// The version of the format that the text names: 1.
+    /// The version of the link that the text names, which is that of the queue.
     pub version: u32,
     pub ghost world: { IsWorld (record {
       version = version;

@@ -143,7 +143,7 @@ impl Draft {
         requires order { 4 < ordinal_of self.old.position }
         ensures { Gives (so_far self.new) result (head_with Mtu (mtu ∷ []) (so_far self.old)) }
     {
-        let Ok(queue) = Queue::of(self.out, mtu) else {
+        let Ok(queue) = Queue::of_version(self.version, self.out, mtu) else {
             return Err(LineFault::Wrong(Cause::BadGeometry));
         };
         self.position = Position::AtWiring;
@@ -159,7 +159,10 @@ impl Draft {
     {
         let number = number_at(numbers, 0);
         match form {
-            Form::Version => self.position = Position::AtPeers,
+            Form::Version => {
+                self.position = Position::AtPeers;
+                self.version = (number as u32).max(1);
+            }
             Form::Peers => {
                 self.position = Position::AtTable;
                 self.peers = number as u32;

@@ -65,7 +65,7 @@ fn a_fault_of_each_kind_in_the_acts(rt: HostRuntime) -> Result<(), Fail> {
 fn a_fault_of_each_kind_in_the_head(rt: HostRuntime) -> Result<(), Fail> {
     let cases: [(&[u8], ScenarioFault); 9] = [
         (b"", ScenarioFault::NoEnd),
-        (b"ivshm 2\n", ScenarioFault::BadNumber(1)),
+        (b"ivshm 4\n", ScenarioFault::BadNumber(1)),
         (b"ivshm 1\npeers 9\n", ScenarioFault::BadNumber(2)),
         (b"ivshm 1\ntable 1\n", ScenarioFault::BadOrder(2)),
         (

@@ -64,7 +64,7 @@ body_without image out peers old text new eo ep none first states =
 
 -- the body where there is a queue
 pub body_with : (image : List ℕ) (q : Sizes) (out peers : ℕ) (old text more new : List ℕ) → out ≡ out_in image → peers ≡ peers_in image
-    → q ≡ record { out = out; mtu = 256 } → queue_size out ≡ Some (size_of q)
+    → q ≡ record { version = 1; out = out; mtu = 256 } → queue_size out ≡ Some (size_of q)
     → text ≡ old ++ line_of (QueueSizes (size_of q) (ring_part (size_of q)) (q.out - ring_part (size_of q)))
     → more ≡ text ++ text_of (state_lines (region_words image) peers) → Puts (AreTwoSections image) more new → Puts (IsBody image) old new
 body_with image q out peers old text more new eo ep eq some first states sections =

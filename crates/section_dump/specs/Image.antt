@@ -55,4 +55,4 @@ section_words image peer = words_from image (8 + section_start (shape_in image) 
 -- The sizes of the queue in a section. The MTU has no part in a listing: whatever it is, the queue's size, the ring
 -- part and the ranges are the same
 abbrev pub queue_in : List ℕ → Sizes
-queue_in image = record { out = out_in image; mtu = 256 }
+queue_in image = record { version = 1; out = out_in image; mtu = 256 }

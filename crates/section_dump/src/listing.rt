@@ -85,7 +85,7 @@ fn put_head(text: &mut String, header: &Header) -> Result<(), AllocError>
 fn queue_of(out: u64) -> Option<Queue>
     requires { out ≤ 2 ^ 24 }
     ensures size { MatchOption result (queue_size out ≡ None) (λ q. queue_size out ≡ Some (size_of q)) }
-    ensures queue { IfSome result (λ q. q ≡ record { out = out; mtu = 256 }) }
+    ensures queue { IfSome result (λ q. q ≡ record { version = 1; out = out; mtu = 256 }) }
 {
     queue_size_is_greatest();
     Queue::of(out, 256).ok()

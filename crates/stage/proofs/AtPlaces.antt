@@ -2,7 +2,7 @@
 use Rattle.std.proofs.Common.{◌≡◌, ℕ, true, false, List, refl}
 use Rattle.split_ring.specs.declared.steps.Access.TheVariants as access
 use Rattle.call_grammar.specs.Calls.{Who, Call}
-use Rattle.call_grammar.specs.Places.{Place, Closed, AtState, Clearing, Setting, Refusing, Downed, AtUsedIndex, AtUsedId, Filling, WritingLow, WritingHigh, WritingLength, WritingFlags, WritingEntry, WritingIndex, RingingOffer, AtAvailIndex, AtEntry, AtLow, AtHigh, AtLength, AtFlags, AtWord, GivingId, GivingLength, GivingIndex, RingingPoll, remaining, access_at, is_open}
+use Rattle.call_grammar.specs.Places.{Place, Closed, AtState, Clearing, Setting, Refusing, Downed, AtUsedIndex, AtUsedId, Filling, WritingLow, WritingHigh, WritingLength, WritingFlags, WritingEntry, WritingIndex, AtEvent, RingingOffer, AtAvailIndex, Arming, AtEntry, AtLow, AtHigh, AtLength, AtFlags, AtWord, GivingId, GivingLength, GivingIndex, RingingPoll, remaining, access_at, is_open}
 use Rattle.lawful_history.specs.Peers.{Peer, opened_by}
 
 -- an open call goes on before another is opened
@@ -22,8 +22,11 @@ open_by who (WritingLength job) peer waiting opens = refl
 open_by who (WritingFlags job) peer waiting opens = refl
 open_by who (WritingEntry job) peer waiting opens = refl
 open_by who (WritingIndex job) peer waiting opens = refl
+open_by who (AtEvent number) peer waiting opens = refl
 open_by who RingingOffer peer waiting opens = refl
-open_by who (AtAvailIndex taken) peer waiting opens = refl
+open_by who (AtAvailIndex taken true) peer waiting opens = refl
+open_by who (AtAvailIndex taken false) peer waiting opens = refl
+open_by who (Arming taken) peer waiting opens = refl
 open_by who (AtEntry number more) peer waiting opens = refl
 open_by who (AtLow number more entry) peer waiting opens = refl
 open_by who (AtHigh number more entry low) peer waiting opens = refl
@@ -51,8 +54,10 @@ shut_place (WritingLength job) shut = absurd (cc)
 shut_place (WritingFlags job) shut = absurd (cc)
 shut_place (WritingEntry job) shut = absurd (cc)
 shut_place (WritingIndex job) shut = absurd (cc)
+shut_place (AtEvent number) shut = absurd (cc)
 shut_place RingingOffer shut = absurd (cc)
-shut_place (AtAvailIndex taken) shut = absurd (cc)
+shut_place (AtAvailIndex taken last) shut = absurd (cc)
+shut_place (Arming taken) shut = absurd (cc)
 shut_place (AtEntry number more) shut = absurd (cc)
 shut_place (AtLow number more entry) shut = absurd (cc)
 shut_place (AtHigh number more entry low) shut = absurd (cc)
@@ -81,8 +86,10 @@ rings_other who (WritingLength job) target vector is = absurd (cc)
 rings_other who (WritingFlags job) target vector is = absurd (cc)
 rings_other who (WritingEntry job) target vector is = absurd (cc)
 rings_other who (WritingIndex job) target vector is = absurd (cc)
+rings_other who (AtEvent number) target vector is = absurd (cc)
 rings_other who RingingOffer target vector is = (cc, cc)
-rings_other who (AtAvailIndex taken) target vector is = absurd (cc)
+rings_other who (AtAvailIndex taken last) target vector is = absurd (cc)
+rings_other who (Arming taken) target vector is = absurd (cc)
 rings_other who (AtEntry number more) target vector is = absurd (cc)
 rings_other who (AtLow number more entry) target vector is = absurd (cc)
 rings_other who (AtHigh number more entry low) target vector is = absurd (cc)

@@ -5,6 +5,7 @@ use Rattle.std.proofs.lemmas.Bool.Decides.{nat_tests}
 use Rattle.split_ring.specs.declared.ranges.Refused.{Refused}
 use Rattle.split_ring.specs.declared.steps.Note.{Note}
 use Rattle.split_ring.specs.declared.steps.Note.TheVariants as note
+use Rattle.split_ring.specs.Layout.{has_events}
 use Rattle.link_handshake.specs.declared.Move.{Move}
 use Rattle.link_handshake.specs.declared.Move.TheVariants.{Stay, Set, ClearThenSet}
 use Rattle.link_handshake.specs.Standing.{move_of}
@@ -14,8 +15,8 @@ use Rattle.call_grammar.specs.Words.{words_for, frame_in}
 use Rattle.call_grammar.specs.Calls.{Who, Call, Tick, Stop, Offer, Poll, in_run, job_of}
 use Rattle.call_grammar.specs.Ticks.{tick_marks}
 use Rattle.call_grammar.specs.Offers.{Job, returned_by, descriptor_of}
-use Rattle.call_grammar.specs.Polls.{is_length, published_by}
-use Rattle.call_grammar.specs.Places.{Place, Closed, AtState, Clearing, Setting, Refusing, Downed, AtUsedIndex, AtUsedId, Filling, WritingLow, WritingHigh, WritingLength, WritingFlags, WritingEntry, WritingIndex, RingingOffer, AtAvailIndex, AtEntry, AtLow, AtHigh, AtLength, AtFlags, AtWord, GivingId, GivingLength, GivingIndex, RingingPoll, marks_at, next_place, first_place, fill_place, ids_place, items_place, words_place, tick_place, clear_place, is_open}
+use Rattle.call_grammar.specs.Polls.{is_length, is_last, published_by}
+use Rattle.call_grammar.specs.Places.{Place, Closed, AtState, Clearing, Setting, Refusing, Downed, AtUsedIndex, AtUsedId, Filling, WritingLow, WritingHigh, WritingLength, WritingFlags, WritingEntry, WritingIndex, AtEvent, RingingOffer, AtAvailIndex, Arming, AtEntry, AtLow, AtHigh, AtLength, AtFlags, AtWord, GivingId, GivingLength, GivingIndex, RingingPoll, marks_at, next_place, first_place, fill_place, ids_place, items_place, none_place, words_place, tick_place, clear_place, is_open}
 use Rattle.call_grammar.specs.Reach.{IsGiven}
 use Rattle.link_endpoint.specs.Stands.{mark_between, marks_between}
 use Rattle.lawful_history.specs.Entries.{mark_line}
@@ -69,8 +70,12 @@ marks_hold P f who (WritingLength job) value accepts delivers = f.none
 marks_hold P f who (WritingFlags job) value accepts delivers = f.none
 marks_hold P f who (WritingEntry job) value accepts delivers = f.none
 marks_hold P f who (WritingIndex job) value accepts delivers = accepts job refl
+marks_hold P f who (AtEvent number) value accepts delivers = either P _ _ _ f.none f.over
 marks_hold P f who RingingOffer value accepts delivers = f.over
-marks_hold P f who (AtAvailIndex taken) value accepts delivers = either P (nat_le (published_by taken value) _) _ _ (either P (published_by taken value == 0) _ _ f.look_done (f.look (published_by taken value))) (f.refused _)
+marks_hold P f who (AtAvailIndex taken last) value accepts delivers =
+    let none = either P last _ _ f.look_done (f.look 0) in
+    either P (nat_le (published_by taken value) _) _ _ (either P (published_by taken value == 0) _ _ none (f.look (published_by taken value))) (f.refused _)
+marks_hold P f who (Arming taken) value accepts delivers = f.none
 marks_hold P f who (AtEntry number more) value accepts delivers = either P _ _ _ f.none (f.refused _)
 marks_hold P f who (AtLow number more entry) value accepts delivers = f.none
 marks_hold P f who (AtHigh number more entry low) value accepts delivers = either P _ _ _ f.none (f.refused _)
@@ -105,9 +110,15 @@ frameless_none = record {
   finished = tt;
 }
 
+-- after its index a frame is yet to be told
+tells_openly : (b : Bool) (number : ℕ) → is_open (if b then AtEvent number else RingingOffer) ≡ true
+tells_openly true number = refl
+tells_openly false number = refl
+
 publishes_openly : (who : Who) (place : Place) (value : ℕ) (job : Job) → place ≡ WritingIndex job → is_open (next_place who place value) ≡ false → ⊥
 publishes_openly who place value job is shut =
-    let now : is_open (next_place who (WritingIndex job) value) ≡ false = subst (λ (p : Place). is_open (next_place who p value) ≡ false) is shut in absurd (cc)
+    let now : is_open (next_place who (WritingIndex job) value) ≡ false = subst (λ (p : Place). is_open (next_place who p value) ≡ false) is shut in
+    let open_there = tells_openly (has_events who.sizes) job.number in absurd (cc)
 
 -- a step that ends its call accepts no frame
 ends_quietly : (who : Who) (place : Place) (value : ℕ) → is_open (next_place who place value) ≡ false → NoAccept (marks_at who place value)
@@ -141,7 +152,7 @@ pub first_frames : (who : Who) (end : End) (call : Call) → IsGiven who call �
 first_frames who end Tick given = tt
 first_frames who end Stop given = tt
 first_frames who end (Offer frame) given = elim (in_run end.handshake.phase) as (λ b. HasFrames (if b then AtUsedIndex (job_of who end frame) end.freed else Downed)) [ true ↦ given.0 | false ↦ tt ]
-first_frames who end Poll given = elim (in_run end.handshake.phase) as (λ b. HasFrames (if b then AtAvailIndex (length end.delivered) else Downed)) [ true ↦ tt | false ↦ tt ]
+first_frames who end Poll given = elim (in_run end.handshake.phase) as (λ b. HasFrames (if b then AtAvailIndex (length end.delivered) (is_last who end.found_none) else Downed)) [ true ↦ tt | false ↦ tt ]
 
 on : (b : Bool) (x y : Place) → HasFrames x → HasFrames y → HasFrames (if b then x else y)
 on true x y one other = one
@@ -194,9 +205,14 @@ next_frames who (WritingHigh job) value has = has
 next_frames who (WritingLength job) value has = has
 next_frames who (WritingFlags job) value has = has
 next_frames who (WritingEntry job) value has = has
-next_frames who (WritingIndex job) value has = tt
+next_frames who (WritingIndex job) value has = on (has_events who.sizes) (AtEvent job.number) RingingOffer tt tt
+next_frames who (AtEvent number) value has = on _ RingingOffer Closed tt tt
 next_frames who RingingOffer value has = tt
-next_frames who (AtAvailIndex taken) value has = on _ (if published_by taken value == 0 then Closed else items_place taken (published_by taken value)) Refusing (on _ Closed (items_place taken (published_by taken value)) tt (takes taken (published_by taken value))) tt
+next_frames who (AtAvailIndex taken last) value has =
+    let found = published_by taken value in
+    on _ (if found == 0 then none_place taken last else items_place taken found) Refusing
+    (on _ (none_place taken last) (items_place taken found) (on last Closed (Arming taken) tt tt) (takes taken found)) tt
+next_frames who (Arming taken) value has = tt
 next_frames who (AtEntry number more) value has = on _ (AtLow number more _) Refusing tt tt
 next_frames who (AtLow number more entry) value has = tt
 next_frames who (AtHigh number more entry low) value has = on _ (AtLength number more entry _) Refusing tt tt

@@ -1,4 +1,4 @@
-use Rattle.std.proofs.Common.{rules, ◌≡◌, ◌+◌, ◌-◌, ◌/◌, ◌∷◌, [], ◌++◌, length, replicate, sym, ap, ◌∙◌, arith, length-append}
+use Rattle.std.proofs.Common.{rules, ◌≡◌, ◌/◌, ◌∷◌, [], ◌++◌, replicate, sym, ap, ◌∙◌, arith, length-append}
 use Rattle.scenario_text.specs.Spelling.{world_of}
 use Rattle.peer_runner.specs.Held.{Held}
 use Rattle.peer_runner.specs.Passes.{held}

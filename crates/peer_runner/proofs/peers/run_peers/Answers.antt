@@ -1,9 +1,7 @@
-use Rattle.std.proofs.Common.{◌≡◌, ◌<◌, ◌≤◌, [], length, map, sym, ap, ◌∙◌, subst, arith}
+use Rattle.std.proofs.Common.{sym, ap, ◌∙◌, subst, arith}
 use Rattle.std.specs.Prelude.{IfOk}
-use Rattle.record_text.specs.OwnParts.{part_of}
 use Rattle.scenario_text.specs.Spelling.{world_of}
 use Rattle.section_map.specs.Geometry.{Shape}
-use Rattle.peer_runner.specs.Held.{Held}
 use Rattle.peer_runner.specs.Drives.{RanAll}
 use Rattle.peer_runner.proofs.Recording.{peers_are, is_run, whole_lists, told_whole}
 use Rattle.peer_runner.proofs.peers.run_peers.Goals as goal

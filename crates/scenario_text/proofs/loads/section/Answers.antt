@@ -6,6 +6,6 @@ use Rattle.scenario_text.proofs.loads.section.Goals as goal
 
 pub unreachable-requires : goal.unreachable-requires
 unreachable-requires c =
-    let ok = queue_is _ c.of.result (omega arith) c.of.ensures.queue c.of.ensures.fault ∙ least_queue in
+    let ok = queue_is _ c.of.result (omega arith, omega arith) (omega arith) c.of.ensures.queue c.of.ensures.fault ∙ least_queue in
     let no : false ≡ true = sym (ap is_ok c.in-Err.is) ∙ ok in
     cc

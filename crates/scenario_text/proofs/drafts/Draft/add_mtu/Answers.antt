@@ -6,7 +6,7 @@ use Rattle.scenario_text.proofs.HeadLaws.{mtu_fits, mtu_refused}
 use Rattle.scenario_text.proofs.drafts.Draft.add_mtu.Goals as goal
 
 pub returns-in_default : goal.returns-in_default
-returns-in_default c = mtu_refused (so_far c.args.self.now) c.args.mtu (sym (queue_is _ c.of.result c.args.self.now.section c.of.ensures.queue c.of.ensures.fault) ∙ ap is_ok c.in_default.is)
+returns-in_default c = mtu_refused (so_far c.args.self.now) c.args.mtu (sym (queue_is _ c.of_version.result c.args.self.now.known c.args.self.now.section c.of_version.ensures.queue c.of_version.ensures.fault) ∙ ap is_ok c.in_default.is)
 
 pub returns : goal.returns
-returns c = mtu_fits (so_far c.args.self.now) c.args.mtu (sym (queue_is _ c.of.result c.args.self.now.section c.of.ensures.queue c.of.ensures.fault) ∙ ap is_ok c.in-Ok.is)
+returns c = mtu_fits (so_far c.args.self.now) c.args.mtu (sym (queue_is _ c.of_version.result c.args.self.now.known c.args.self.now.section c.of_version.ensures.queue c.of_version.ensures.fault) ∙ ap is_ok c.in-Ok.is)

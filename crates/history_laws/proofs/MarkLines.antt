@@ -1,0 +1,33 @@
+-- The line of an access, and what the line of a mark tells.
+use Rattle.std.proofs.Common.{◌≡◌, ℕ, List, ◌∷◌, refl}
+use Rattle.split_ring.specs.declared.steps.Access.{Access}
+use Rattle.split_ring.specs.declared.steps.Access.TheVariants as access
+use Rattle.call_grammar.specs.Steps.{Mark, Saw, Reclaim, Full, Accept, Look, Deliver, Return, Done, Down, Refuse, Over}
+use Rattle.link_machine.specs.LinkMachine.{Marked}
+use Rattle.lawful_history.specs.declared.line.Line.{Line}
+use Rattle.lawful_history.specs.declared.line.Line.TheVariants as line
+use Rattle.lawful_history.specs.Entries.{mark_line}
+use Rattle.history_laws.specs.Told.{Tells, telling_of}
+use Rattle.history_laws.specs.Reads.{Breaks, reading_of}
+
+-- the line of a mark tells the mark, and breaks the reads
+pub mark_is : (p : ℕ) (mark : Mark) → (telling_of (mark_line p mark) ≡ Tells p (Marked mark)) × (reading_of (mark_line p mark) ≡ Breaks p)
+mark_is p (Saw value) = (refl, refl)
+mark_is p (Reclaim count) = (refl, refl)
+mark_is p Full = (refl, refl)
+mark_is p (Accept frame) = (refl, refl)
+mark_is p (Look count) = (refl, refl)
+mark_is p (Deliver frame) = (refl, refl)
+mark_is p Return = (refl, refl)
+mark_is p Done = (refl, refl)
+mark_is p Down = (refl, refl)
+mark_is p (Refuse refused) = (refl, refl)
+mark_is p Over = (refl, refl)
+
+-- the line of the access
+abbrev pub after_access : ℕ → Access → ℕ → List Line → List Line
+after_access p (access.Read word) value past = line.Read p word value ∷ past
+after_access p (access.Write word written) value past = line.Write p word written ∷ past
+after_access p (access.State state) value past = line.State p state ∷ past
+after_access p (access.Ring target vector) value past = line.Doorbell p target vector ∷ past
+after_access p access.Nothing value past = past

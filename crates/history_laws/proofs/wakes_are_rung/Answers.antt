@@ -1,0 +1,5 @@
+use Rattle.history_laws.proofs.Waking.{wake_lem}
+use Rattle.history_laws.proofs.wakes_are_rung.Goals as goal
+
+pub returns : goal.returns
+returns c = wake_lem

@@ -2,3 +2,4 @@ pub mod Status
 pub mod Forms
 pub mod Refusals
 pub mod Charts
+pub mod Fronts

@@ -4,6 +4,7 @@
 #![tactic(auto)]
 
 mod arguments;
+mod fronts;
 mod program;
 mod refusals;
 mod status;

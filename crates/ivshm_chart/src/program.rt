@@ -3,14 +3,16 @@ ghost use Rattle.std.specs.Prelude.{◌≡◌, ◌≢◌, ◌⊎◌, ◌≤◌, 
 ghost use Rattle.std.specs.String.{string_bytes};
 ghost use Rattle.ivs_base.specs.Ends.{Took, SinkFailed};
 ghost use Rattle.ivshm_chart.specs.Forms.{form_of};
+ghost use Rattle.ivshm_chart.specs.Refusals.{line_of};
 ghost use Rattle.ivshm_chart.specs.Charts.{HasCause, IsReply};
 
 use crate::arguments::WordsFault;
+use crate::fronts::{Front, front_of};
 use crate::refusals::refusal_line;
 use crate::status::Status;
 use crate::words::{Span, read_form};
 use ivs_base::{NoMemory, ReadEnd, Sink, Source, read_all, write_whole};
-use record_chart::{Picture, draw, picture_of};
+use record_chart::{Picture, draw, picture_of, picture_of_front};
 use record_text::{RecordFault, parse};
 use std::alloc::Global;
 
@@ -28,15 +30,28 @@ struct Reply {
     drawn: Option<Picture>,
 }
 
-/// The reply to the bytes that were read.
-fn reply_to(alloc: Global, span: Span, bytes: &[u8]) -> Result<Reply, NoMemory>
+/// The reply to a text that is refused.
+fn reply_to_fault(alloc: Global, fault: RecordFault) -> Result<Reply, NoMemory>
+    ensures { IfOk result (λ reply. (reply.status ≡ Status.Refused) × (reply.text.items ≡ line_of fault) × (reply.drawn ≡ None)) }
+{
+    let text = refusal_line(alloc, fault)?;
+    Ok(Reply {
+        status: Status::Refused,
+        text,
+        drawn: None,
+    })
+}
+
+/// The reply to the bytes that were read, by all lines of their record.
+fn reply_to_whole(alloc: Global, span: Span, bytes: &[u8]) -> Result<Reply, NoMemory>
     requires { 1 ≤ span.first }
     ensures { IfOk result (λ reply. IsReply span bytes.now reply.status reply.text.items reply.drawn) }
 {
     match parse(alloc, bytes) {
         Ok(trace) => {
             let picture = picture_of(alloc, &trace, span.first, span.last)?;
-            let text = draw(alloc, &trace, span.first, &picture)?;
+            let total = trace.lines.items().len() as u64;
+            let text = draw(alloc, &trace, total, span.first, &picture)?;
             Ok(Reply {
                 status: Status::Done,
                 text,
@@ -44,15 +59,31 @@ fn reply_to(alloc: Global, span: Span, bytes: &[u8]) -> Result<Reply, NoMemory>
             })
         }
         Err(RecordFault::NoMemory) => Err(NoMemory),
-        Err(fault) => {
-            let text = refusal_line(alloc, fault)?;
-            Ok(Reply {
-                status: Status::Refused,
-                text,
-                drawn: None,
-            })
-        }
+        Err(fault) => reply_to_fault(alloc, fault),
     }
+}
+
+/// The reply to the bytes that were read. The lines of the record are read one by one, and only those up to some after the first one shown are
+/// kept. Where a picture needs more of them, as of long runs that are folded, all are.
+fn reply_to(alloc: Global, span: Span, bytes: &[u8]) -> Result<Reply, NoMemory>
+    requires { 1 ≤ span.first }
+    ensures { IfOk result (λ reply. IsReply span bytes.now reply.status reply.text.items reply.drawn) }
+{
+    let Front { trace, others } = match front_of(alloc, span.first, bytes) {
+        Ok(front) => front,
+        Err(RecordFault::NoMemory) => return Err(NoMemory),
+        Err(fault) => return reply_to_fault(alloc, fault),
+    };
+    let Some(picture) = picture_of_front(alloc, &trace, others, span.first, span.last)? else {
+        return reply_to_whole(alloc, span, bytes);
+    };
+    let total = (trace.lines.items().len() as u64).saturating_add(others);
+    let text = draw(alloc, &trace, total, span.first, &picture)?;
+    Ok(Reply {
+        status: Status::Done,
+        text,
+        drawn: Some(picture),
+    })
 }
 
 /// Writes a text. The status is this one where all of it was written, else WriteFault.

@@ -40,7 +40,7 @@ fn statuses(rt: HostRuntime) -> Result<(), Fail> {
         (&[], b"record 3\n", Status::Refused, b"refused 1 BadLine\n"),
         (
             &["1", "1"],
-            b"record 1\nivshm 2\n",
+            b"record 1\nivshm 4\n",
             Status::Refused,
             b"refused 2 BadNumber\n",
         ),

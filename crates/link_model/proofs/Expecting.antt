@@ -1,6 +1,6 @@
 -- How the lawful history goes on after the lines that a course took.
 use Rattle.std.proofs.Common.{◌≡◌, ◌≢◌, ℕ, Bool, true, false, zero, suc, ◌<◌, ◌≤◌, ◌+◌, ◌-◌, List, [], ◌∷◌, ◌++◌, length, get_or, take, drop, replicate, refl, sym, ◌∙◌, ap, subst, arith, append_assoc, inl, inr}
-use Rattle.std.specs.Prelude.{◌⊎◌, ◌==◌, if◌then◌else◌, Some, None, reverse, slice_get}
+use Rattle.std.specs.Prelude.{◌⊎◌, ◌&&◌, ◌==◌, if◌then◌else◌, Some, None, reverse, slice_get}
 use Rattle.std.proofs.lemmas.List.{append-nil, length-append, reverse-append, take-append-drop, take_all, take_more}
 use Rattle.std.proofs.lemmas.List.Concat.{flat_map-append}
 use Rattle.std.proofs.lemmas.Option.{slice_get-get_or, slice_get_within, same_Some}
@@ -12,6 +12,7 @@ use Rattle.lawful_history.specs.Schedule.{Event, Turned, events_of, schedule}
 use Rattle.lawful_history.specs.Lawful.{IsLawfulIn, HasOneHistoryIn}
 use Rattle.lawful_history.specs.History.{Moment, run, beginning, history, HistoryIsLawfulIn}
 use Rattle.lawful_history.proofs.Begins.{run_on, grows}
+use Rattle.lawful_history.specs.Frames.{has_frame, HaveFrames}
 use Rattle.lawful_history.specs.Sessions.{with_sessions, told_in}
 use Rattle.lawful_history.proofs.Marks.{with_sessions-append}
 use Rattle.stage.proofs.Runs.{told_so_far}
@@ -177,6 +178,31 @@ one_taken lines c line along is =
       taken = ap (λ ls. along.output.drained ++ ls) (take_more waiting c.passed line inside ∙ ap (λ (l : Line). take c.passed waiting ++ l ∷ []) here)
           ∙ sym (append_assoc along.output.drained (take c.passed waiting) (line ∷ [])) ∙ ap (λ ls. ls ++ line ∷ []) along.taken;
     }
+
+-- all lines that wait are taken
+pub all_taken : (lines : List Line) (c : Course) → IsAlong lines c → IsAlong (lines ++ drop c.passed (kept c.stage)) (record c { passed = length (kept c.stage) })
+all_taken lines c along =
+    let waiting = kept c.stage in
+    let played = along.played in
+    record {
+      output = along.output;
+      played = record { events = played.events; version = played.version; runs = played.runs; at = played.at; scheduled = played.scheduled; peer = played.peer };
+      passed = omega arith;
+      taken = ap (λ ls. along.output.drained ++ ls) (take_all (length waiting) waiting (omega arith)) ∙ untaken along.output.drained waiting lines c.passed along.taken;
+    }
+
+second_true : (a b : Bool) → (a && b) ≡ true → b ≡ true
+second_true true b e = e
+second_true false b e = absurd cc
+
+drop_frames : (lines : List Line) (n : ℕ) → HaveFrames lines → HaveFrames (drop n lines)
+drop_frames lines zero frames = frames
+drop_frames [] (suc n) frames = frames
+drop_frames (line ∷ lines) (suc n) frames = drop_frames lines n (second_true (has_frame line) _ frames)
+
+-- the lines that wait have their frames
+pub frames_wait : (lines : List Line) (c : Course) → GoesOn lines c → HaveFrames (drop c.passed (kept c.stage))
+frames_wait lines c goes = drop_frames (kept c.stage) c.passed goes.along.played.runs.after.log.frames
 
 -- the lines taken are the first ones that are told
 pub counted : (lines : List Line) (c : Course) (next : ℕ) → GoesOn lines c → next ≡ length lines + 1 → take (next - 1) (told_of c) ≡ lines

@@ -1,8 +1,9 @@
 //! The lawful history on its course: a stage that is played only as far as the lines that are taken.
-ghost use Rattle.std.specs.Prelude.{◌≡◌, ◌≢◌, ◌+◌, ◌-◌, ◌^◌, ◌<◌, Some, IsTrue, List, [], ◌∷◌, ◌++◌, IfOk, OnOk, IfErr, MatchResult, true, false, length, slice_get, slice_index_or};
+ghost use Rattle.std.specs.Prelude.{◌≡◌, ◌≢◌, ◌+◌, ◌-◌, ◌^◌, ◌<◌, Some, IsTrue, List, [], ◌∷◌, ◌++◌, IfOk, OnOk, IfErr, MatchResult, true, false, length, drop, slice_get, slice_index_or};
 ghost use Rattle.std.specs.Option.{option_copied};
 ghost use Rattle.lawful_history.specs.Lawful.{IsLawfulIn};
 ghost use Rattle.lawful_history.specs.Versions.{is_version};
+ghost use Rattle.lawful_history.specs.Frames.{HaveFrames};
 ghost use Rattle.stage.specs.Log.{Output};
 ghost use Rattle.stage.specs.Stage.{kept};
 ghost use Rattle.link_model.specs.Difference.{Differs};
@@ -16,6 +17,9 @@ use lawful_history::{Line, records_tell_one_history};
 use scenario_text::{Act, Scenario};
 use stage::Stage;
 use std::alloc::Global;
+
+/// So many lines wait at once where lines are passed over, or a few more.
+const PART: usize = 256;
 
 /// A scenario, the stage that plays it, and how far.
 #[derive(Drop)]
@@ -133,6 +137,43 @@ impl<'a> Course<'a> {
             }
         }
         Ok(())
+    }
+
+    /// Drains the lines of the stage, which were all taken, and plays on until many lines wait, or the schedule is over.
+    fn play_part(&mut self) -> Result<(), NoMemory>
+        requires along { (lines : List Line) × IsAlong lines self.old }
+        requires all { self.old.passed ≡ length (kept self.old.stage) }
+        ensures on { (lines : List Line) → IsAlong lines self.old → OnOk result (GoesOn lines self.new) }
+        ensures scenario { self.new.scenario.now ≡ self.old.scenario.now }
+        ensures version { self.new.version ≡ self.old.version }
+    {
+        self.drain();
+        while self.stage.lines().len() < PART {
+            if !self.play_next()? {
+                return Ok(());
+            }
+        }
+        Ok(())
+    }
+
+    /// The lines that wait, by which the lawful history goes on. Where none waits, it is over.
+    pub fn waiting(&self) -> &[Line]
+        requires { (lines : List Line) × GoesOn lines self.now }
+        ensures waiting { result.now ≡ drop self.now.passed (kept self.now.stage) }
+        ensures frames { HaveFrames result.now }
+    {
+        &self.stage.lines()[self.passed..]
+    }
+
+    /// Takes all lines that wait, and plays on.
+    pub fn pass(&mut self) -> Result<(), NoMemory>
+        requires { (lines : List Line) × GoesOn lines self.old }
+        ensures on { (lines : List Line) → GoesOn lines self.old → OnOk result (GoesOn (lines ++ drop self.old.passed (kept self.old.stage)) self.new) }
+        ensures scenario { self.new.scenario.now ≡ self.old.scenario.now }
+        ensures version { self.new.version ≡ self.old.version }
+    {
+        self.passed = self.stage.lines().len();
+        self.play_part()
     }
 
     /// The line by which the lawful history goes on, if it does.

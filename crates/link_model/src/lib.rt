@@ -11,6 +11,7 @@ mod run;
 #[cfg(test)]
 mod tests;
 
+pub use course::Course;
 pub use fault::{Law, StepFault, Unlawful};
 pub use lawful_history::{
     Line, Lines, cut_histories_begin, history_is_lawful, memory_is_kept, one_history,

@@ -2,3 +2,4 @@ mod RowLaws
 mod ArrowLaws
 mod UnfoldLaws
 mod OwnLaws
+mod FrontLaws

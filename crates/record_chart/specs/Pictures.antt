@@ -26,3 +26,7 @@ pub record IsPicture (world : World) (lines : List Line) (first last : ℕ) (pic
   pub left_out : count_of picture.rows.items + picture.left_out ≡ length (lines_between first last lines)
   pub storms : picture.storms.items ≡ storms_of world.acts
   pub arrows : picture.arrows.items ≡ pair_arrows world first (take (first - 1 + count_of picture.rows.items) lines)
+
+-- the same of a record of which these are the first lines, and so many others come after them
+abbrev pub IsPictureOfFront : World → (front : List Line) → (count first last : ℕ) → Picture → Type 0
+IsPictureOfFront world front count first last picture = (others : List Line) → length others ≡ count → IsPicture world (front ++ others) first last picture

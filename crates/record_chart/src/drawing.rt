@@ -259,7 +259,7 @@ fn put_heads(alloc: Global, sheet: &mut Sheet, scenario: &Scenario) -> Result<()
 }
 
 /// Which lines of a history of so many are shown: so many, from this one on.
-fn title_of(alloc: Global, first: u64, shown: u64, total: usize) -> Result<String, AllocError> {
+fn title_of(alloc: Global, first: u64, shown: u64, total: u64) -> Result<String, AllocError> {
     if shown == 0 {
         return format!(in alloc; "No history lines from {first} on: there are {total}");
     }
@@ -275,13 +275,14 @@ fn put_start(
     picture: &Picture,
     first: u64,
     shown: u64,
+    total: u64,
 ) -> Result<(), NoMemory> {
     let peers = trace.scenario.geometry.peers();
     let width = (column_x(peers) - GUTTER).max(620) + 44;
     let height = row_y(picture.rows.len()) + 40;
     let rows = picture.rows.len();
     let arrows = picture.arrows.len();
-    let title = title_of(alloc, first, shown, trace.lines.items().len())?;
+    let title = title_of(alloc, first, shown, total)?;
     let start = format!(in alloc;
         "<svg xmlns='http://www.w3.org/2000/svg' width='{width}' height='{height}' viewBox='0 0 {width} {height}' "
     )?;
@@ -321,10 +322,12 @@ fn put_end(alloc: Global, sheet: &mut Sheet, picture: &Picture) -> Result<(), No
     sheet.raw("</svg>\n")
 }
 
-/// The SVG file of a picture of the lines of a record from this number on.
+/// The SVG file of a picture of the lines of a record from this number on. The record has so many lines, of which the trace has all that are
+/// shown and those before them.
 pub fn draw(
     alloc: Global,
     trace: &Trace,
+    total: u64,
     first: u64,
     picture: &Picture,
 ) -> Result<Vec<u8>, NoMemory> {
@@ -336,7 +339,7 @@ pub fn draw(
         shown = shown.saturating_add(row.count);
     }
     let mut sheet = Sheet::new(alloc);
-    put_start(alloc, &mut sheet, trace, picture, first, shown)?;
+    put_start(alloc, &mut sheet, trace, picture, first, shown, total)?;
     put_stripes(&mut sheet, peers, rows.len())?;
     put_heads(alloc, &mut sheet, &trace.scenario)?;
     for peer in 0..peers.min(8) {

@@ -20,5 +20,5 @@ mod words;
 pub use arrows::{Arrow, arrows_of};
 pub use drawing::draw;
 pub use laws::{deliveries_have_their_arrows, rows_are_the_lines};
-pub use pictures::{Picture, picture_of};
+pub use pictures::{Picture, picture_of, picture_of_front};
 pub use rows::{Row, Rows, rows_of, storms_of};

@@ -1,9 +1,9 @@
 //! What a picture shows of a record.
-ghost use Rattle.std.specs.Prelude.{◌≡◌, ℕ, ◌+◌, ◌-◌, ◌<◌, ◌≤◌, ◌^◌, ◌++◌, IfOk, OnOk, length};
+ghost use Rattle.std.specs.Prelude.{◌≡◌, ℕ, ◌+◌, ◌-◌, ◌<◌, ◌≤◌, ◌^◌, ◌++◌, IfOk, IfSome, OnOk, length};
 ghost use Rattle.scenario_text.specs.Spelling.{world_of};
 ghost use Rattle.scenario_text.specs.Scenario.{is_link};
 ghost use Rattle.record_chart.specs.Rows.{lines_between};
-ghost use Rattle.record_chart.specs.Pictures.{pair_arrows, IsPicture};
+ghost use Rattle.record_chart.specs.Pictures.{pair_arrows, IsPicture, IsPictureOfFront};
 
 use crate::arrows::{Arrow, arrows_of};
 use crate::rows::{Row, Rows, rows_of, storms_of};
@@ -90,4 +90,37 @@ pub fn picture_of(alloc: Global, trace: &Trace, first: u64, last: u64) -> Result
         storms,
         arrows,
     })
+}
+
+/// What a picture shows of a record of which the trace has the first lines, and so many others come after them: the same whatever those are.
+/// There is none where more lines have to be known. NoMemory comes only where memory ran out.
+pub fn picture_of_front(
+    alloc: Global,
+    trace: &Trace,
+    others: u64,
+    first: u64,
+    last: u64,
+) -> Result<Option<Picture>, NoMemory>
+    requires { 1 ≤ first }
+    ensures { IfOk result (λ found. IfSome found (IsPictureOfFront (world_of trace.now.scenario) trace.now.lines others first last)) }
+{
+    let mut picture = picture_of(alloc, trace, first, last)?;
+    if others == 0 {
+        return Ok(Some(picture));
+    }
+    let kept = trace.lines.items().len() as u64;
+    if last <= kept {
+        if last < first {
+            return Ok(None);
+        }
+        return Ok(Some(picture));
+    }
+    if picture.left_out == 0 {
+        return Ok(None);
+    }
+    let Some(left_out) = picture.left_out.checked_add(others.min(last - kept)) else {
+        return Ok(None);
+    };
+    picture.left_out = left_out;
+    Ok(Some(picture))
 }

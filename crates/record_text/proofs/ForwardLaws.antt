@@ -62,10 +62,14 @@ history-row lines r said is framed puts =
 row_fits : (line : Line) → Fits line → IsRow pieces_of (row_of_line line)
 row_fits line fits = record { values = fits.values; hex = fits.bytes }
 
-line_step : (version : ℕ) (w : World) (lines : List Line) (line : Line) → Fits line → has_frame line ≡ true → step (InHistory version w lines) (bare pieces_of (row_of_line line)) ≡ Ok (InHistory version w (lines ++ line ∷ []))
-line_step version w lines line fits framed =
+-- a line in its one spelling tells itself
+pub line_is_told : (lines : List Line) (line : Line) → Fits line → has_frame line ≡ true → history_step lines (bare pieces_of (row_of_line line)) ≡ Ok (Longer (lines ++ line ∷ []))
+line_is_told lines line fits framed =
     let puts : put lines (row_of_line line).numbers (entry_of (row_of_line line).form (row_of_line line).numbers (row_of_line line).frame) ≡ Ok (Longer (lines ++ line ∷ [])) = rw (entry_of-row line) refl in
-    rw (history-row lines (row_of_line line) (Ok (Longer (lines ++ line ∷ []))) (row_fits line fits) (frame_is line ∙ framed) puts) refl
+    history-row lines (row_of_line line) (Ok (Longer (lines ++ line ∷ []))) (row_fits line fits) (frame_is line ∙ framed) puts
+
+line_step : (version : ℕ) (w : World) (lines : List Line) (line : Line) → Fits line → has_frame line ≡ true → step (InHistory version w lines) (bare pieces_of (row_of_line line)) ≡ Ok (InHistory version w (lines ++ line ∷ []))
+line_step version w lines line fits framed = rw (line_is_told lines line fits framed) refl
 
 pub history_goes : (version : ℕ) (w : World) (front rest : List Line) → AllFit rest → HaveFrames rest → Goes machine (InHistory version w front) (map (bare pieces_of) (map row_of_line rest)) (InHistory version w (front ++ rest))
 history_goes version w front [] fits frames = ap (λ (ls : List Line). InHistory version w ls) (sym (append-nil front))

@@ -7,7 +7,7 @@ use Rattle.record_text.specs.declared.forms.LineForm.{LineForm}
 use Rattle.record_text.specs.declared.forms.LineForm.TheVariants.{Count}
 use Rattle.record_text.specs.Table.{pieces_of}
 use Rattle.record_text.specs.LineRows.{row_of_line}
-use Rattle.record_text.specs.Growing.{front_text, history_text, PartsAreSpelling, LinesFollow}
+use Rattle.record_text.specs.Growing.{front_text, PartsAreSpelling, LinesFollow}
 
 pub lines_follow : LinesFollow
 lines_follow first others = ap (text_of pieces_of) (map-append row_of_line first others) ∙ flat_map-append (line_of_row pieces_of) (map row_of_line first) (map row_of_line others)

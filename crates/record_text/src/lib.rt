@@ -12,6 +12,8 @@ mod laws;
 mod own_trace;
 mod own_traces;
 mod printing;
+mod quick;
+mod reader;
 mod reading;
 mod run_forms;
 mod run_printing;
@@ -28,6 +30,7 @@ pub use laws::{bytes_after_end_are_bad_line, cut_is_no_end, fault_is_first, part
 pub use own_trace::OwnTrace;
 pub use own_traces::OwnTraces;
 pub use printing::print;
+pub use reader::Reader;
 pub use reading::parse;
 pub use run_printing::print_run;
 pub use run_trace::RunTrace;

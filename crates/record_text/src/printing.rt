@@ -7,6 +7,7 @@ ghost use Rattle.record_text.specs.Spelling.{Fits, AllFit, record_of, spelling};
 ghost use Rattle.record_text.specs.Judge.{answer};
 
 use crate::forms::LineForm;
+use crate::growing::put_lines;
 use crate::trace::Trace;
 use crate::versions::first_line;
 use ivs_base::{Frame, NoMemory};
@@ -132,16 +133,6 @@ pub fn put_history_line(out: &mut Vec<u8>, line: &Line) -> Result<(), AllocError
     }
 }
 
-fn put_history(out: &mut Vec<u8>, lines: &[Line]) -> Result<(), AllocError>
-    ensures put { OnOk result (out.new.items ≡ out.old.items ++ text_of pieces_of (map row_of_line lines.now)) }
-    ensures fits { OnOk result (AllFit lines.now) }
-{
-    for line in lines {
-        put_history_line(out, line)?;
-    }
-    Ok(())
-}
-
 /// Puts the text of the record last.
 fn put_record(out: &mut Vec<u8>, trace: &Trace) -> Result<(), AllocError>
     ensures put { OnOk result (out.new.items ≡ out.old.items ++ spelling (record_of trace.now)) }
@@ -152,7 +143,7 @@ fn put_record(out: &mut Vec<u8>, trace: &Trace) -> Result<(), AllocError>
     out.extend_from_slice(first_line(trace.version))?;
     out.push(b'\n')?;
     put_scenario(out, &trace.scenario)?;
-    put_history(out, lines)?;
+    put_lines(out, lines)?;
     put(out, LineForm::Count, &[lines.len() as u64])?;
     Ok(())
 }

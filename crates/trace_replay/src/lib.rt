@@ -1,27 +1,26 @@
 //! The check of a record: is its history the lawful one, and if not, which line is the first that differs, and which law
-//! does it break? It stands on `link_model` for the run that takes a history line by line, on `sim_world` for the lawful history that is
-//! played beside a text, and on `record_text` for records. The contracts of `replay` and of `replay_text` promise the verdict of
-//! `specs/Verdict`.
+//! does it break? It stands on `link_model` for the run that takes a history line by line, and on `record_text` for records. The contracts of
+//! `replay` and of `replay_text` promise the verdict of `specs/Verdict`.
 #![tactic(auto)]
 
-ghost use Rattle.std.specs.Prelude.{IfOk, IfErr};
+ghost use Rattle.std.specs.Prelude.{◌≡◌, true, IfOk, IfErr};
 ghost use Rattle.scenario_text.specs.Spelling.{world_of};
 ghost use Rattle.record_text.specs.Judge.{answer};
 ghost use Rattle.record_text.specs.Answers.{Refuses};
-ghost use Rattle.trace_replay.specs.Texts.{IsVerdictOfText};
+ghost use Rattle.trace_replay.specs.Texts.{IsLawfulText, IsVerdictOfText};
 ghost use Rattle.trace_replay.specs.Verdict.{IsVerdict};
 
-mod matching;
+mod beside;
 #[cfg(test)]
 mod tests;
 mod verdict;
 
+use beside::{judge, pass_alike};
 use ivs_base::NoMemory;
 use lawful_history::records_tell_one_history;
-use link_model::{Run, StepFault};
+use link_model::{Course, Run, StepFault};
 pub use link_model::{Law, Unlawful};
-pub use matching::is_lawful_text;
-use record_text::{RecordFault, Trace, parse};
+use record_text::{Reader, RecordFault, Trace};
 use std::alloc::Global;
 pub use verdict::Verdict;
 
@@ -47,24 +46,33 @@ pub fn replay(alloc: Global, trace: &Trace) -> Result<Verdict, NoMemory>
 }
 
 /// Whether the history of the record that the text spells is what a record of its version tells of the lawful one; or the first fault of the
-/// text. NoMemory comes only where memory ran out. The lawful history is played once and held to the text; the lines are read only where the
-/// two differ.
+/// text. NoMemory comes only where memory ran out. The lawful history is played once and held to the text. From the first difference on the lines
+/// are read one by one, judged and forgotten.
 pub fn replay_text(alloc: Global, bytes: &[u8]) -> Result<Verdict, RecordFault>
     ensures verdict { IfOk result (IsVerdictOfText bytes.now) }
     ensures refused { IfErr result (λ fault. Refuses fault (answer bytes.now)) }
 {
-    records_tell_one_history();
-    match is_lawful_text(alloc, bytes) {
-        Ok(true) => return Ok(Verdict::Same),
-        Ok(false) => {}
+    let (version, scenario, mut reader) = Reader::begin(alloc, bytes)?;
+    let mut course = match Course::new(alloc, &scenario, version) {
+        Ok(course) => course,
+        Err(_) => return Err(RecordFault::NoMemory),
+    };
+    match pass_alike(&mut course, &mut reader) {
+        Ok(()) => {}
         Err(_) => return Err(RecordFault::NoMemory),
     }
-    let trace = match parse(alloc, bytes) {
-        Ok(trace) => trace,
-        Err(fault) => return Err(fault),
-    };
-    match replay(alloc, &trace) {
-        Ok(verdict) => Ok(verdict),
-        Err(_) => Err(RecordFault::NoMemory),
+    judge(alloc, &mut course, &mut reader)
+}
+
+/// Is this the text of a record of either version with the lawful history of its scenario? NoMemory comes only where memory ran out.
+pub fn is_lawful_text(alloc: Global, bytes: &[u8]) -> Result<bool, NoMemory>
+    ensures { IfOk result (λ is. is ≡ true → IsLawfulText bytes.now) }
+{
+    records_tell_one_history();
+    match replay_text(alloc, bytes) {
+        Ok(Verdict::Same) => Ok(true),
+        Ok(Verdict::Differs(_)) => Ok(false),
+        Err(RecordFault::NoMemory) => Err(NoMemory),
+        Err(_) => Ok(false),
     }
 }

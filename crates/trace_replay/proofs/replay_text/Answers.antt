@@ -1,13 +1,27 @@
-use Rattle.sim_world.specs.Telling.{lawful_record}
+use Rattle.trace_replay.proofs.Besides.{nothing_read}
 use Rattle.trace_replay.proofs.replay_text.Goals as goal
 
-pub returns-in-Ok-true-clause-verdict : goal.returns-in-Ok-true-clause-verdict
-returns-in-Ok-true-clause-verdict c =
-    let is = c.in-Ok-true.ensures c.in-Ok-true.field-0-test in
-    record {
-      version = is.version;
-      world = is.world;
-      lines = (lawful_record is.version is.world).lines;
-      spelled = is.spelled;
-      verdict_is = c.records_tell_one_history.ensures.told is.world is.version is.spelled.0.world;
-    }
+pub pass_alike-requires : goal.pass_alike-requires
+pass_alike-requires c = (
+  c.args.bytes.now,
+  nothing_read c.args.bytes.now c.in_ok-version.version c.in_ok-version.scenario c.in-Ok.course c.in_ok-version.reader c.in_ok-version.ensures.begun c.in-Ok.ensures,
+)
+
+pub judge-requires : goal.judge-requires
+judge-requires c = (
+  c.args.bytes.now,
+  c.in-Ok-pass_alike.ensures c.args.bytes.now
+      (nothing_read c.args.bytes.now c.in_ok-version.version c.in_ok-version.scenario c.in-Ok.course c.in_ok-version.reader c.in_ok-version.ensures.begun c.in-Ok.ensures),
+)
+
+pub returns-clause-verdict : goal.returns-clause-verdict
+returns-clause-verdict c =
+    c.judge.ensures.verdict c.args.bytes.now
+    (c.in-Ok-pass_alike.ensures c.args.bytes.now
+    (nothing_read c.args.bytes.now c.in_ok-version.version c.in_ok-version.scenario c.in-Ok.course c.in_ok-version.reader c.in_ok-version.ensures.begun c.in-Ok.ensures))
+
+pub returns-clause-refused : goal.returns-clause-refused
+returns-clause-refused c =
+    c.judge.ensures.refused c.args.bytes.now
+    (c.in-Ok-pass_alike.ensures c.args.bytes.now
+    (nothing_read c.args.bytes.now c.in_ok-version.version c.in_ok-version.scenario c.in-Ok.course c.in_ok-version.reader c.in_ok-version.ensures.begun c.in-Ok.ensures))

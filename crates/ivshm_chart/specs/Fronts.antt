@@ -1,0 +1,18 @@
+-- The first lines of a record.
+use Rattle.std.specs.Prelude.{ℕ, ◌≡◌, List, ◌++◌, length}
+use Rattle.scenario_text.specs.Scenario.{World}
+use Rattle.scenario_text.specs.Spelling.{world_of}
+use Rattle.lawful_history.specs.declared.line.Line.{Line}
+use Rattle.lawful_history.specs.Frames.{HaveFrames}
+use Rattle.record_text.specs.Spelling.{IsSpelling}
+use Rattle.ivshm_chart.specs.declared.fronts.Front.{Front}
+
+-- the text spells the record of these lines and of so many others after them
+pub record IsFront (bytes : List ℕ) (version : ℕ) (world : World) (lines : List Line) (count : ℕ) : Type 0 where
+  pub others : List Line
+  pub counted : length others ≡ count
+  pub frames : HaveFrames lines
+  pub spelled : IsSpelling (record { version = version; world = world; lines = lines ++ others }) bytes
+
+abbrev pub IsFrontOf : List ℕ → Front → Type 0
+IsFrontOf bytes front = IsFront bytes front.trace.version (world_of front.trace.scenario) front.trace.lines front.others

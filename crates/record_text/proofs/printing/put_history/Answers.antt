@@ -1,8 +1,0 @@
-use Rattle.record_text.proofs.PrintLaws.{lines-more, all-more}
-use Rattle.record_text.proofs.printing.put_history.Goals as goal
-
-pub loop-line-preserved : goal.loop-line-preserved
-loop-line-preserved c = record {
-  put = rw (c.in_ok-put_history_line.ensures.put, c.loop-line.invariant.put) (lines-more c.args.out.now.items c.args.lines.now c.loop-line.line-index c.line-item.result c.loop-line-test.true c.line-item.is);
-  fits = all-more c.args.lines.now c.loop-line.line-index c.line-item.result c.loop-line-test.true c.line-item.is c.loop-line.invariant.fits c.in_ok-put_history_line.ensures.fits;
-}

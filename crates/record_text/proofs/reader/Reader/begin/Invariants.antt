@@ -1,0 +1,20 @@
+use Rattle.std.proofs.Common.{◌≡◌, ◌+◌, ◌≤◌, [], length, false}
+use Rattle.line_text.specs.Forms.{cuts}
+use Rattle.line_text.specs.Machine.{read_pieces}
+use Rattle.record_text.specs.Judge.{is_whole, machine, reading}
+use Rattle.record_text.specs.Drafts.{part_so_far}
+use Rattle.record_text.proofs.BackLaws.{GoodPart}
+use Rattle.record_text.proofs.reader.Reader.begin.Given as goal
+
+-- what is still to come gives what the text gives, and no line of the history was read
+abbrev pub invariant-loop-rest : goal.invariant-loop-rest
+invariant-loop-rest l = record {
+  comes : read_pieces machine (part_so_far l.draft) l.number (cuts 10 l.rest) ≡ reading l.bytes;
+  within : l.number + length l.rest ≤ length l.bytes;
+  good : GoodPart (part_so_far l.draft);
+  goes_on : is_whole (part_so_far l.draft) ≡ false;
+  none : l.draft.lines ≡ [];
+}
+
+abbrev pub decreases-loop-rest : goal.decreases-loop-rest
+decreases-loop-rest l = length l.rest

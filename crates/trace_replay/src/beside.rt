@@ -1,0 +1,65 @@
+//! A record's text beside the lawful history, as that is played.
+
+ghost use Rattle.std.specs.Prelude.{ℕ, List, IfOk, OnOk, IfErr};
+ghost use Rattle.scenario_text.specs.Scenario.{World};
+ghost use Rattle.lawful_history.specs.declared.line.Line.{Line};
+ghost use Rattle.record_text.specs.Judge.{answer};
+ghost use Rattle.record_text.specs.Answers.{Refuses};
+ghost use Rattle.record_text.specs.Readers.{IsReading};
+ghost use Rattle.trace_replay.specs.Beside.{IsBeside, IsRead};
+ghost use Rattle.trace_replay.specs.Texts.{IsVerdictOfText};
+
+use crate::verdict::Verdict;
+use ivs_base::NoMemory;
+use link_model::{Course, StepFault};
+use record_text::{Reader, RecordFault};
+use std::alloc::Global;
+
+/// Takes lines as long as the bytes that come next are those of the lines that wait. No line is read.
+pub fn pass_alike(course: &mut Course, reader: &mut Reader) -> Result<(), NoMemory>
+    requires { (bytes : List ℕ) × IsBeside bytes course.old reader.old }
+    ensures { (bytes : List ℕ) → IsBeside bytes course.old reader.old → OnOk result (IsBeside bytes course.new reader.new) }
+{
+    loop {
+        let waiting = course.waiting();
+        if waiting.is_empty() || !reader.pass(waiting)? {
+            return Ok(());
+        }
+        course.pass()?;
+    }
+}
+
+/// Reads the lines that are left, and forgets them. The error is the first fault of the text.
+fn read_on(alloc: Global, reader: &mut Reader) -> Result<(), RecordFault>
+    ensures read { (bytes : List ℕ) (version : ℕ) (world : World) (lines : List Line) → IsReading bytes version world lines reader.old → OnOk result (IsRead bytes version world lines) }
+    ensures refused { (bytes : List ℕ) (version : ℕ) (world : World) (lines : List Line) → IsReading bytes version world lines reader.old → IfErr result (λ fault. Refuses fault (answer bytes)) }
+{
+    while let Some(_line) = reader.next(alloc)? {}
+    Ok(())
+}
+
+/// Reads the lines that are left one by one, beside the lawful history up to the first that differs, and says which it is.
+pub fn judge(
+    alloc: Global,
+    course: &mut Course,
+    reader: &mut Reader,
+) -> Result<Verdict, RecordFault>
+    requires { (bytes : List ℕ) × IsBeside bytes course.old reader.old }
+    ensures verdict { (bytes : List ℕ) → IsBeside bytes course.old reader.old → IfOk result (IsVerdictOfText bytes) }
+    ensures refused { (bytes : List ℕ) → IsBeside bytes course.old reader.old → IfErr result (λ fault. Refuses fault (answer bytes)) }
+{
+    while let Some(line) = reader.next(alloc)? {
+        match course.take(reader.count, &line) {
+            Ok(()) => {}
+            Err(StepFault::Unlawful(fault)) => {
+                read_on(alloc, reader)?;
+                return Ok(Verdict::Differs(fault));
+            }
+            Err(StepFault::NoMemory) => return Err(RecordFault::NoMemory),
+        }
+    }
+    match course.close(reader.count + 1) {
+        Ok(()) => Ok(Verdict::Same),
+        Err(fault) => Ok(Verdict::Differs(fault)),
+    }
+}

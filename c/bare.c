@@ -47,17 +47,20 @@ void *memset(void *to, int byte, size_t n) {
 
 static uint32_t words[1024 + 2 * 4096];
 
-/* Makes the accesses of the open call, and tells whether a frame was delivered. */
+/* Makes this access, and gives what a read gave. */
+static uint32_t made(uint32_t me, const ivshm_access *access) {
+    if (access->kind == IVSHM_WRITE) words[access->word] = access->value;
+    if (access->kind == IVSHM_STATE) words[me] = access->value;
+    return access->kind == IVSHM_READ ? words[access->word] : 0;
+}
+
+/* Makes the accesses of the open call, and tells how many frames were delivered. */
 static int run(ivshm_end *end, uint32_t me) {
     ivshm_access access;
     ivshm_notes notes;
     int delivered = 0;
     while (ivshm_end_next(end, &access) == IVSHM_DONE) {
-        uint32_t value = 0;
-        if (access.kind == IVSHM_READ) value = words[access.word];
-        if (access.kind == IVSHM_WRITE) words[access.word] = access.value;
-        if (access.kind == IVSHM_STATE) words[me] = access.value;
-        if (ivshm_end_took(end, value, &notes) != IVSHM_DONE) return -1;
+        if (ivshm_end_took(end, made(me, &access), &notes) != IVSHM_DONE) return -1;
         for (uint32_t i = 0; i < notes.count; i++) delivered += notes.note[i].kind == IVSHM_DELIVER;
     }
     return delivered;
@@ -184,6 +187,47 @@ static int check_stretches(void) {
     return 0;
 }
 
+/* A link of version 2: a poll that finds nothing asks for the next frame, which rings, and the one after it doesn't. */
+static int check_events(void) {
+    static ivshm_end a = IVSHM_END_NONE, b = IVSHM_END_NONE;
+    static uint8_t frame[14] = {255, 255, 255, 255, 255, 255, 2};
+    ivshm_found found = {.table = 4096, .out = 16384};
+    ivshm_access access;
+    ivshm_notes notes;
+    WANT(ivshm_end_new_version(&a, &found, 2, 0, 256, 1, 0) == IVSHM_BAD_VERSION && ivshm_end_new_version(&a, &found, 2, 2, 256, 1, 2) == IVSHM_BAD_PEER);
+    WANT(ivshm_end_new_version(&a, &found, 2, 0, 256, 1, IVSHM_VERSION + 1) == IVSHM_BAD_VERSION && a.at == NULL);
+    WANT(ivshm_end_new_version(&a, &found, 2, 0, 256, 1, 2) == IVSHM_DONE && ivshm_end_new_version(&b, &found, 2, 1, 256, 1, 2) == IVSHM_DONE);
+    WANT(ivshm_end_new_version(&a, &found, 2, 0, 256, 1, 2) == IVSHM_HAS_END && run(&a, 0) == 0 && run(&b, 1) == 0);
+    for (int i = 0; i < 10; i++) {
+        tick(&a, 0);
+        tick(&b, 1);
+    }
+    for (int frames = 0; frames < 3; frames += 2) {
+        /* the poll looks, writes its event, with a full fence after it, and looks again */
+        WANT(ivshm_end_begin(&b, IVSHM_POLL) == IVSHM_DONE);
+        if (frames > 0) WANT(run(&b, 1) == frames && ivshm_end_begin(&b, IVSHM_POLL) == IVSHM_DONE);
+        WANT(ivshm_end_took(&b, words[1024 + 256], &notes) == IVSHM_DONE && notes.count == 1 && notes.note[0].kind == IVSHM_LOOK && notes.note[0].value == 0);
+        WANT(ivshm_end_next(&b, &access) == IVSHM_DONE && access.kind == IVSHM_WRITE && access.word == 5120 + 433 && access.value == (uint32_t)frames);
+        WANT(access.count < 2 && access.order == IVSHM_RELAXED && access.fence_before == 0 && access.fence_after == 1 && run(&b, 1) == 0);
+        /* once it has found nothing then, a poll that finds nothing is one look */
+        WANT(ivshm_end_begin(&b, IVSHM_POLL) == IVSHM_DONE && ivshm_end_took(&b, words[1024 + 256], &notes) == IVSHM_DONE && notes.count == 2);
+        WANT(notes.note[1].kind == IVSHM_FINISH);
+        /* an offer ends with the read of that event, with a full fence before it, and with the doorbell where it is asked for */
+        for (int asked = 1; asked >= 0; asked--) {
+            WANT(ivshm_end_offer(&a, frame, 14) == IVSHM_DONE);
+            do WANT(ivshm_end_next(&a, &access) == IVSHM_DONE && ivshm_end_took(&a, made(0, &access), &notes) == IVSHM_DONE);
+            while (notes.count == 0 || notes.note[0].kind != IVSHM_ACCEPT);
+            WANT(ivshm_end_next(&a, &access) == IVSHM_DONE && access.kind == IVSHM_READ && access.word == 5120 + 433);
+            WANT(access.count < 2 && access.order == IVSHM_RELAXED && access.fence_before == 1 && access.fence_after == 0);
+            WANT(ivshm_end_took(&a, words[access.word], &notes) == IVSHM_DONE);
+            if (asked) WANT(ivshm_end_next(&a, &access) == IVSHM_DONE && access.kind == IVSHM_RING && ivshm_end_took(&a, 0, &notes) == IVSHM_DONE);
+            WANT(notes.count == 1 && notes.note[0].kind == IVSHM_OVER && ivshm_end_next(&a, &access) == IVSHM_NO_CALL);
+        }
+    }
+    WANT(ivshm_end_free(&a) == IVSHM_DONE && ivshm_end_free(&b) == IVSHM_DONE);
+    return 0;
+}
+
 static int check_ends(void) {
     static ivshm_end a = IVSHM_END_NONE, b = IVSHM_END_NONE;
     static uint8_t frame[300] = {255, 255, 255, 255, 255, 255, 2}, room[300];
@@ -225,7 +269,16 @@ static int check_ends(void) {
         WANT(ivshm_end_offer(&a, frame, 14) == IVSHM_DONE && run(&a, 0) == 0 && ivshm_end_view(&a, &view) == IVSHM_DONE);
     }
     WANT(view.outcome == IVSHM_WAS_FULL);
+    /* the frame is still there, and there is room for it once the other has polled */
+    WANT(ivshm_end_offer_again(&a) == IVSHM_DONE && ivshm_end_offer_again(&a) == IVSHM_CALL_OPEN);
+    WANT(run(&a, 0) == 0 && ivshm_end_view(&a, &view) == IVSHM_DONE && view.outcome == IVSHM_WAS_FULL);
+    WANT(ivshm_end_begin(&b, IVSHM_POLL) == IVSHM_DONE && run(&b, 1) == 45);
+    WANT(ivshm_end_offer_again(&a) == IVSHM_DONE && run(&a, 0) == 0 && ivshm_end_view(&a, &view) == IVSHM_DONE && view.outcome == IVSHM_ACCEPTED);
+    WANT(ivshm_end_begin(&b, IVSHM_POLL) == IVSHM_DONE && run(&b, 1) == 1);
+    WANT(ivshm_end_frame(&b, room, 300, &length) == IVSHM_DONE && length == 14);
+    for (int i = 0; i < 14; i++) WANT(frame[i] == room[i]);
     WANT(ivshm_end_offer(&a, frame, 14) == IVSHM_DONE && ivshm_end_reset(&a) == IVSHM_DONE);
+    WANT(ivshm_end_offer_again(&none) == IVSHM_NO_END);
     WANT(ivshm_end_view(&a, &view) == IVSHM_DONE && view.outcome == IVSHM_CUT);
     WANT(view.state == IVSHM_RESET && run(&a, 0) == 0 && words[0] == 0);
     /* the other's index is out of range: its end refuses it, and stays in RESET */
@@ -240,6 +293,7 @@ int check(void) {
     int line = check_tables();
     if (!line) line = check_handles();
     if (!line) line = check_stretches();
+    if (!line) line = check_events();
     return line ? line : check_ends();
 }
 

@@ -90,7 +90,8 @@ static void wait_for(uint32_t least, uint32_t most, double end, double most_seco
     }
 }
 
-/* A session in which one kind of field is wrong now and then, or in which all stores are random; so many rounds at most. */
+/* A session in which one kind of field is wrong now and then, or in which all stores are random; so many rounds at most. What is handed back is wrong
+ * every other time, since the other peer may publish but few frames. */
 static void session(double end, int kind, int rounds) {
     atomic_store(own_state, 1);
     wait_for(1, 2, end, 2);
@@ -106,7 +107,7 @@ static void session(double end, int kind, int rounds) {
             store_random();
             continue;
         }
-        int wrong = draw() % 50 == 0 ? kind : RANDOM;
+        int wrong = draw() % (kind < USED_INDEX ? 50 : 2) == 0 ? kind : RANDOM;
         published = publish(published, wrong);
         hand_back(wrong);
     }

@@ -44,9 +44,10 @@
  *  7. A peer that resets its end again and again makes yours clear its section each time (out / 4 accesses). Bound how often you tick in
  *     INIT, if that costs you something.
  *  8. Poll until a poll delivers nothing before you stop: what the other peer published, and you didn't poll, is lost with the session.
- *     Its doorbell comes with its frames, but poll too where none came: interrupts may be lost.
+ *     Its doorbell comes with its frames, in a link of version 2 with the first one after a poll that found nothing; but poll too where none
+ *     came: interrupts may be lost.
  *  9. rattle_alloc and rattle_dealloc are yours or those of heap.c, and memcpy, memmove and memset are what C says. The library takes
- *     memory in ivshm_end_new alone. It may use the vector registers of its processor: a kernel saves them around its calls.
+ *     memory in ivshm_end_new and ivshm_end_new_version alone. It may use the vector registers of its processor: a kernel saves them around its calls.
  *
  * WHAT IS PROVED of the library, for all values that a program hands over, where those duties are kept: each answer has exactly the cause
  * that stands here, but for IVSHM_NO_MEMORY, which is free to come; an answer other than IVSHM_DONE changes neither the end nor what a
@@ -78,7 +79,7 @@ typedef struct ivshm_end {
 enum {
     IVSHM_DONE = 0,
     IVSHM_NO_END = 1,     /* the handle holds no end: it was freed, or none was made */
-    IVSHM_HAS_END = 2,    /* ivshm_end_new: the handle holds an end already */
+    IVSHM_HAS_END = 2,    /* ivshm_end_new, ivshm_end_new_version: the handle holds an end already */
     IVSHM_CALL_OPEN = 3,  /* a call is open: make its steps first */
     IVSHM_NO_CALL = 4,    /* no call is open: there is no access to make, begin another call */
     IVSHM_NO_MEMORY = 5,  /* memory ran out */
@@ -106,11 +107,13 @@ enum {
     IVSHM_NO_VENDOR = 25,         /* there is no vendor capability */
     /* why some steps aren't taken at once */
     IVSHM_OTHER_ACCESS = 26, /* reads were taken, or writes, and no count of such is told */
-    IVSHM_BAD_COUNT = 27     /* no word, not whole words, or more than the count that is told */
+    IVSHM_BAD_COUNT = 27,    /* no word, not whole words, or more than the count that is told */
+    /* why a version makes no end */
+    IVSHM_BAD_VERSION = 28   /* ivshm_end_new_version: the version isn't 1 to IVSHM_VERSION */
 };
 
-/* Version and bounds; ivshm_limits tells the same numbers of the library that is linked. */
-#define IVSHM_VERSION 1
+/* The highest version of the link, and bounds; ivshm_limits tells the same numbers of the library that is linked. */
+#define IVSHM_VERSION 2
 #define IVSHM_LEAST_MTU 256
 #define IVSHM_MOST_MTU 65535
 #define IVSHM_SHORTEST 14    /* bytes of the shortest frame: an Ethernet header */
@@ -126,7 +129,7 @@ typedef struct ivshm_limits_told {
     uint32_t largest_region;
 } ivshm_limits_told;
 
-/* Tells version and bounds. */
+/* Tells the highest version, and bounds. */
 void ivshm_limits(ivshm_limits_told *told);
 
 /* ---- the device and the region ---- */
@@ -171,16 +174,23 @@ typedef struct ivshm_words {
     uint32_t longest_delivery;  /* bytes of the longest frame that is taken from the other peer: its section and the format bound it */
 } ivshm_words;
 
-/* Tells the words of a region of these sizes. IVSHM_DONE, or one of IVSHM_BAD_PEERS to IVSHM_NO_SLOT. */
+/* Tells the words of a region of these sizes, which are the same in each version. IVSHM_DONE, or one of IVSHM_BAD_PEERS to IVSHM_NO_SLOT. */
 uint32_t ivshm_layout(const ivshm_found *found, uint32_t peers, uint32_t mtu, ivshm_words *layout);
 
 /* ---- an end ---- */
 
 /* Makes the end of peer `me`, 0 or 1, of a region of these sizes: those that a walk found. `peers` is the Maximum Peers register. `mtu` bounds
  * the frames that this end offers. `vector` is the one by which the other peer is rung: 1 where it has two MSI-X vectors or more, else 0.
- * Afterwards the call is open whose one access is State 0.
+ * Afterwards the call is open whose one access is State 0. The link is of version 1.
  * IVSHM_DONE, IVSHM_HAS_END, IVSHM_NO_MEMORY, or one of IVSHM_BAD_PEER to IVSHM_NO_SLOT. */
 uint32_t ivshm_end_new(ivshm_end *end, const ivshm_found *found, uint32_t peers, uint32_t me, uint32_t mtu, uint32_t vector);
+
+/* The same in a link of this version. Both ends have the same one: nothing in the region tells it.
+ *   1: an offer that publishes a frame rings.
+ *   2: it rings where the other's event index asks for it. A poll that finds nothing, the first after frames or in a session, writes the own event
+ *      and looks again: once it has found nothing then, the next frame rings. Both need the full fences that an access tells.
+ * The answers of ivshm_end_new, or IVSHM_BAD_VERSION. */
+uint32_t ivshm_end_new_version(ivshm_end *end, const ivshm_found *found, uint32_t peers, uint32_t me, uint32_t mtu, uint32_t vector, uint32_t version);
 
 /* Frees the end. The handle is IVSHM_END_NONE then. Stop first, or write State 0 yourself.
  * IVSHM_DONE, IVSHM_NO_END. */
@@ -197,9 +207,13 @@ enum {
 uint32_t ivshm_end_begin(ivshm_end *end, uint32_t call);
 
 /* Begins an offer of this frame, which is copied at once. Its outcome is told by the notes, and by ivshm_end_view.
- * A link that is full costs an offer one access: offer the frame again after the other peer had time to poll.
+ * A link that is full costs an offer one access: offer the frame again after the other peer had time to poll, by ivshm_end_offer_again.
  * IVSHM_DONE, IVSHM_NO_END, IVSHM_SHORT_FRAME, IVSHM_LONG_FRAME, IVSHM_CALL_OPEN. */
 uint32_t ivshm_end_offer(ivshm_end *end, const uint8_t *frame, size_t length);
+
+/* Begins an offer of the frame of the last one, which is still here and isn't copied. It stays until another is offered or a session opens.
+ * IVSHM_DONE, IVSHM_NO_END, IVSHM_SHORT_FRAME (no frame was offered since the session opened), IVSHM_CALL_OPEN. */
+uint32_t ivshm_end_offer_again(ivshm_end *end);
 
 /* An access of an open call. */
 enum {

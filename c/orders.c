@@ -1,13 +1,15 @@
-/* orders RUNS STEPS SEED [--without ROW]: random runs of two ends over a memory that is weaker than sequentially consistent, with each access in the
- * order that the library tells of it. ROW takes one order away: state-release, state-fence, state-acquire, available-release, available-acquire,
- * used-release or used-acquire. It ends with 0 where each run was as it is to be, and with 1 at the first that isn't.
+/* orders RUNS STEPS SEED [--version 2] [--without ROW]: random runs of two ends over a memory that is weaker than sequentially consistent, with each
+ * access in the order that the library tells of it. ROW takes one order away: state-release, state-fence, state-acquire, available-release,
+ * available-acquire, used-release, used-acquire, and in a link of version 2 event-store-fence or event-load-fence. It ends with 0 where each run was as
+ * it is to be, and with 1 at the first that isn't.
  *
  * The memory: each word has a list of messages. A store adds one; a load may give any message that its thread's view doesn't rule out, and the view
  * goes on to it. A releasing store carries its thread's view along, and an acquiring load takes over the view that its message carries. A full fence
  * joins the thread's view with that of all fences before it. Loads don't see stores that come later. Each word has one writer and one reader.
  *
  * What is to hold: nothing is refused; and in each of its sessions an end delivers a beginning of what the other accepted in one session, whole, in
- * order, each session of the other once at most, and these rising. */
+ * order, each session of the other once at most, and these rising. And in a link of version 2 no doorbell is lost: where the last look of a poll found
+ * nothing, the other's next frame in that session rings. */
 #include <inttypes.h>
 #include <stdbool.h>
 #include <stdio.h>
@@ -16,11 +18,12 @@
 
 #include "ivshm_c.h"
 
-enum { OUT = 16384, MTU = 256, WORDS = 1024 + 2 * OUT / 4, SESSIONS = 4096 };
-enum row { NONE, STATE_RELEASE, STATE_FENCE, STATE_ACQUIRE, AVAILABLE_RELEASE, AVAILABLE_ACQUIRE, USED_RELEASE, USED_ACQUIRE, ROWS };
+enum { OUT = 16384, MTU = 256, WORDS = 1024 + 2 * OUT / 4, SESSIONS = 4096, FLIGHT = 256 };
+enum row { NONE, STATE_RELEASE, STATE_FENCE, STATE_ACQUIRE, AVAILABLE_RELEASE, AVAILABLE_ACQUIRE, USED_RELEASE, USED_ACQUIRE,
+           EVENT_STORE_FENCE, EVENT_LOAD_FENCE, ROWS };
 
 static const char *const rows[ROWS] = {"none", "state-release", "state-fence", "state-acquire", "available-release", "available-acquire",
-                                       "used-release", "used-acquire"};
+                                       "used-release", "used-acquire", "event-store-fence", "event-load-fence"};
 
 struct view { uint32_t at[WORDS]; }; /* the number of the oldest message of each word that may be read still */
 
@@ -39,7 +42,8 @@ struct peer {
     struct view view;
     uint32_t me, own, theirs, ready, accepted[SESSIONS]; /* `ready`: sessions of its own so far; `accepted`: frames in each */
     uint32_t attended, taken, last;                      /* the other's session whose frames it takes, how many, and the one before */
-    bool fencing;                                        /* a full fence is due after its last access: a step of its own */
+    bool fencing, fenced;                                /* a full fence is due after its last access, or was made before the next: a step of its own */
+    bool rests, silent[FLIGHT];                          /* its last poll found nothing in the end; its frames, by their numbers, that didn't ring */
 };
 
 static struct word region[WORDS];
@@ -47,7 +51,8 @@ static struct view fences;
 static struct peer peers[2];
 static ivshm_words layout;
 static enum row without;
-static uint64_t generator, delivered, sessions;
+static uint32_t version = 1;
+static uint64_t generator, delivered, sessions, rests, silences;
 static uint32_t resets, ticks; /* one step in so many is a reset, and one call in so many a Tick: drawn for each run */
 static const char *wrong;
 
@@ -126,8 +131,30 @@ static void take(struct peer *p) {
     p->taken++;
 }
 
+/* A peer that rests at this frame of the other's session is to be rung for it. Which session it attends is known after its first frame. */
+static void wake(const struct peer *resting, const struct peer *other, uint32_t number) {
+    bool same = resting->rests && resting->taken == number && number > 0 && resting->attended == other->ready;
+    if (same && number < other->accepted[other->ready] && other->silent[number % FLIGHT]) wrong = "a doorbell was lost";
+}
+
+/* The poll is over, and has found nothing. */
+static void rest(struct peer *p) {
+    p->rests = true;
+    rests++;
+    wake(p, &peers[1 - p->me], p->taken);
+}
+
+/* The offer is over, and didn't ring. */
+static void keep_silent(struct peer *p) {
+    uint32_t number = p->accepted[p->ready] - 1;
+    p->silent[number % FLIGHT] = true;
+    silences++;
+    wake(&peers[1 - p->me], p, number);
+}
+
 /* The own State is stored: at READY a session begins. */
 static void enter(struct peer *p, uint32_t state) {
+    p->rests = false;
     if (state != IVSHM_READY) return;
     if (p->taken) p->last = p->attended;
     p->taken = 0;
@@ -145,7 +172,29 @@ static enum row row_of(const struct peer *p, const ivshm_access *access) {
     return NONE;
 }
 
-/* Makes one access of the open call, or as many as may be made at once. */
+static bool fences_at(const ivshm_access *access) {
+    enum row row = access->kind == IVSHM_STATE ? STATE_FENCE : access->kind == IVSHM_WRITE ? EVENT_STORE_FENCE : EVENT_LOAD_FENCE;
+    return row != without;
+}
+
+/* Does what the notes of a step ask for. */
+static void heed(struct peer *p, const ivshm_access *access, const ivshm_notes *notes) {
+    bool at_event = access->kind == IVSHM_READ && access->word == p->theirs + layout.available_event;
+    for (uint32_t i = 0; i < notes->count; i++) {
+        uint32_t kind = notes->note[i].kind;
+        if (kind == IVSHM_REFUSE) wrong = "an honest peer was refused";
+        if (kind == IVSHM_DELIVER) take(p);
+        if (kind == IVSHM_LOOK) p->rests = false;
+        if (kind == IVSHM_FINISH && access->kind == IVSHM_READ) rest(p);
+        if (kind == IVSHM_OVER && at_event) keep_silent(p);
+        if (kind == IVSHM_ACCEPT) {
+            p->silent[p->accepted[p->ready] % FLIGHT] = false;
+            p->accepted[p->ready]++;
+        }
+    }
+}
+
+/* Makes one access of the open call, or as many as may be made at once; or the full fence before it. */
 static void step(struct peer *p) {
     static uint32_t room[OUT / 4];
     ivshm_access access;
@@ -154,7 +203,12 @@ static void step(struct peer *p) {
     enum row row = row_of(p, &access);
     bool ordered = access.order != IVSHM_RELAXED && (without == NONE || row != without);
     uint32_t value = 0, count = access.count;
-    if (access.fence_before) fence(p);
+    if (access.fence_before && !p->fenced && fences_at(&access)) {
+        fence(p);
+        p->fenced = true;
+        return;
+    }
+    p->fenced = false;
     if (count > 1 && draw(4)) {
         count = access.kind == IVSHM_READ || draw(2) ? count : 1 + draw(count);
         if (access.kind == IVSHM_READ) {
@@ -174,12 +228,8 @@ static void step(struct peer *p) {
         }
         ivshm_end_took(&p->end, value, &notes);
     }
-    p->fencing = access.fence_after && without != STATE_FENCE;
-    for (uint32_t i = 0; i < notes.count; i++) {
-        if (notes.note[i].kind == IVSHM_REFUSE) wrong = "an honest peer was refused";
-        if (notes.note[i].kind == IVSHM_ACCEPT) p->accepted[p->ready]++;
-        if (notes.note[i].kind == IVSHM_DELIVER) take(p);
-    }
+    p->fencing = access.fence_after && fences_at(&access);
+    heed(p, &access, &notes);
 }
 
 static void begin(struct peer *p) {
@@ -202,7 +252,7 @@ static void run(uint32_t steps) {
     for (uint32_t me = 0; me < 2; me++) {
         struct peer *p = &peers[me];
         *p = (struct peer){.me = me, .own = layout.first + me * layout.words, .theirs = layout.first + (1 - me) * layout.words};
-        if (ivshm_end_new(&p->end, &found, 2, me, MTU, 1) != IVSHM_DONE) abort();
+        if (ivshm_end_new_version(&p->end, &found, 2, me, MTU, 1, version) != IVSHM_DONE) abort();
     }
     resets = 20u << draw(6);
     ticks = 1 + draw(4);
@@ -212,20 +262,29 @@ static void run(uint32_t steps) {
         if (p->fencing) {
             fence(p);
             p->fencing = false;
-        } else if (draw(resets) == 0) ivshm_end_reset(&p->end);
-        else if (ivshm_end_next(&p->end, &access) == IVSHM_DONE) step(p);
+        } else if (draw(resets) == 0) {
+            ivshm_end_reset(&p->end);
+            p->fenced = p->rests = false;
+        } else if (ivshm_end_next(&p->end, &access) == IVSHM_DONE) step(p);
         else begin(p);
     }
     for (uint32_t me = 0; me < 2; me++) ivshm_end_free(&peers[me].end);
 }
 
+static enum row row_named(const char *name) {
+    for (enum row row = STATE_RELEASE; row < ROWS; row++) if (!strcmp(name, rows[row])) return row;
+    return NONE;
+}
+
 int main(int argc, char **argv) {
     ivshm_found found = {.table = 4096, .out = OUT};
-    if (argc == 6 && !strcmp(argv[4], "--without")) {
-        for (enum row row = STATE_RELEASE; row < ROWS; row++) if (!strcmp(argv[5], rows[row])) without = row;
+    bool good = argc == 4 || argc == 6 || argc == 8;
+    for (int i = 4; good && i < argc; i += 2) {
+        if (!strcmp(argv[i], "--version")) good = !strcmp(argv[i + 1], "2") && (version = 2);
+        else good = !strcmp(argv[i], "--without") && (without = row_named(argv[i + 1])) != NONE;
     }
-    if ((argc != 4 && argc != 6) || (argc == 6 && without == NONE)) {
-        fprintf(stderr, "usage: orders RUNS STEPS SEED [--without ROW]\n");
+    if (!good || (version == 1 && without >= EVENT_STORE_FENCE)) {
+        fprintf(stderr, "usage: orders RUNS STEPS SEED [--version 2] [--without ROW]\n");
         return 2;
     }
     if (ivshm_layout(&found, 2, MTU, &layout) != IVSHM_DONE) return 2;
@@ -238,6 +297,7 @@ int main(int argc, char **argv) {
         printf("without %s, run %" PRIu64 ": %s\n", rows[without], i, wrong);
         return 1;
     }
-    printf("without %s: %" PRIu64 " runs, %" PRIu64 " sessions, %" PRIu64 " frames delivered, nothing wrong\n", rows[without], runs, sessions, delivered);
+    printf("without %s: %" PRIu64 " runs, %" PRIu64 " sessions, %" PRIu64 " frames delivered, %" PRIu64 " polls that found nothing, %" PRIu64
+           " frames that didn't ring, nothing wrong\n", rows[without], runs, sessions, delivered, rests, silences);
     return 0;
 }

@@ -93,7 +93,7 @@ static int one(const char *path, uint32_t me, char **sizes) {
     for (last = now(); is_running(&s) && now() - last < 2;) {
         call(&s.link, IVSHM_POLL);
         call(&s.link, IVSHM_TICK);
-        if (atomic_load(&s.link.words[s.link.theirs + s.link.layout.used_index]) >> 16 == (s.sent & 0xffff)) break;
+        if (atomic_load(&s.link.sections.read[s.link.layout.used_index]) >> 16 == (s.sent & 0xffff)) break;
         usleep(100);
     }
     detach(&s.link);

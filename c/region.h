@@ -5,10 +5,10 @@
  * WAY says how the accesses are made (cc -DWAY=1, say):
  *   0, the default: each word by itself, sequentially consistent, which is what the proofs speak of;
  *   1: each word by itself, in the order that the library tells of the access (docs/ORDERS.md);
- *   2: the same, and where the library tells a count so many words at once, by relaxed accesses of 32 bits;
+ *   2: the same, and where the library tells a count so many words at once, by relaxed accesses of 32 bits (several.h);
  *   3: the same by memcpy.
- * In 2 and 3 the library sees the private copy alone, in which each word has one value: a word that is torn by memcpy is one more value that the
- * other peer might have written. They take the machine to have the lowest byte of a word first. */
+ *
+ * VERSION is that of the link, 1 where nothing is said. Both ends have the same one. */
 #ifndef REGION_H
 #define REGION_H
 #ifndef _GNU_SOURCE
@@ -26,25 +26,29 @@
 #include <time.h>
 #include <unistd.h>
 
-#include "ivshm_c.h"
-#include "record.h"
-
 #ifndef WAY
 #define WAY 0
 #endif
+#ifndef VERSION
+#define VERSION 1
+#endif
+#define BY_MEMCPY (WAY == 3)
 
-enum { TABLE = 4096, AT_ONCE = 1024 };
+#include "ivshm_c.h"
+#include "record.h"
+#include "several.h"
+
+enum { TABLE = 4096 };
 
 struct link {
     ivshm_end end;
     ivshm_words layout;
-    uint32_t me, other, own, theirs; /* the peers, and the first words of their sections */
-    const _Atomic uint32_t *words;   /* the whole region, to read */
-    _Atomic uint32_t *section;       /* the own section, to write */
-    _Atomic uint32_t *state;         /* the own State */
+    uint32_t me, other;            /* the peers */
+    const _Atomic uint32_t *words; /* the whole region, to read */
+    struct sections sections;
+    _Atomic uint32_t *state;       /* the own State */
     uint64_t accesses, stray, rings, accepted, full, delivered, refusals;
     ivshm_note refusal; /* the last one */
-    uint32_t room[AT_ONCE]; /* words on their way between the region and the library */
     uint8_t frame[IVSHM_LONGEST];
     void (*deliver)(struct link *, const uint8_t *frame, size_t length);
     void (*ring)(struct link *, uint32_t peer, uint32_t vector);
@@ -72,14 +76,6 @@ static inline void fail(const char *what) {
     exit(1);
 }
 
-/* A call that is to be done. */
-static inline void must(uint32_t answer, const char *what) {
-    if (answer != IVSHM_DONE) {
-        fprintf(stderr, "%s: answer %u\n", what, answer);
-        exit(1);
-    }
-}
-
 static inline void *map(int file, size_t size, int protection, off_t at) {
     void *place = mmap(NULL, size, protection, MAP_SHARED, file, at);
     if (place == MAP_FAILED) fail("mmap");
@@ -104,16 +100,6 @@ static inline void store(_Atomic uint32_t *word, const ivshm_access *access) {
     if (access->order == IVSHM_RELEASE) atomic_store_explicit(word, access->value, memory_order_release);
     else atomic_store_explicit(word, access->value, memory_order_relaxed);
     if (access->fence_after) atomic_thread_fence(memory_order_seq_cst);
-}
-
-static inline void copy_out(uint32_t *into, const _Atomic uint32_t *from, uint32_t count) {
-    if (WAY == 3) memcpy(into, (const void *)from, 4 * (size_t)count);
-    else for (uint32_t i = 0; i < count; i++) into[i] = atomic_load_explicit(&from[i], memory_order_relaxed);
-}
-
-static inline void copy_in(_Atomic uint32_t *into, const uint32_t *from, uint32_t count) {
-    if (WAY == 3) memcpy((void *)into, from, 4 * (size_t)count);
-    else for (uint32_t i = 0; i < count; i++) atomic_store_explicit(&into[i], from[i], memory_order_relaxed);
 }
 
 /* Does what the notes of a step ask for. */
@@ -146,38 +132,33 @@ static inline void heed(struct link *l, const ivshm_notes *notes) {
     }
 }
 
-/* Makes so many accesses at once as the library tells that there may be, and gives their number; 0 where the access is to be made by itself. */
-static inline uint32_t several(struct link *l, const ivshm_access *access, ivshm_notes *notes) {
-    bool reads = access->kind == IVSHM_READ;
-    uint32_t at = access->word - (reads ? l->theirs : l->own), count = access->count < AT_ONCE ? access->count : AT_ONCE;
-    if (WAY < 2 || count < 2 || at >= l->layout.words || l->layout.words - at < count) return 0;
-    notes->count = 0;
-    if (reads) {
-        copy_out(l->room, &l->words[access->word], count);
-        must(ivshm_end_took_words(&l->end, (const uint8_t *)l->room, 4 * (size_t)count, notes), "took_words");
-    } else {
-        must(ivshm_end_words(&l->end, (uint8_t *)l->room, 4 * (size_t)count), "words");
-        copy_in(&l->section[at], l->room, count);
-        must(ivshm_end_took_written(&l->end, count), "took_written");
+static inline void record_several(struct link *l, const ivshm_access *access, uint32_t count) {
+    for (uint32_t i = 0; i < count; i++) {
+        uint32_t value = l->sections.room[i];
+        ivshm_access one = {.kind = access->kind, .word = access->word + i, .value = access->kind == IVSHM_READ ? 0 : value};
+        record_access(l->record, l->me, &one, value);
     }
-    for (uint32_t i = 0; l->record && i < count; i++) {
-        ivshm_access one = {.kind = access->kind, .word = access->word + i, .value = reads ? 0 : l->room[i]};
-        record_access(l->record, l->me, &one, l->room[i]);
-    }
+}
+
+/* Makes so many accesses at once as there may be and WAY has it, and gives their number; 0 where the access is to be made by itself. */
+static inline uint32_t at_once(struct link *l, const ivshm_access *access, ivshm_notes *notes) {
+    uint32_t count = WAY < 2 ? 0 : several(&l->end, &l->sections, access, notes);
+    if (count > 0 && l->record) record_several(l, access, count);
     return count;
 }
 
 /* Makes one access, and gives what a read gave. */
 static inline uint32_t single(struct link *l, const ivshm_access *access) {
+    struct sections *s = &l->sections;
     switch (access->kind) {
     case IVSHM_NOTHING:
         return 0;
     case IVSHM_READ:
-        if (access->word == l->other || access->word - l->theirs < l->layout.words) return load(&l->words[access->word], access);
+        if (access->word == l->other || access->word - s->theirs < s->words) return load(&l->words[access->word], access);
         break;
     case IVSHM_WRITE:
-        if (access->word - l->own >= l->layout.words) break;
-        store(&l->section[access->word - l->own], access);
+        if (access->word - s->own >= s->words) break;
+        store(&s->written[access->word - s->own], access);
         return 0;
     case IVSHM_STATE:
         store(l->state, access);
@@ -197,7 +178,7 @@ static inline uint64_t finish(struct link *l) {
     ivshm_notes notes;
     uint64_t steps = 0;
     while (ivshm_end_next(&l->end, &access) == IVSHM_DONE) {
-        uint32_t count = several(l, &access, &notes);
+        uint32_t count = at_once(l, &access, &notes);
         if (count == 0) {
             uint32_t value = single(l, &access);
             must(ivshm_end_took(&l->end, value, &notes), "took");
@@ -250,16 +231,17 @@ static inline void attach(struct link *l, const char *path, uint32_t me, uint64_
     memset(l, 0, sizeof *l);
     l->record = record;
     must(ivshm_layout(&found, 2, mtu, &l->layout), "layout");
-    must(ivshm_end_new(&l->end, &found, 2, me, mtu, 1), "new");
+    must(ivshm_end_new_version(&l->end, &found, 2, me, mtu, 1, VERSION), "new");
     l->me = me;
     l->other = 1 - me;
-    l->own = l->layout.first + me * l->layout.words;
-    l->theirs = l->layout.first + l->other * l->layout.words;
+    struct sections *s = &l->sections;
+    number_sections(s, &l->layout, me);
     int file = open(path, O_RDWR | O_CREAT, 0600);
     size_t size = TABLE + 2 * (size_t)out;
     if (file < 0 || ftruncate(file, (off_t)size)) fail(path);
     l->words = map(file, size, PROT_READ, 0);
-    l->section = map(file, out, PROT_READ | PROT_WRITE, 4 * (off_t)l->own);
+    s->read = l->words + s->theirs;
+    s->written = map(file, out, PROT_READ | PROT_WRITE, 4 * (off_t)s->own);
     l->state = (_Atomic uint32_t *)map(file, TABLE, PROT_READ | PROT_WRITE, 0) + me;
     close(file);
     first_state(l);

@@ -23,10 +23,10 @@ static inline void run(struct link *l, bool listed) {
     ivshm_notes notes;
     while (ivshm_end_next(&l->end, &access) == IVSHM_DONE) {
         calls++;
-        if (several(l, &access, &notes) == 0) {
+        if (at_once(l, &access, &notes) == 0) {
             uint32_t value = 0;
             if (access.kind == IVSHM_READ) value = load(&l->words[access.word], &access);
-            else if (access.kind == IVSHM_WRITE) store(&l->section[access.word - l->own], &access);
+            else if (access.kind == IVSHM_WRITE) store(&l->sections.written[access.word - l->sections.own], &access);
             else if (access.kind == IVSHM_STATE) store(l->state, &access);
             ivshm_end_took(&l->end, value, &notes);
         }
@@ -65,7 +65,7 @@ static uint32_t again(struct link *ends[2]) {
             sum += atomic_load(&l->words[access->word]);
             break;
         case IVSHM_WRITE:
-            atomic_store(&l->section[access->word - l->own], access->value);
+            atomic_store(&l->sections.written[access->word - l->sections.own], access->value);
             break;
         case IVSHM_STATE:
             atomic_store(l->state, access->value);

@@ -4,32 +4,23 @@
 #define LINK_H
 #include "device.h"
 
-#include "../ivshm_c.h"
-
-enum { AT_ONCE = 1024 };
+#include "../several.h"
 
 struct link {
     ivshm_end end;
     ivshm_words layout;
-    uint32_t me, other, own, theirs; /* the peers, and the first words of their sections */
+    uint32_t me, other; /* the peers */
     struct peer_words peers[2];
+    struct sections sections;
     uint32_t said; /* the own State, as it was stored last */
     uint64_t accesses, stray, rings, accepted, full, delivered, refusals, mended;
     uint64_t refused[8]; /* by field */
     ivshm_note refusal;  /* the last one */
-    uint32_t room[AT_ONCE]; /* words on their way between the region and the library */
     uint8_t frame[IVSHM_LONGEST];
     void (*deliver)(struct link *, const uint8_t *frame, size_t length);
     void (*ring)(struct link *, uint32_t peer, uint32_t vector); /* null: there are no doorbells */
     void *context;
 };
-
-/* A call that is to be done. */
-static inline void must(uint32_t answer, const char *what) {
-    if (answer == IVSHM_DONE) return;
-    fprintf(stderr, "%s: answer %u\n", what, answer);
-    exit(1);
-}
 
 /* Sets the own State. A device of version 2 then interrupts the others by vector 0; here the doorbell does it. */
 static inline void say(struct link *l, uint32_t state) {
@@ -47,13 +38,13 @@ static inline void mend(struct link *l) {
 
 static inline uint32_t load_word(struct link *l, uint32_t word) {
     if (word == l->other) return atomic_load(l->peers[l->other].state);
-    if (word - l->theirs < l->layout.words) return atomic_load(&l->peers[l->other].section[word - l->theirs]);
+    if (word - l->sections.theirs < l->sections.words) return atomic_load(&l->sections.read[word - l->sections.theirs]);
     l->stray++;
     return 0;
 }
 
 static inline void store_word(struct link *l, uint32_t word, uint32_t value) {
-    if (word - l->own < l->layout.words) atomic_store(&l->peers[l->me].section[word - l->own], value);
+    if (word - l->sections.own < l->sections.words) atomic_store(&l->sections.written[word - l->sections.own], value);
     else l->stray++;
 }
 
@@ -104,30 +95,12 @@ static inline void take_note(struct link *l, const ivshm_note *note) {
     }
 }
 
-/* Makes as many accesses at once as the library tells that there may be, and gives their number; 0 where the access is to be made by itself. They
- * are words that an index or a State orders, so each may be relaxed (docs/ORDERS.md); all others are sequentially consistent. */
-static inline uint32_t several(struct link *l, const ivshm_access *access, ivshm_notes *notes) {
-    bool reads = access->kind == IVSHM_READ;
-    uint32_t at = access->word - (reads ? l->theirs : l->own), count = access->count < AT_ONCE ? access->count : AT_ONCE;
-    if (count < 2 || at >= l->layout.words || l->layout.words - at < count) return 0;
-    notes->count = 0;
-    if (reads) {
-        for (uint32_t i = 0; i < count; i++) l->room[i] = atomic_load_explicit(&l->peers[l->other].section[at + i], memory_order_relaxed);
-        must(ivshm_end_took_words(&l->end, (const uint8_t *)l->room, 4 * (size_t)count, notes), "took_words");
-    } else {
-        must(ivshm_end_words(&l->end, (uint8_t *)l->room, 4 * (size_t)count), "words");
-        for (uint32_t i = 0; i < count; i++) atomic_store_explicit(&l->peers[l->me].section[at + i], l->room[i], memory_order_relaxed);
-        must(ivshm_end_took_written(&l->end, count), "took_written");
-    }
-    return count;
-}
-
-/* Makes the accesses of the open call, to its end. */
+/* Makes the accesses of the open call, to its end: some at once, and all others sequentially consistent. */
 static inline void finish(struct link *l) {
     ivshm_access access;
     ivshm_notes notes;
     while (ivshm_end_next(&l->end, &access) == IVSHM_DONE) {
-        uint32_t count = several(l, &access, &notes);
+        uint32_t count = several(&l->end, &l->sections, &access, &notes);
         if (count == 0) must(ivshm_end_took(&l->end, make(l, &access), &notes), "took");
         l->accesses += count == 0 ? 1 : count;
         for (uint32_t i = 0; i < notes.count; i++) take_note(l, &notes.note[i]);
@@ -166,8 +139,9 @@ static inline void attach(struct link *l, uint32_t me, uint64_t out, uint32_t mt
     must(ivshm_end_new(&l->end, &found, 2, me, mtu, 1), "new");
     l->me = me;
     l->other = 1 - me;
-    l->own = l->layout.first + l->me * l->layout.words;
-    l->theirs = l->layout.first + l->other * l->layout.words;
+    number_sections(&l->sections, &l->layout, me);
+    l->sections.written = l->peers[l->me].section;
+    l->sections.read = l->peers[l->other].section;
     finish(l); /* State 0 */
 }
 

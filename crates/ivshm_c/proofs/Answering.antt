@@ -2,7 +2,7 @@
 use Rattle.std.proofs.Common.{◌≡◌, ◌<◌, ◌+◌, ℕ, List, sym, ap, ◌∙◌, subst, length, drop, get_or, Option, Some, None, true, if◌then◌else◌}
 use Rattle.std.proofs.lemmas.List.{at_drop_more}
 use Rattle.section_map.specs.Geometry.{Shape, IsShape}
-use Rattle.split_ring.specs.Layout.{Sizes, IsQueue}
+use Rattle.split_ring.specs.Layout.{Sizes, IsQueue, IsVersion}
 use Rattle.split_ring.specs.declared.steps.Note.{Note}
 use Rattle.ivshm_c.specs.declared.device.Found.{Found}
 use Rattle.ivshm_c.specs.declared.device.Layout.{Layout}
@@ -28,7 +28,7 @@ one_more notes i before after d within is so_far =
 
 -- the words of the sizes that were found
 pub words_told : (found : Found) (peers mtu : ℕ) (before after : Layout) (shape : Shape) (queue : Sizes) → shape ≡ shape_found found peers → IsShape shape
-    → queue ≡ sizes_found found mtu → IsQueue queue → after ≡ layout_of shape queue → LaysOut found peers mtu before Done after
+    → queue ≡ sizes_found found 1 mtu → IsQueue queue → after ≡ layout_of shape queue → LaysOut found peers mtu before Done after
 words_told found peers mtu before after shape queue s shaped q queued is =
     subst (LaysOut found peers mtu before Done) (sym (is ∙ ap (λ (x : Shape). layout_of x queue) s ∙ ap (layout_of (shape_found found peers)) q))
     (laid_out (subst IsShape s shaped) (subst IsQueue q queued))
@@ -42,15 +42,15 @@ told_next port before after next order busy is_next ahead crossed =
     (after ≡ access_crossed next (reads_ahead port.endpoint) (writes_ahead port.endpoint) order))
     (after ≡ before)) (sym busy) (next, order, is_next, ahead, crossed)
 
-module _ (found : Found) (peers me mtu vector : ℕ) (old new : Option Port) where
+module _ (found : Found) (version peers me mtu vector : ℕ) (old new : Option Port) where
   -- a handle that holds an end keeps it
-  pub holds_one : (port : Port) → old ≡ Some port → new ≡ Some port → MakesAnswered old found peers me mtu vector HasEnd new
-  holds_one port was is = subst (MakesAnswered old found peers me mtu vector HasEnd) (was ∙ sym is) (has_end (λ e. let wrong : Some port ≡ None = sym was ∙ e in absurd cc))
+  pub holds_one : (port : Port) → old ≡ Some port → new ≡ Some port → MakesAnswered old found version peers me mtu vector HasEnd new
+  holds_one port was is = subst (MakesAnswered old found version peers me mtu vector HasEnd) (was ∙ sym is) (has_end (λ e. let wrong : Some port ≡ None = sym was ∙ e in absurd cc))
 
   -- an empty one holds the new end
-  pub new_one : (port : Port) → old ≡ None → IsNew found peers me mtu vector port → new ≡ Some port → MakesAnswered old found peers me mtu vector Done new
-  new_one port was is_new is = subst (MakesAnswered old found peers me mtu vector Done) (sym is) (made port was is_new)
+  pub new_one : (port : Port) → old ≡ None → IsVersion version → IsNew found version peers me mtu vector port → new ≡ Some port → MakesAnswered old found version peers me mtu vector Done new
+  new_one port was known is_new is = subst (MakesAnswered old found version peers me mtu vector Done) (sym is) (made port was known is_new)
 
   -- an empty one stays so where none is made
-  pub none_made : (status : Status) → RefusesNew found peers me mtu status → old ≡ new → MakesAnswered old found peers me mtu vector status new
-  none_made status why is = subst (MakesAnswered old found peers me mtu vector status) is (refused status why)
+  pub none_made : (status : Status) → RefusesNew found version peers me mtu status → old ≡ new → MakesAnswered old found version peers me mtu vector status new
+  none_made status why is = subst (MakesAnswered old found version peers me mtu vector status) is (refused status why)

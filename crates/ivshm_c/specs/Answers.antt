@@ -1,16 +1,17 @@
 -- The exact answer of each export, and what it does to the end of a handle.
 use Rattle.std.specs.Prelude.{ℕ, ◌≡◌, ◌≢◌, ◌+◌, ◌/◌, ◌%◌, ◌==◌, ◌≤◌, nat_lt, if◌then◌else◌, List, length, take, Option, Some, None, is_none, IfSome}
+use Rattle.split_ring.specs.Layout.{IsVersion}
 use Rattle.split_ring.specs.declared.steps.Access as steps
 use Rattle.split_ring.specs.declared.steps.Note.{Note}
 use Rattle.link_endpoint.specs.declared.order.Ordering.{Ordering}
-use Rattle.link_endpoint.specs.Engine.{who_of, is_busy, delivered, reads_ahead, writes_ahead}
+use Rattle.link_endpoint.specs.Engine.{who_of, is_busy, delivered, reads_ahead, writes_ahead, offered}
 use Rattle.ivshm_c.specs.declared.crossing.Access.{Access}
 use Rattle.ivshm_c.specs.declared.crossing.Notes.{Notes}
 use Rattle.ivshm_c.specs.declared.device.Found.{Found}
 use Rattle.ivshm_c.specs.declared.port.Port.{Port}
 use Rattle.ivshm_c.specs.declared.port.Outcome.TheVariants.{Never, Open}
 use Rattle.ivshm_c.specs.declared.status.Status.{Status}
-use Rattle.ivshm_c.specs.declared.status.Status.TheVariants.{Done, NoEnd, HasEnd, CallOpen, NoCall, NoMemory, BadCall, ShortFrame, LongFrame, ShortRoom, BadPeer, OtherAccess, BadCount}
+use Rattle.ivshm_c.specs.declared.status.Status.TheVariants.{Done, NoEnd, HasEnd, CallOpen, NoCall, NoMemory, BadCall, ShortFrame, LongFrame, ShortRoom, BadPeer, OtherAccess, BadCount, BadVersion}
 use Rattle.ivshm_c.specs.Crossing.{call_numbered, access_crossed, notes_crossed}
 use Rattle.ivshm_c.specs.Ports.{Begins, Offers, IsNext, IsAhead, AreWritten, ReadsAtOnce, WritesAtOnce, Steps, IsStarted, Restarts, outcome_after, outcome_cut}
 use Rattle.ivshm_c.specs.Sizes.{shape_found, sizes_found, IsSizeFault}
@@ -45,6 +46,10 @@ offer_answer frame port =
     else if nat_lt (port.endpoint.who.sizes.mtu + 18) (length frame) then LongFrame
     else if is_busy port.endpoint then CallOpen
     else Done
+
+-- the frame of the last offer is offered again
+abbrev pub again_answer : Port → Status
+again_answer port = offer_answer (offered port.endpoint) port
 
 abbrev pub step_answer : Port → Status
 step_answer port = if is_busy port.endpoint then Done else NoCall
@@ -91,6 +96,10 @@ BeginsAnswered call old new = Where (begin_answer call old)
 abbrev pub OffersAnswered : List ℕ → Port → Port → Type 0
 OffersAnswered frame old new = Where (offer_answer frame old) (Offers frame old.endpoint new.endpoint × (new.outcome ≡ Open)) (new ≡ old)
 
+-- an offer of the frame of the last one begins
+abbrev pub OffersAgain : Port → Port → Type 0
+OffersAgain old new = OffersAnswered (offered old.endpoint) old new
+
 -- the access of the open call is told
 abbrev pub TellsNext : Port → Access → Access → Type 0
 TellsNext port before after = Where (step_answer port)
@@ -129,19 +138,21 @@ CopiesFrame port before after = Where (frame_answer (length before) port)
 abbrev pub Renews : Port → Port → Type 0
 Renews old new = Restarts old.endpoint new.endpoint × (new.outcome ≡ outcome_cut old.outcome)
 
--- a new end of a region of these sizes
-abbrev pub IsNew : Found → (peers me mtu vector : ℕ) → Port → Type 0
-IsNew found peers me mtu vector port =
-    IsStarted (who_of (shape_found found peers) (sizes_found found mtu) me vector) port.endpoint × (port.outcome ≡ Never)
+-- a new end of a link of this version, in a region of these sizes
+abbrev pub IsNew : Found → (version peers me mtu vector : ℕ) → Port → Type 0
+IsNew found version peers me mtu vector port =
+    IsStarted (who_of (shape_found found peers) (sizes_found found version mtu) me vector) port.endpoint × (port.outcome ≡ Never)
 
 -- why no end is made, but for want of memory, which is free to come
-pub data RefusesNew (found : Found) (peers me mtu : ℕ) : Status → Type 0 where
-  bad_peer : 2 ≤ me → RefusesNew found peers me mtu BadPeer
-  bad_sizes : (status : Status) → IsSizeFault found peers mtu status → RefusesNew found peers me mtu status
-  no_memory : RefusesNew found peers me mtu NoMemory
+pub data RefusesNew (found : Found) (version peers me mtu : ℕ) : Status → Type 0 where
+  bad_peer : 2 ≤ me → RefusesNew found version peers me mtu BadPeer
+  bad_version : ¬ IsVersion version → RefusesNew found version peers me mtu BadVersion
+  bad_sizes : (status : Status) → IsVersion version → IsSizeFault found version peers mtu status → RefusesNew found version peers me mtu status
+  no_memory : RefusesNew found version peers me mtu NoMemory
 
 -- the answer where an end is to be made, and what the handle holds then
-pub data MakesAnswered (old : Option Port) (found : Found) (peers me mtu vector : ℕ) : Status → Option Port → Type 0 where
-  made : (port : Port) → old ≡ None → IsNew found peers me mtu vector port → MakesAnswered old found peers me mtu vector Done (Some port)
-  has_end : old ≢ None → MakesAnswered old found peers me mtu vector HasEnd old
-  refused : (status : Status) → RefusesNew found peers me mtu status → MakesAnswered old found peers me mtu vector status old
+pub data MakesAnswered (old : Option Port) (found : Found) (version peers me mtu vector : ℕ) : Status → Option Port → Type 0 where
+  made : (port : Port) → old ≡ None → IsVersion version → IsNew found version peers me mtu vector port →
+      MakesAnswered old found version peers me mtu vector Done (Some port)
+  has_end : old ≢ None → MakesAnswered old found version peers me mtu vector HasEnd old
+  refused : (status : Status) → RefusesNew found version peers me mtu status → MakesAnswered old found version peers me mtu vector status old

@@ -50,19 +50,19 @@ abbrev pub found_after : Result walked.Found CapabilityFault → Found → Found
 found_after (Ok found) before = found_crossed found
 found_after (Err fault) before = before
 
--- the sizes of a region of so many peers, and of its queues
+-- the sizes of a region of so many peers, and of its queues in a link of this version
 abbrev pub shape_found : Found → ℕ → Shape
 shape_found found peers = shape_of peers found.table found.common found.out
 
-abbrev pub sizes_found : Found → ℕ → Sizes
-sizes_found found mtu = record { out = found.out; mtu = mtu }
+abbrev pub sizes_found : Found → (version mtu : ℕ) → Sizes
+sizes_found found version mtu = record { version = version; out = found.out; mtu = mtu }
 
 -- the first thing that is wrong with the sizes of a region, or else with its queues
-pub data IsSizeFault (found : Found) (peers mtu : ℕ) (status : Status) : Type 0 where
+pub data IsSizeFault (found : Found) (version peers mtu : ℕ) (status : Status) : Type 0 where
   no_region : (fault : GeometryFault) → IsFirstFault peers found.table found.common found.out fault → status ≡ geometry_status fault →
-      IsSizeFault found peers mtu status
-  no_queue : (fault : QueueFault) → IsShape (shape_found found peers) → IsQueueFault (sizes_found found mtu) fault → status ≡ queue_status fault →
-      IsSizeFault found peers mtu status
+      IsSizeFault found version peers mtu status
+  no_queue : (fault : QueueFault) → IsShape (shape_found found peers) → IsQueueFault (sizes_found found version mtu) fault → status ≡ queue_status fault →
+      IsSizeFault found version peers mtu status
 
 -- the most bytes that a frame may have which is taken: those of a frame, and of the data area
 abbrev pub longest_delivery : Sizes → ℕ
@@ -87,12 +87,12 @@ layout_of shape q = record {
   longest_delivery = longest_delivery q;
 }
 
--- the answer where the words are told: each refusal has its cause, and writes nothing
+-- the answer where the words are told, which are those of each version: each refusal has its cause, and writes nothing
 pub data LaysOut (found : Found) (peers mtu : ℕ) (before : Layout) : Status → (after : Layout) → Type 0 where
-  laid_out : IsShape (shape_found found peers) → IsQueue (sizes_found found mtu) →
-      LaysOut found peers mtu before Done (layout_of (shape_found found peers) (sizes_found found mtu))
-  refused : (status : Status) → IsSizeFault found peers mtu status → LaysOut found peers mtu before status before
+  laid_out : IsShape (shape_found found peers) → IsQueue (sizes_found found 1 mtu) →
+      LaysOut found peers mtu before Done (layout_of (shape_found found peers) (sizes_found found 1 mtu))
+  refused : (status : Status) → IsSizeFault found 1 peers mtu status → LaysOut found peers mtu before status before
 
--- the link's version and the bounds of its numbers (profile; the shortest frame is an Ethernet header, the longest one has the greatest MTU and 18 bytes more)
+-- the link's highest version and the bounds of its numbers (profile; the shortest frame is an Ethernet header, the longest one has the greatest MTU and 18 bytes more)
 abbrev pub limits : Limits
-limits = record { version = 1; least_mtu = 256; most_mtu = 65535; shortest_frame = 14; longest_frame = 65553; largest_region = 16777216 }
+limits = record { version = 2; least_mtu = 256; most_mtu = 65535; shortest_frame = 14; longest_frame = 65553; largest_region = 16777216 }

@@ -39,6 +39,7 @@ number_of status.BadVendorLength = 24
 number_of status.NoVendor = 25
 number_of status.OtherAccess = 26
 number_of status.BadCount = 27
+number_of status.BadVersion = 28
 
 -- why sizes make no region
 abbrev pub geometry_status : GeometryFault → Status

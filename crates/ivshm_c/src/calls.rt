@@ -1,6 +1,7 @@
 //! The calls of an end with their answers, where what a program in C hands over is tested.
 ghost use Rattle.std.specs.Prelude.{◌≡◌, ◌*◌, ◌%◌, ◌<◌, ◌≤◌, length, IfOk, IfErr};
-ghost use Rattle.link_endpoint.specs.Engine.{delivered};
+ghost use Rattle.split_ring.specs.Layout.{IsVersion};
+ghost use Rattle.link_endpoint.specs.Engine.{delivered, offered};
 ghost use Rattle.ivshm_c.specs.Answers.{begin_answer, offer_answer, step_answer, count_answer, bytes_answer, reads_answer, words_answer, writes_answer, frame_answer, BeginsAnswered, OffersAnswered, TellsNext, TakesAnswered, TakesWords, TellsWords, TakesWritten, CopiesFrame, IsNew, RefusesNew};
 
 use crate::crossing::{access_crossed, call_numbered, notes_crossed};
@@ -11,22 +12,27 @@ use crate::{Access, Notes};
 use link_endpoint::Endpoint;
 use std::alloc::Global;
 
-/// Makes an end.
+/// Makes an end of a link of this version.
 pub(crate) fn made(
     alloc: Global,
     found: &Found,
+    version: u32,
     peers: u32,
     me: u32,
     mtu: u32,
     vector: u32,
 ) -> Result<Box<Port>, Status>
-    ensures made { IfOk result (λ port. IsNew found.now peers me mtu vector port.value) }
-    ensures refused { IfErr result (λ status. RefusesNew found.now peers me mtu status) }
+    ensures version { IfOk result (λ port. IsVersion version) }
+    ensures made { IfOk result (λ port. IsNew found.now version peers me mtu vector port.value) }
+    ensures refused { IfErr result (λ status. RefusesNew found.now version peers me mtu status) }
 {
     if me > 1 {
         return Err(Status::BadPeer);
     }
-    let (geometry, queue) = match sized(found, peers, mtu) {
+    if !(1..=2).contains(&version) {
+        return Err(Status::BadVersion);
+    }
+    let (geometry, queue) = match sized(found, version, peers, mtu) {
         Ok(sizes) => sizes,
         Err(status) => return Err(status),
     };
@@ -70,6 +76,21 @@ pub(crate) fn offered(port: &mut Port, frame: &[u8]) -> Status
         return Status::CallOpen;
     }
     port.offer(frame);
+    Status::Done
+}
+
+/// Opens an offer of the frame of the last one again.
+pub(crate) fn offered_again(port: &mut Port) -> Status
+    ensures answer { result ≡ offer_answer (offered port.old.endpoint) port.old }
+    ensures step { OffersAnswered (offered port.old.endpoint) port.old port.new }
+{
+    if port.endpoint.offered().len() < 14 {
+        return Status::ShortFrame;
+    }
+    if port.endpoint.busy() {
+        return Status::CallOpen;
+    }
+    port.offer_again();
     Status::Done
 }
 

@@ -1,7 +1,7 @@
 //! What a program in C is told of a device and of its sections.
 ghost use Rattle.std.specs.Prelude.{◌≡◌, ◌+◌, ◌*◌, IfOk, IfErr, unwrap_or};
 ghost use Rattle.section_map.specs.Geometry.{IsShape};
-ghost use Rattle.split_ring.specs.Layout.{IsQueue};
+ghost use Rattle.split_ring.specs.Layout.{IsQueue, IsVersion};
 ghost use Rattle.ivshm_c.specs.Sizes.{flag, no_msix, found_crossed, shape_found, sizes_found, IsSizeFault, layout_of, longest_delivery};
 
 use crate::status::{Status, geometry_status, queue_status};
@@ -115,16 +115,22 @@ pub(crate) fn found_crossed(found: &pci_space::Found) -> Found
     }
 }
 
-/// The geometry of these sizes and the queue of its sections, or the status of the first that is refused.
-pub(crate) fn sized(found: &Found, peers: u32, mtu: u32) -> Result<(Geometry, Queue), Status>
+/// The geometry of these sizes and the queue of its sections in a link of this version, or the status of the first that is refused.
+pub(crate) fn sized(
+    found: &Found,
+    version: u32,
+    peers: u32,
+    mtu: u32,
+) -> Result<(Geometry, Queue), Status>
+    requires version { IsVersion version }
     ensures shape { IfOk result (λ r. (r.0 ≡ shape_found found.now peers) × IsShape r.0) }
-    ensures queue { IfOk result (λ r. (r.1 ≡ sizes_found found.now mtu) × IsQueue r.1) }
+    ensures queue { IfOk result (λ r. (r.1 ≡ sizes_found found.now version mtu) × IsQueue r.1) }
     ensures whole { IfOk result (λ r. r.1.out ≡ 4 * r.0.out) }
-    ensures fault { IfErr result (λ status. IsSizeFault found.now peers mtu status) }
+    ensures fault { IfErr result (λ status. IsSizeFault found.now version peers mtu status) }
 {
     match Geometry::new(peers, found.table, found.common, found.out) {
         Err(fault) => Err(geometry_status(&fault)),
-        Ok(geometry) => match Queue::of(found.out, mtu) {
+        Ok(geometry) => match Queue::of_version(version, found.out, mtu) {
             Err(fault) => Err(queue_status(&fault)),
             Ok(queue) => Ok((geometry, queue)),
         },

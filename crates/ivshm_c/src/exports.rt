@@ -4,9 +4,11 @@ ghost use Rattle.ivshm_c.specs.Statuses.{number_of};
 ghost use Rattle.ivshm_c.specs.declared.status.Status.{Status as Answer};
 ghost use Rattle.link_endpoint.specs.Engine.{delivered};
 ghost use Rattle.ivshm_c.specs.Crossing.{view_of};
-ghost use Rattle.ivshm_c.specs.Answers.{answer_at, Leads, begin_answer, offer_answer, step_answer, reads_answer, words_answer, writes_answer, frame_answer, done_answer, BeginsAnswered, OffersAnswered, TellsNext, TakesAnswered, TakesWords, TellsWords, TakesWritten, CopiesFrame, Renews, MakesAnswered};
+ghost use Rattle.ivshm_c.specs.Answers.{answer_at, Leads, begin_answer, offer_answer, again_answer, step_answer, reads_answer, words_answer, writes_answer, frame_answer, done_answer, BeginsAnswered, OffersAnswered, OffersAgain, TellsNext, TakesAnswered, TakesWords, TellsWords, TakesWritten, CopiesFrame, Renews, MakesAnswered};
 
-use crate::calls::{begun, framed, made, next, offered, took, took_words, took_written, words};
+use crate::calls::{
+    begun, framed, made, next, offered, offered_again, took, took_words, took_written, words,
+};
 use crate::crossing::view_of;
 use crate::device::Found;
 use crate::status::Status;
@@ -14,7 +16,7 @@ use crate::{Access, End, Notes, View};
 use std::alloc::Global;
 
 /// Makes the end of peer `me` of a region of these sizes, with so many peers, for frames of this MTU; its doorbells have the vector
-/// `vector`. The State step is open with which it begins.
+/// `vector`. The State step is open with which it begins. The link is of version 1.
 #[unsafe(no_mangle)]
 pub extern "C" fn ivshm_end_new(
     alloc: Global,
@@ -25,13 +27,30 @@ pub extern "C" fn ivshm_end_new(
     mtu: u32,
     vector: u32,
 ) -> u32
-    ensures { (answer : Answer) × (result ≡ number_of answer) × MakesAnswered end.old.port found.now peers me mtu vector answer end.new.port }
+    ensures { (answer : Answer) × (result ≡ number_of answer) × MakesAnswered end.old.port found.now 1 peers me mtu vector answer end.new.port }
+{
+    ivshm_end_new_version(alloc, end, found, peers, me, mtu, vector, 1)
+}
+
+/// The same in a link of this version, 1 or 2. In one of version 2 an end rings where the other's event index asks for it.
+#[unsafe(no_mangle)]
+pub extern "C" fn ivshm_end_new_version(
+    alloc: Global,
+    end: &mut End,
+    found: &Found,
+    peers: u32,
+    me: u32,
+    mtu: u32,
+    vector: u32,
+    version: u32,
+) -> u32
+    ensures { (answer : Answer) × (result ≡ number_of answer) × MakesAnswered end.old.port found.now version peers me mtu vector answer end.new.port }
 {
     if let Some(port) = end.take(alloc) {
         end.put(port);
         return Status::HasEnd.number();
     }
-    match made(alloc, found, peers, me, mtu, vector) {
+    match made(alloc, found, version, peers, me, mtu, vector) {
         Ok(port) => {
             end.put(port);
             Status::Done.number()
@@ -79,6 +98,20 @@ pub extern "C" fn ivshm_end_offer(alloc: Global, end: &mut End, frame: &[u8]) ->
         return Status::NoEnd.number();
     };
     let status = offered(&mut port, frame);
+    end.put(port);
+    status.number()
+}
+
+/// Opens an offer of the frame of the last one again, which isn't copied: of none, where no frame was offered since the session opened.
+#[unsafe(no_mangle)]
+pub extern "C" fn ivshm_end_offer_again(alloc: Global, end: &mut End) -> u32
+    ensures answer { result ≡ number_of (answer_at end.old.port again_answer) }
+    ensures step { Leads end.old.port OffersAgain end.new.port }
+{
+    let Some(mut port) = end.take(alloc) else {
+        return Status::NoEnd.number();
+    };
+    let status = offered_again(&mut port);
     end.put(port);
     status.number()
 }

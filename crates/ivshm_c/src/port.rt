@@ -1,6 +1,6 @@
 //! An end of the link, with the outcome of its last offer.
 ghost use Rattle.std.specs.Prelude.{◌≡◌, ℕ, ◌+◌, ◌*◌, ◌%◌, ◌<◌, ◌≤◌, true, false, length};
-ghost use Rattle.link_endpoint.specs.Engine.{is_busy, reads_ahead, writes_ahead};
+ghost use Rattle.link_endpoint.specs.Engine.{is_busy, reads_ahead, writes_ahead, offered};
 ghost use Rattle.link_endpoint.specs.declared.place.Call.TheVariants.{Stop};
 ghost use Rattle.ivshm_c.specs.Ports.{Begins, Offers, Steps, ReadsAtOnce, WritesAtOnce, Restarts, outcome_after, outcome_cut, outcome_with, outcome_told, told_by};
 
@@ -63,6 +63,16 @@ impl Port {
         ensures outcome { self.new.outcome ≡ Outcome.Open }
     {
         self.endpoint.offer(frame);
+        self.outcome = Outcome::Open;
+    }
+
+    pub(crate) fn offer_again(&mut self)
+        requires closed { is_busy self.old.endpoint ≡ false }
+        requires some { 14 ≤ length (offered self.old.endpoint) }
+        ensures offers { Offers (offered self.old.endpoint) self.old.endpoint self.new.endpoint }
+        ensures outcome { self.new.outcome ≡ Outcome.Open }
+    {
+        self.endpoint.offer_again();
         self.outcome = Outcome::Open;
     }
 

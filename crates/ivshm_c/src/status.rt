@@ -37,6 +37,7 @@ pub(crate) enum Status {
     NoVendor,
     OtherAccess,
     BadCount,
+    BadVersion,
 }
 
 impl Status {
@@ -73,6 +74,7 @@ impl Status {
             Status::NoVendor => 25,
             Status::OtherAccess => 26,
             Status::BadCount => 27,
+            Status::BadVersion => 28,
         }
     }
 }

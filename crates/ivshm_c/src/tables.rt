@@ -26,12 +26,12 @@ pub extern "C" fn ivshm_walk(space: &[u8; 256], found: &mut Found) -> u32
     }
 }
 
-/// Tells the words of a region of these sizes by name.
+/// Tells the words of a region of these sizes by name. They are the same in each version of the link.
 #[unsafe(no_mangle)]
 pub extern "C" fn ivshm_layout(found: &Found, peers: u32, mtu: u32, layout: &mut Layout) -> u32
     ensures { (answer : Answer) × (result ≡ number_of answer) × LaysOut found.now peers mtu layout.old answer layout.new }
 {
-    match sized(found, peers, mtu) {
+    match sized(found, 1, peers, mtu) {
         Ok((geometry, queue)) => {
             *layout = layout_of(&geometry, &queue);
             Status::Done.number()
@@ -40,13 +40,13 @@ pub extern "C" fn ivshm_layout(found: &Found, peers: u32, mtu: u32, layout: &mut
     }
 }
 
-/// Tells the version of the link and the bounds of its numbers.
+/// Tells the highest version of the link and the bounds of its numbers.
 #[unsafe(no_mangle)]
 pub extern "C" fn ivshm_limits(told: &mut Limits)
     ensures { told.new ≡ limits }
 {
     *told = Limits {
-        version: 1,
+        version: 2,
         least_mtu: 256,
         most_mtu: 65_535,
         shortest_frame: 14,

@@ -2,9 +2,9 @@
 ghost use Rattle.std.specs.Prelude.{◌≡◌};
 
 use crate::exports::{
-    ivshm_end_begin, ivshm_end_frame, ivshm_end_free, ivshm_end_new, ivshm_end_next,
-    ivshm_end_offer, ivshm_end_reset, ivshm_end_took, ivshm_end_took_words, ivshm_end_took_written,
-    ivshm_end_view, ivshm_end_words,
+    ivshm_end_begin, ivshm_end_frame, ivshm_end_free, ivshm_end_new, ivshm_end_new_version,
+    ivshm_end_next, ivshm_end_offer, ivshm_end_offer_again, ivshm_end_reset, ivshm_end_took,
+    ivshm_end_took_words, ivshm_end_took_written, ivshm_end_view, ivshm_end_words,
 };
 use crate::tables::{ivshm_layout, ivshm_limits, ivshm_walk};
 use crate::{Access, End, Found, Layout, Limits, Note, Notes, View};
@@ -87,6 +87,21 @@ fn first_steps(rt: HostRuntime) -> Result<(), Fail> {
     Ok(())
 }
 
+/// There are two versions of the link: 0 and 3 are none, and a peer that there isn't is told first.
+#[test]
+fn versions(rt: HostRuntime) -> Result<(), Fail> {
+    let alloc = rt.alloc();
+    let mut end = End::empty(alloc);
+    for (me, version, answer) in [(0, 0, 28), (0, 3, 28), (2, 3, 10), (0, 2, 0), (0, 1, 2)] {
+        assert_eq!(rt;
+            ivshm_end_new_version(alloc, &mut end, &FOUND, 2, me, 256, 1, version),
+            answer
+        );
+    }
+    assert_eq!(rt; ivshm_end_free(alloc, &mut end), 0);
+    Ok(())
+}
+
 /// A section of 4,096 words is cleared in three pieces; a read, a count of 0, half a word and a count beyond the section are answered so.
 #[test]
 fn a_section_cleared_at_once(rt: HostRuntime) -> Result<(), Fail> {
@@ -140,6 +155,7 @@ fn an_offer_outside_run(rt: HostRuntime) -> Result<(), Fail> {
     let mut notes = NO_NOTES;
     let mut view = NO_VIEW;
     assert_eq!(rt; ivshm_end_took(alloc, &mut end, 0, &mut notes), 0);
+    assert_eq!(rt; ivshm_end_offer_again(alloc, &mut end), 7);
     assert_eq!(rt; ivshm_end_offer(alloc, &mut end, &[7; 13]), 7);
     assert_eq!(rt; ivshm_end_offer(alloc, &mut end, &[7; 14]), 0);
     assert_eq!(rt; ivshm_end_view(alloc, &mut end, &mut view), 0);
@@ -197,7 +213,7 @@ fn numbers_without_an_end(rt: HostRuntime) -> Result<(), Fail> {
         largest_region: 0,
     };
     ivshm_limits(&mut limits);
-    assert_eq!(rt; limits.version, 1);
+    assert_eq!(rt; limits.version, 2);
     assert_eq!(rt; limits.longest_frame, 65_553);
     Ok(())
 }

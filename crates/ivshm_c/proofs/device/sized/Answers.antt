@@ -6,6 +6,6 @@ use Rattle.ivshm_c.proofs.device.sized.Goals as goal
 pub returns-in-Err-clause-fault : goal.returns-in-Err-clause-fault
 returns-in-Err-clause-fault c = no_region c.in-Err.fault c.in-Err.ensures.fault c.geometry_status.ensures
 
-pub returns-in-Err-of-clause-fault : goal.returns-in-Err-of-clause-fault
-returns-in-Err-of-clause-fault c =
-    no_queue c.in-Err-of.fault (subst IsShape c.in-Ok.ensures.made c.in-Ok.ensures.shape) c.in-Err-of.ensures.fault c.queue_status.ensures
+pub returns-in-Err-of_version-clause-fault : goal.returns-in-Err-of_version-clause-fault
+returns-in-Err-of_version-clause-fault c =
+    no_queue c.in-Err-of_version.fault (subst IsShape c.in-Ok.ensures.made c.in-Ok.ensures.shape) c.in-Err-of_version.ensures.fault c.queue_status.ensures

@@ -1,0 +1,78 @@
+/* Some steps of an end at once, as docs/C.md has it, for region.h and guests/link.h alike. The words that go at once are those that an index or a State
+ * orders, so each may be relaxed (docs/ORDERS.md). The library sees the private copy alone, in which each word has one value; the machine is taken
+ * to have the lowest byte of a word first.
+ *
+ * The copies are made by accesses of 32 bits, or by memcpy where BY_MEMCPY is 1: a word that is torn then is one more value that the other peer might
+ * have written. */
+#ifndef SEVERAL_H
+#define SEVERAL_H
+#include <stdatomic.h>
+#include <stdbool.h>
+#include <stdio.h>
+#include <stdlib.h>
+#include <string.h>
+
+#include "ivshm_c.h"
+
+#ifndef BY_MEMCPY
+#define BY_MEMCPY 0
+#endif
+
+enum { AT_ONCE = 1024 };
+
+/* The two output sections of the link: which words of the region they are, and where they are mapped. */
+struct sections {
+    uint32_t words, own, theirs;      /* how many each has, and their first ones */
+    _Atomic uint32_t *written;        /* the own section */
+    const _Atomic uint32_t *read;     /* the other's */
+    uint32_t room[AT_ONCE];           /* words on their way between the region and the library */
+};
+
+/* The words of the sections by the region's numbers, as peer `me` has them; where they are mapped is left to the caller. */
+static inline void number_sections(struct sections *s, const ivshm_words *layout, uint32_t me) {
+    s->words = layout->words;
+    s->own = layout->first + me * layout->words;
+    s->theirs = layout->first + (1 - me) * layout->words;
+}
+
+/* A call that is to be done. */
+static inline void must(uint32_t answer, const char *what) {
+    if (answer == IVSHM_DONE) return;
+    fprintf(stderr, "%s: answer %u\n", what, answer);
+    exit(1);
+}
+
+static inline void copy_out(uint32_t *into, const _Atomic uint32_t *from, uint32_t count) {
+    if (BY_MEMCPY) memcpy(into, (const void *)from, 4 * (size_t)count);
+    else for (uint32_t i = 0; i < count; i++) into[i] = atomic_load_explicit(&from[i], memory_order_relaxed);
+}
+
+static inline void copy_in(_Atomic uint32_t *into, const uint32_t *from, uint32_t count) {
+    if (BY_MEMCPY) memcpy((void *)into, from, 4 * (size_t)count);
+    else for (uint32_t i = 0; i < count; i++) atomic_store_explicit(&into[i], from[i], memory_order_relaxed);
+}
+
+/* The same, where there are several. */
+static inline uint32_t make_several(ivshm_end *end, struct sections *s, const ivshm_access *access, ivshm_notes *notes) {
+    bool reads = access->kind == IVSHM_READ;
+    uint32_t at = access->word - (reads ? s->theirs : s->own), count = access->count < AT_ONCE ? access->count : AT_ONCE;
+    if (at >= s->words || s->words - at < count) return 0;
+    size_t bytes = 4 * (size_t)count;
+    if (reads) {
+        copy_out(s->room, &s->read[at], count);
+        must(ivshm_end_took_words(end, (const uint8_t *)s->room, bytes, notes), "took_words");
+    } else {
+        must(ivshm_end_words(end, (uint8_t *)s->room, bytes), "words");
+        copy_in(&s->written[at], s->room, count);
+        must(ivshm_end_took_written(end, count), "took_written");
+        notes->count = 0;
+    }
+    return count;
+}
+
+/* Makes as many accesses at once as the library tells that there may be, and gives their number; their values stay in the room. 0: the access is to
+ * be made by itself, since it is alone, or isn't in the section that it is of. */
+static inline uint32_t several(ivshm_end *end, struct sections *s, const ivshm_access *access, ivshm_notes *notes) {
+    return access->count < 2 ? 0 : make_several(end, s, access, notes);
+}
+#endif

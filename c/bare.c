@@ -134,6 +134,7 @@ static int check_handles(void) {
     uint8_t frame[14] = {0};
     size_t length;
     WANT(ivshm_end_begin(&none, IVSHM_TICK) == IVSHM_NO_END && ivshm_end_offer(&none, frame, 14) == IVSHM_NO_END);
+    WANT(ivshm_end_offer_again(&none) == IVSHM_NO_END);
     WANT(ivshm_end_next(&none, &access) == IVSHM_NO_END && ivshm_end_took(&none, 0, &notes) == IVSHM_NO_END);
     WANT(ivshm_end_took_words(&none, frame, 4, &notes) == IVSHM_NO_END && ivshm_end_words(&none, frame, 4) == IVSHM_NO_END);
     WANT(ivshm_end_took_written(&none, 1) == IVSHM_NO_END);
@@ -278,13 +279,12 @@ static int check_ends(void) {
     WANT(ivshm_end_frame(&b, room, 300, &length) == IVSHM_DONE && length == 14);
     for (int i = 0; i < 14; i++) WANT(frame[i] == room[i]);
     WANT(ivshm_end_offer(&a, frame, 14) == IVSHM_DONE && ivshm_end_reset(&a) == IVSHM_DONE);
-    WANT(ivshm_end_offer_again(&none) == IVSHM_NO_END);
     WANT(ivshm_end_view(&a, &view) == IVSHM_DONE && view.outcome == IVSHM_CUT);
     WANT(view.state == IVSHM_RESET && run(&a, 0) == 0 && words[0] == 0);
     /* the other's index is out of range: its end refuses it, and stays in RESET */
-    words[1024 + 256] = 100 << 16;
+    words[1024 + 256] = 200 << 16;
     WANT(ivshm_end_begin(&b, IVSHM_POLL) == IVSHM_DONE && run(&b, 1) == 0 && ivshm_end_view(&b, &view) == IVSHM_DONE);
-    WANT(view.refused_field == IVSHM_AVAIL_INDEX && view.refused_value == 100 && view.state == IVSHM_RESET && words[1] == 0);
+    WANT(view.refused_field == IVSHM_AVAIL_INDEX && view.refused_value == 200 && view.state == IVSHM_RESET && words[1] == 0);
     WANT(ivshm_end_free(&a) == IVSHM_DONE && ivshm_end_free(&a) == IVSHM_NO_END && ivshm_end_free(&b) == IVSHM_DONE && a.at == NULL);
     return 0;
 }

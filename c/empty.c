@@ -62,8 +62,8 @@ uint32_t ivshm_layout(const ivshm_found *found, uint32_t peers, uint32_t mtu, iv
     return IVSHM_DONE;
 }
 
-uint32_t ivshm_end_new(ivshm_end *end, const ivshm_found *found, uint32_t peers, uint32_t me, uint32_t mtu, uint32_t vector) {
-    (void)peers, (void)mtu, (void)vector;
+uint32_t ivshm_end_new_version(ivshm_end *end, const ivshm_found *found, uint32_t peers, uint32_t me, uint32_t mtu, uint32_t vector, uint32_t version) {
+    (void)peers, (void)mtu, (void)vector, (void)version;
     struct empty *e = calloc(1, sizeof *e);
     if (!e || found->out < 520192) return IVSHM_NO_MEMORY;
     e->me = me;
@@ -73,6 +73,10 @@ uint32_t ivshm_end_new(ivshm_end *end, const ivshm_found *found, uint32_t peers,
     e->now = &e->tick;
     end->at = e;
     return IVSHM_DONE;
+}
+
+uint32_t ivshm_end_new(ivshm_end *end, const ivshm_found *found, uint32_t peers, uint32_t me, uint32_t mtu, uint32_t vector) {
+    return ivshm_end_new_version(end, found, peers, me, mtu, vector, 1);
 }
 
 uint32_t ivshm_end_free(ivshm_end *end) {

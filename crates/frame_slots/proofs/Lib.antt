@@ -1,1 +1,4 @@
+pub mod Fitting
+pub mod Flights
+pub mod Rings
 pub mod Rounds

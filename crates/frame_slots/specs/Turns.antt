@@ -1,18 +1,31 @@
--- The descriptors of a section, which are given out in turn with their slots (profile).
-use Rattle.std.specs.Prelude.{◌≡◌, ◌≢◌, ℕ, ◌+◌, ◌-◌, ◌%◌, ◌<◌, ◌≤◌, ◌⊎◌, ◌↔◌}
-use Rattle.split_ring.specs.Layout.{Sizes, IsQueue, Slot, limit_of, place_of, HasByte}
+-- The descriptors of a section, which are given out in turn, and the bytes of its data area that go with them (profile).
+use Rattle.std.specs.Prelude.{◌≡◌, ◌≢◌, ℕ, ◌+◌, ◌-◌, ◌%◌, ◌<◌, ◌≤◌, ◌⊎◌, ◌↔◌, Bool, ◌&&◌, ◌||◌, ◌==◌, nat_lt, nat_le, if◌then◌else◌}
+use Rattle.ivs_base.specs.Numbers.{up64}
+use Rattle.split_ring.specs.Layout.{Sizes, IsQueue, Slot, is_byte_ring, room_of, slots_of, limit_of, payload_of, place_of, HasByte}
+use Rattle.split_ring.specs.Frames.{start_after}
 use Rattle.frame_slots.specs.declared.slots.Slot as slots
 
--- whose turn it is: the sizes of the queue, the next descriptor, and how many frames are in flight
+-- whose turn it is: the sizes of the queue, the next descriptor, and how many frames are in flight; and of a ring of bytes, by bytes of the
+-- area, where the oldest of these frames starts, where the newest one placed ended, and where the frames in flight left the end of the area.
+-- With slots these three are 0
 pub record Turn : Type 0 where
   pub sizes : Sizes
   pub next : ℕ
   pub in_flight : ℕ
+  pub head : ℕ
+  pub tail : ℕ
+  pub left : ℕ
 
--- no more frames are in flight than may be
+-- nothing was placed yet
+abbrev pub fresh_turn : Sizes → Turn
+fresh_turn sizes = record { sizes = sizes; next = 0; in_flight = 0; head = 0; tail = 0; left = 0 }
+
+-- no more frames are in flight than may be, and the bytes are those of the area
 pub record IsTurn (t : Turn) : Type 0 where
   pub next : t.next < limit_of t.sizes
   pub in_flight : t.in_flight ≤ limit_of t.sizes
+  pub head : t.head ≤ room_of t.sizes
+  pub tail : t.tail ≤ room_of t.sizes
 
 -- the descriptor that is so many turns before the next one
 abbrev pub before : Turn → ℕ → ℕ
@@ -26,26 +39,57 @@ IsInFlight t descriptor = (turns : ℕ) × (0 < turns) × (turns ≤ t.in_flight
 abbrev pub oldest_of : Turn → ℕ
 oldest_of t = before t t.in_flight
 
--- a descriptor, and the byte at which its slot begins
-abbrev pub slot_at : Sizes → ℕ → slots.Slot
-slot_at sizes i = record { descriptor = i; address = place_of sizes (Slot i) }
+-- the bytes of the ring that a frame of so many bytes takes: the next multiple of 64, and none where there are slots
+abbrev pub ring_bytes : Sizes → ℕ → ℕ
+ring_bytes sizes bytes = if is_byte_ring sizes then up64 bytes else 0
+
+-- so many bytes of the ring are free after the newest frame, where some are in flight: if these passed the end of the area, up to the oldest one;
+-- else up to the end, or from its first byte on up to the oldest
+abbrev pub are_free : (room head tail bytes : ℕ) → Bool
+are_free room head tail bytes = if nat_le tail head then nat_le (tail + bytes) head else (nat_le (tail + bytes) room || nat_le bytes head)
+
+-- one more frame of so many bytes has room: fewer than may be are in flight, and its bytes are free
+abbrev pub has_room_in : Turn → (bytes : ℕ) → Bool
+has_room_in t bytes = nat_lt t.in_flight (limit_of t.sizes) && (t.in_flight == 0 || are_free (room_of t.sizes) t.head t.tail (ring_bytes t.sizes bytes))
+
+-- the byte of the area at which it starts
+abbrev pub next_start : Turn → (bytes : ℕ) → ℕ
+next_start t bytes = start_after (room_of t.sizes) t.tail (ring_bytes t.sizes bytes)
+
+-- it gets the next descriptor, and stands at its byte of the ring, or in the slot of that descriptor
+abbrev pub slot_for : Turn → (bytes : ℕ) → slots.Slot
+slot_for t bytes = record {
+  descriptor = t.next;
+  address = if is_byte_ring t.sizes then payload_of t.sizes + next_start t bytes else place_of t.sizes (Slot t.next);
+}
 
 -- one more frame is in flight
-abbrev pub with_placed : Turn → Turn
-with_placed t = record t { next = (t.next + 1) % limit_of t.sizes; in_flight = t.in_flight + 1 }
+abbrev pub with_placed : Turn → (bytes : ℕ) → Turn
+with_placed t bytes = record {
+  sizes = t.sizes;
+  next = (t.next + 1) % limit_of t.sizes;
+  in_flight = t.in_flight + 1;
+  head = if t.in_flight == 0 then next_start t bytes else t.head;
+  tail = next_start t bytes + ring_bytes t.sizes bytes;
+  left = if nat_le (t.tail + ring_bytes t.sizes bytes) (room_of t.sizes) then t.left else t.tail;
+}
 
--- one frame less is in flight
-abbrev pub with_freed : Turn → Turn
-with_freed t = record t { in_flight = t.in_flight - 1 }
+-- the byte of the area at which the frame after the oldest one starts: its first where the frames in flight passed the end after the oldest
+abbrev pub second_start : Turn → (bytes : ℕ) → ℕ
+second_start t bytes = if nat_le t.tail t.head && (t.head + bytes == t.left) then 0 else t.head + bytes
+
+-- one frame less is in flight: the oldest, of so many bytes
+abbrev pub with_freed : Turn → (bytes : ℕ) → Turn
+with_freed t bytes = record t { in_flight = t.in_flight - 1; head = second_start t (ring_bytes t.sizes bytes) }
 
 -- the slots of two descriptors share no byte
 abbrev pub SlotsAreApart : Type 0
-SlotsAreApart = (q : Sizes) (i j b : ℕ) → IsQueue q → i < limit_of q → j < limit_of q →
+SlotsAreApart = (q : Sizes) (i j b : ℕ) → IsQueue q → i < slots_of q → j < slots_of q →
     HasByte q (Slot i) b → HasByte q (Slot j) b → i ≡ j
 
 -- a placed descriptor joins those in flight, and the oldest one leaves them when it is freed
 pub record FlightGoesRound : Type 0 where
-  pub placed : (t : Turn) (descriptor : ℕ) → IsTurn t → t.in_flight < limit_of t.sizes →
-      IsInFlight (with_placed t) descriptor ↔ (IsInFlight t descriptor ⊎ (descriptor ≡ t.next))
-  pub freed : (t : Turn) (descriptor : ℕ) → IsTurn t → 0 < t.in_flight →
-      IsInFlight (with_freed t) descriptor ↔ (IsInFlight t descriptor × (descriptor ≢ oldest_of t))
+  pub placed : (t : Turn) (bytes descriptor : ℕ) → IsTurn t → t.in_flight < limit_of t.sizes →
+      IsInFlight (with_placed t bytes) descriptor ↔ (IsInFlight t descriptor ⊎ (descriptor ≡ t.next))
+  pub freed : (t : Turn) (bytes descriptor : ℕ) → IsTurn t → 0 < t.in_flight →
+      IsInFlight (with_freed t bytes) descriptor ↔ (IsInFlight t descriptor × (descriptor ≢ oldest_of t))

@@ -1,29 +1,37 @@
-//! Which descriptor a frame gets, and where its slot is.
+//! Which descriptor a frame gets, and where it stands.
 ghost use Rattle.std.specs.Prelude.{◌≡◌, ◌+◌, ◌<◌, ◌≤◌, IfSome, MatchOption};
-ghost use Rattle.split_ring.specs.Layout.{limit_of};
-ghost use Rattle.frame_slots.specs.Turns.{IsTurn, IsInFlight, oldest_of, slot_at, with_placed, with_freed, SlotsAreApart, FlightGoesRound};
+ghost use Rattle.std.specs.Prelude.{◌^◌, true, false};
+ghost use Rattle.split_ring.specs.Layout.{limit_of, room_of};
+ghost use Rattle.split_ring.specs.Frames.{start_after};
+ghost use Rattle.frame_slots.specs.Turns.{fresh_turn, IsTurn, IsInFlight, oldest_of, ring_bytes, are_free, has_room_in, slot_for, with_placed, with_freed, SlotsAreApart, FlightGoesRound};
+ghost use Rattle.frame_slots.specs.Rings.{IsOldest, TurnsStandForFrames};
 
+use ivs_base::up64;
 use split_ring::{Queue, queues_are_laid_out};
 use std::marker::Model;
 
-/// Where a frame is put: a descriptor and its slot.
+/// Where a frame is put: a descriptor, and its slot or its bytes of the ring.
 #[derive(Clone, Copy, Debug, PartialEq, Eq)]
 pub struct Slot {
     /// The number of the descriptor.
     pub descriptor: u32,
-    /// The byte of the section at which its slot begins.
+    /// The byte of the section at which the frame begins.
     pub address: u32,
 }
 
 /// The name of a slot in the fixed public surface.
 pub type Place = Slot;
 
-/// The descriptors of a section, with their slots. Frames are freed in the order in which they were placed.
+/// The descriptors of a section, with their slots or, in a ring of bytes, with the bytes of each frame. Frames are freed in the order in
+/// which they were placed.
 #[derive(Clone, Copy, Debug)]
 pub struct Slots {
     queue: Queue,
     next: u32,
     in_flight: u32,
+    head: u32,
+    tail: u32,
+    left: u32,
 }
 
 impl Model for Slots {
@@ -31,47 +39,46 @@ impl Model for Slots {
 
     ghost Value = { Turn };
 
-    ghost view = { λ s. record { sizes = s.queue; next = s.next; in_flight = s.in_flight } };
+    ghost view = { λ s. record { sizes = s.queue; next = s.next; in_flight = s.in_flight; head = s.head; tail = s.tail; left = s.left } };
 
-    ghost invariant = { λ s. IsTurn (record { sizes = s.queue; next = s.next; in_flight = s.in_flight }) };
+    ghost invariant = { λ s. IsTurn (record { sizes = s.queue; next = s.next; in_flight = s.in_flight; head = s.head; tail = s.tail; left = s.left }) };
 
-    ghost inverse = { λ t. record { queue = t.sizes; next = t.next; in_flight = t.in_flight } };
+    ghost inverse = { λ t. record { queue = t.sizes; next = t.next; in_flight = t.in_flight; head = t.head; tail = t.tail; left = t.left } };
 }
 
 impl Slots {
     /// The slots of a section of this queue: no frame is in flight.
     pub fn new(queue: &Queue) -> Slots
-        ensures { result ≡ record { sizes = queue.now; next = 0; in_flight = 0 } }
+        ensures { result ≡ fresh_turn queue.now }
     {
         prove!(queue.limit() > 0);
         Slots {
             queue: *queue,
             next: 0,
             in_flight: 0,
+            head: 0,
+            tail: 0,
+            left: 0,
         }
     }
 
-    /// Takes the next descriptor for a frame of `len` bytes. None where as many frames as may be are in flight.
+    /// Takes the next descriptor for a frame of `len` bytes, and the bytes of the section at which it stands. None where it has no room: as
+    /// many frames as may be are in flight or, in a ring of bytes, the bytes that it would take aren't free.
     pub fn place(&mut self, len: u32) -> Option<Slot>
         requires least { 14 ≤ len }
         requires most { len ≤ self.old.sizes.mtu + 18 }
-        ensures taken { MatchOption result ((self.old.in_flight ≡ limit_of self.old.sizes) × (self.new ≡ self.old))
-            (λ slot. (self.old.in_flight < limit_of self.old.sizes) × (slot ≡ slot_at self.old.sizes self.old.next) × (self.new ≡ with_placed self.old)) }
+        ensures taken { MatchOption result ((has_room_in self.old len ≡ false) × (self.new ≡ self.old))
+            (λ slot. (has_room_in self.old len ≡ true) × (slot ≡ slot_for self.old len) × (self.new ≡ with_placed self.old len)) }
+        ensures known { IfSome result (λ slot. slot.descriptor < limit_of self.old.sizes) }
         ensures alone { IfSome result (λ slot. ¬ IsInFlight self.old slot.descriptor) }
         ensures room { IfSome result (λ slot. slot.address + len ≤ self.old.sizes.out) }
     {
-        let limit = self.queue.limit();
-        if self.in_flight == limit {
+        if !self.has_room(len) {
             return None;
         }
-        let descriptor = self.next;
-        let address = self.queue.payload() + self.queue.slot() * descriptor;
-        self.next = (descriptor + 1) % limit;
-        self.in_flight += 1;
-        Some(Slot {
-            descriptor,
-            address,
-        })
+        let slot = self.slot_for(len);
+        self.add(len);
+        Some(slot)
     }
 
     /// The descriptor of the oldest frame in flight.
@@ -83,11 +90,18 @@ impl Slots {
         (self.next + limit - self.in_flight) % limit
     }
 
-    /// Frees the oldest frame in flight.
+    /// Frees the oldest frame in flight, which has `len` bytes.
     pub fn free(&mut self, len: u32)
-        requires { 0 < self.old.in_flight }
-        ensures { self.new ≡ with_freed self.old }
+        requires { IsOldest self.old len }
+        ensures { self.new ≡ with_freed self.old len }
     {
+        let bytes = ring_bytes(&self.queue, len);
+        let end = self.head + bytes;
+        self.head = if self.tail <= self.head && end == self.left {
+            0
+        } else {
+            end
+        };
         self.in_flight -= 1;
     }
 
@@ -101,10 +115,103 @@ impl Slots {
 
     /// Begins anew: no frame is in flight.
     pub fn reset(&mut self)
-        ensures { self.new ≡ record self.old { next = 0; in_flight = 0 } }
+        ensures { self.new ≡ fresh_turn self.old.sizes }
     {
         self.next = 0;
         self.in_flight = 0;
+        self.head = 0;
+        self.tail = 0;
+        self.left = 0;
+    }
+
+    /// Has one more frame of `len` bytes room?
+    fn has_room(&self, len: u32) -> bool
+        requires { len ≤ self.now.sizes.mtu + 18 }
+        ensures value { result ≡ has_room_in self.now len }
+        ensures bounds { IsTurn self.now }
+    {
+        let room = self.queue.room();
+        let bytes = ring_bytes(&self.queue, len);
+        self.in_flight < self.queue.limit()
+            && (self.in_flight == 0 || are_free(room, self.head, self.tail, bytes))
+    }
+
+    /// Where it would be put.
+    fn slot_for(&self, len: u32) -> Slot
+        requires { len ≤ self.now.sizes.mtu + 18 }
+        ensures value { result ≡ slot_for self.now len }
+        ensures room { result.address + len ≤ self.now.sizes.out }
+    {
+        let descriptor = self.next;
+        let room = self.queue.room();
+        let address = if self.queue.is_byte_ring() {
+            let bytes = ring_bytes(&self.queue, len);
+            self.queue.payload() + start_after(room, self.tail, bytes)
+        } else {
+            self.queue.payload() + self.queue.slot() * descriptor
+        };
+        Slot {
+            descriptor,
+            address,
+        }
+    }
+
+    /// Puts it there.
+    fn add(&mut self, len: u32)
+        requires most { len ≤ self.old.sizes.mtu + 18 }
+        requires room { has_room_in self.old len ≡ true }
+        ensures { self.new ≡ with_placed self.old len }
+    {
+        let room = self.queue.room();
+        let bytes = ring_bytes(&self.queue, len);
+        let start = start_after(room, self.tail, bytes);
+        self.head = if self.in_flight == 0 {
+            start
+        } else {
+            self.head
+        };
+        self.left = if self.tail + bytes <= room {
+            self.left
+        } else {
+            self.tail
+        };
+        self.tail = start + bytes;
+        self.next = (self.next + 1) % self.queue.limit();
+        self.in_flight += 1;
+    }
+}
+
+/// The bytes of the ring that a frame of `len` bytes takes: none where there are slots.
+fn ring_bytes(queue: &Queue, len: u32) -> u32
+    requires { ring_bytes queue.now len ≤ room_of queue.now }
+    ensures value { result ≡ ring_bytes queue.now len }
+    ensures fits { result ≤ room_of queue.now }
+{
+    prove!(queue.room() < 16_777_216);
+    if queue.is_byte_ring() {
+        up64(u64::from(len)) as u32
+    } else {
+        0
+    }
+}
+
+/// The byte of an area of `room` bytes at which so many bytes start after what ended at `ended`.
+fn start_after(room: u32, ended: u32, bytes: u32) -> u32
+    requires { ended + bytes < 2 ^ 32 }
+    ensures { result ≡ start_after room ended bytes }
+{
+    if ended + bytes <= room { ended } else { 0 }
+}
+
+/// Are so many bytes of the ring free after the newest frame, where some are in flight?
+fn are_free(room: u32, head: u32, tail: u32, bytes: u32) -> bool
+    requires { tail + bytes < 2 ^ 32 }
+    ensures { result ≡ are_free room head tail bytes }
+{
+    if tail <= head {
+        tail + bytes <= head
+    } else {
+        tail + bytes <= room || bytes <= head
     }
 }
 
@@ -116,4 +223,9 @@ pub fn slots_are_apart()
 /// Law: a placed descriptor joins those in flight, and the oldest one leaves them when it is freed.
 pub fn flight_goes_round()
     ensures { FlightGoesRound }
+{}
+
+/// Law: the numbers of a turn stand for the frames of a session: they say which frame has room and where it stands.
+pub fn turns_stand_for_frames()
+    ensures { TurnsStandForFrames }
 {}

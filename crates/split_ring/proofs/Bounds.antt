@@ -1,7 +1,7 @@
 -- How large the numbers of a queue are.
-use Rattle.std.proofs.Common.{ℕ, ◌*◌, ◌/◌, ◌<◌, ◌≤◌, min, arith}
+use Rattle.std.proofs.Common.{ℕ, ◌*◌, ◌/◌, ◌<◌, ◌≤◌, min, Bool, true, false, cond, arith}
 use Rattle.std.proofs.Math.Nat.{mul-le-mul_left, mul-div-le, le-div_iff_mul-le}
-use Rattle.split_ring.specs.Layout.{Sizes, size_of, room_of, slot_of, limit_of, IsQueue, HasBounds}
+use Rattle.split_ring.specs.Layout.{Sizes, size_of, room_of, slot_of, slots_of, limit_of, is_byte_ring, IsQueue, HasBounds}
 use Rattle.split_ring.proofs.QueueSizes.{found}
 
 slots_fit : (size room slot : ℕ) → slot * min size (room / slot) ≤ room
@@ -14,8 +14,13 @@ slots_fit size room slot =
 some_slot : (room slot : ℕ) → 0 < slot → slot ≤ room → 0 < room / slot
 some_slot room slot some fits = let h : 1 ≤ room / slot = (le-div_iff_mul-le {k = slot} {x = 1} {y = room} some).1 (omega arith) in omega arith
 
+-- what holds of the number of descriptors and of that of slots holds of the limit
+of_limit : (Holds : ℕ → Type 0) (b : Bool) (size slots : ℕ) → Holds size → Holds slots → Holds (cond b size slots)
+of_limit Holds true size slots h g = h
+of_limit Holds false size slots h g = g
+
 pub bounds : (q : Sizes) → IsQueue q → HasBounds q
-unfolding limit_of
+unfolding limit_of slots_of
 bounds q h =
     let f = found q.out (size_of q) h.fits in
     let fits = f.fits in
@@ -27,8 +32,8 @@ bounds q h =
       size_most = f.most;
       size_whole = f.whole;
       turns = f.turns;
-      limit_least = omega arith;
-      limit_most = omega arith;
+      limit_least = of_limit (λ n. 0 < n) (is_byte_ring q) (size_of q) (min (size_of q) (room_of q / slot_of q)) (omega arith) (omega arith);
+      limit_most = of_limit (λ n. n ≤ size_of q) (is_byte_ring q) (size_of q) (min (size_of q) (room_of q / slot_of q)) (omega arith) (omega arith);
       rings = f.fits;
       slots = omega arith;
     }

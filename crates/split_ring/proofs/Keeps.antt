@@ -1,15 +1,15 @@
 -- The fields of a new queue are the numbers of its layout.
-use Rattle.std.proofs.Common.{◌≡◌, ℕ, ◌+◌, ◌-◌, ◌/◌, ◌^◌, ◌≤◌, min, Some, sym, ap, unwrap_or, ◌∙◌}
+use Rattle.std.proofs.Common.{◌≡◌, ℕ, ◌+◌, ◌-◌, ◌/◌, ◌^◌, ◌≤◌, min, nat_le, cond, Some, sym, ap, unwrap_or, ◌∙◌}
 use Rattle.ivs_base.specs.Numbers.{up64}
-use Rattle.split_ring.specs.Layout.{Sizes, IsVersion, size_of, queue_size, ring_part, used_place, limit_of, IsQueue}
+use Rattle.split_ring.specs.Layout.{Sizes, IsVersion, size_of, queue_size, ring_part, used_place, slots_of, limit_of, IsQueue}
 use Rattle.split_ring.specs.Kept.{IsKept}
 use Rattle.split_ring.proofs.Bounds.{bounds}
 
 pub kept : (version out mtu n used payload slot limit : ℕ)
     → IsVersion version → queue_size out ≡ Some n → 256 ≤ mtu → mtu ≤ 65535 → out ≤ 2 ^ 24
-    → used ≡ used_place n → payload ≡ ring_part n → slot ≡ up64 (18 + mtu) → slot ≤ out - payload → limit ≡ min n ((out - payload) / slot)
+    → used ≡ used_place n → payload ≡ ring_part n → slot ≡ up64 (18 + mtu) → slot ≤ out - payload → limit ≡ cond (nat_le 3 version) n (min n ((out - payload) / slot))
     → IsKept (record { version = version; out = out; mtu = mtu; size = n; used = used; payload = payload; slot = slot; limit = limit })
-unfolding limit_of
+unfolding limit_of slots_of
 kept version out mtu n used payload slot limit known found least most section used_is payload_is slot_is fits limit_is =
     let q : Sizes = record { version = version; out = out; mtu = mtu } in
     let n_is : size_of q ≡ n = ap (λ o. unwrap_or o 0) found in

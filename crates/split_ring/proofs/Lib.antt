@@ -1,4 +1,5 @@
 pub mod Bounds
+pub mod Frames
 pub mod Keeps
 pub mod Places
 pub mod QueueSizes

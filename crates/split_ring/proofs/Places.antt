@@ -3,7 +3,7 @@ use Rattle.std.proofs.Common.{◌≡◌, ℕ, ◌+◌, ◌-◌, ◌*◌, ◌%◌
 use mathlib.Core.Logic.{dite}
 use native.Mathlib.Decide.{dec_lt}
 use Rattle.std.proofs.Math.Nat.{mul-le-mul_left}
-use Rattle.split_ring.specs.Layout.{Sizes, Field, Address, Length, Flags, Next, AvailableFlags, AvailableIndex, Entry, UsedEvent, UsedFlags, UsedIndex, Id, Amount, AvailableEvent, Slot, limit_of, slot_of, payload_of, place_of, width_of, alignment_of, IsField, HasByte, HasBounds, QueuesAreLaidOut}
+use Rattle.split_ring.specs.Layout.{Sizes, Field, Address, Length, Flags, Next, AvailableFlags, AvailableIndex, Entry, UsedEvent, UsedFlags, UsedIndex, Id, Amount, AvailableEvent, Slot, slots_of, slot_of, payload_of, place_of, width_of, alignment_of, IsField, HasByte, HasBounds, QueuesAreLaidOut}
 use Rattle.split_ring.proofs.Bounds.{bounds}
 
 -- slots of one size share no byte
@@ -30,7 +30,7 @@ apart q (Slot i) (Slot j) b hf hg inf ing = ap Slot (same_slot (slot_of q) i j (
 apart q f g b hf hg inf ing = absurd (omega arith)
 
 inside : (q : Sizes) → HasBounds q → (f : Field) → IsField q f → place_of q f + width_of q f ≤ q.out
-inside q h (Slot i) hf = let l = h.slots in let g : slot_of q * (i + 1) ≤ slot_of q * limit_of q = mul-le-mul_left (slot_of q) (omega arith) in omega arith
+inside q h (Slot i) hf = let l = h.slots in let g : slot_of q * (i + 1) ≤ slot_of q * slots_of q = mul-le-mul_left (slot_of q) (omega arith) in omega arith
 inside q h f hf = let l = h.rings in omega arith
 
 aligned : (q : Sizes) (f : Field) → place_of q f % alignment_of f ≡ 0

@@ -1,7 +1,7 @@
 -- Where each field of an output section stands.
 -- Source: VIRTIO 1.1 section 2.6 for the parts of a split virtqueue, their order and the widths of their fields;
 -- profile for the alignments to 64 bytes, the queue's size, the slots and the limit in flight.
-use Rattle.std.specs.Prelude.{◌≡◌, ℕ, ◌+◌, ◌-◌, ◌*◌, ◌/◌, ◌%◌, ◌^◌, ◌<◌, ◌≤◌, min, List, [], ◌∷◌, Bool, Option, Some, find, nat_lt, nat_le, unwrap_or, MatchOption}
+use Rattle.std.specs.Prelude.{◌≡◌, ℕ, ◌+◌, ◌-◌, ◌*◌, ◌/◌, ◌%◌, ◌^◌, ◌<◌, ◌≤◌, min, List, [], ◌∷◌, Bool, Option, Some, find, nat_lt, nat_le, if◌then◌else◌, unwrap_or, MatchOption}
 use Rattle.ivs_base.specs.Numbers.{up64}
 
 -- the numbers that fix every place: the version of the link, the bytes of an output section, and the MTU
@@ -12,11 +12,15 @@ pub record Sizes : Type 0 where
 
 -- the versions of the link (profile): in the first a peer rings at every frame
 abbrev pub IsVersion : ℕ → Type 0
-IsVersion version = (1 ≤ version) × (version ≤ 2)
+IsVersion version = (1 ≤ version) × (version ≤ 3)
 
 -- from the second version on, it rings where the other's event index asks for it (VIRTIO 1.1 section 2.6.7)
 abbrev pub has_events : Sizes → Bool
 has_events q = nat_le 2 q.version
+
+-- in the third the data area is a ring of bytes; before it, it is cut into slots
+abbrev pub is_byte_ring : Sizes → Bool
+is_byte_ring q = nat_le 3 q.version
 
 -- Places are bytes from the start of the section. The descriptors of a queue of n stand first and have 16 bytes each;
 -- after them stands the available ring
@@ -59,9 +63,13 @@ room_of q = q.out - payload_of q
 abbrev pub slot_of : Sizes → ℕ
 slot_of q = up64 (18 + q.mtu)
 
--- how many frames may be in flight: as many as have a descriptor and a slot
+-- how many slots there are: as many as the data area holds, and no more than descriptors
+unfoldable pub slots_of : Sizes → ℕ
+slots_of q = min (size_of q) (room_of q / slot_of q)
+
+-- how many frames may be in flight: as many as have a descriptor and, where there are slots, a slot
 unfoldable pub limit_of : Sizes → ℕ
-limit_of q = min (size_of q) (room_of q / slot_of q)
+limit_of q = if is_byte_ring q then size_of q else slots_of q
 
 -- the sizes of a queue: the version is known, a queue size fits, and the data area has a slot
 pub record IsQueue (q : Sizes) : Type 0 where
@@ -124,7 +132,7 @@ IsField q (Next i) = i < size_of q
 IsField q (Entry k) = k < size_of q
 IsField q (Id k) = k < size_of q
 IsField q (Amount k) = k < size_of q
-IsField q (Slot i) = i < limit_of q
+IsField q (Slot i) = i < slots_of q
 IsField q f = Unit {0}
 
 -- the word of the section in which a field begins
@@ -167,7 +175,7 @@ pub record HasBounds (q : Sizes) : Type 0 where
   pub limit_least : 0 < limit_of q
   pub limit_most : limit_of q ≤ size_of q
   pub rings : 8 * payload_of q < q.out
-  pub slots : payload_of q + slot_of q * limit_of q ≤ q.out
+  pub slots : payload_of q + slot_of q * slots_of q ≤ q.out
 
 -- n is the greatest power of two from 64 to 4,096 whose ring part is less than an eighth of the section
 pub record IsQueueSize (out n : ℕ) : Type 0 where

@@ -1,4 +1,5 @@
 pub mod Faults
+pub mod Frames
 pub mod Kept
 pub mod Layout
 pub mod Ranges

@@ -1,7 +1,8 @@
 //! Where the fields of an output section stand.
-ghost use Rattle.std.specs.Prelude.{◌≡◌, ◌+◌, ◌*◌, ◌/◌, ◌%◌, ◌<◌, ◌≤◌, ◌^◌, nat_le, IfOk, IfErr};
-ghost use Rattle.split_ring.specs.Layout.{used_place, ring_part, queue_size, Sizes, IsVersion, has_events, size_of, payload_of, room_of, slot_of, limit_of, IsQueue, HasBounds, word_place, Address, AvailableIndex, Entry, UsedEvent, UsedIndex, Id, AvailableEvent, QueueSizeIsGreatest, QueuesAreLaidOut};
+ghost use Rattle.std.specs.Prelude.{◌≡◌, ◌+◌, ◌*◌, ◌/◌, ◌%◌, ◌<◌, ◌≤◌, ◌^◌, nat_le, min, cond, IfOk, IfErr};
+ghost use Rattle.split_ring.specs.Layout.{used_place, ring_part, queue_size, Sizes, IsVersion, has_events, is_byte_ring, size_of, payload_of, room_of, slot_of, limit_of, IsQueue, HasBounds, word_place, Address, AvailableIndex, Entry, UsedEvent, UsedIndex, Id, AvailableEvent, QueueSizeIsGreatest, QueuesAreLaidOut};
 ghost use Rattle.split_ring.specs.Faults.{IsQueueFault};
+ghost use Rattle.split_ring.specs.Frames.{FramesHavePlaces};
 
 use crate::QueueFault;
 use ivs_base::up64;
@@ -53,7 +54,8 @@ impl Queue {
         Queue::of_version(1, out, mtu)
     }
 
-    /// The same for a link of this version. From version 2 on a peer rings where the other's event index asks for it.
+    /// The same for a link of this version. From version 2 on a peer rings where the other's event index asks for it; in version 3 the
+    /// data area is a ring of bytes in place of slots.
     pub fn of_version(version: u32, out: u64, mtu: u32) -> Result<Queue, QueueFault>
         requires known { IsVersion version }
         requires section { out ≤ 2 ^ 24 }
@@ -84,7 +86,7 @@ impl Queue {
             used: used_place(size),
             payload,
             slot,
-            limit: size.min(room / slot),
+            limit: limit(version, size, room / slot),
         })
     }
 
@@ -103,6 +105,13 @@ impl Queue {
         self.version >= 2
     }
 
+    /// Whether the data area is a ring of bytes, in which a frame takes its length up to the next multiple of 64; else it is cut into slots.
+    pub fn is_byte_ring(&self) -> bool
+        ensures { result ≡ is_byte_ring self.now }
+    {
+        self.version >= 3
+    }
+
     /// The number of descriptors, of available entries and of used elements.
     pub fn size(&self) -> u32
         ensures value { result ≡ size_of self.now }
@@ -112,7 +121,7 @@ impl Queue {
         self.size
     }
 
-    /// The bytes of a slot, which holds one frame.
+    /// The bytes of a slot, which holds one frame. In a ring of bytes there are none.
     pub fn slot(&self) -> u32
         ensures value { result ≡ slot_of self.now }
         ensures bounds { HasBounds self.now }
@@ -120,7 +129,7 @@ impl Queue {
         self.slot
     }
 
-    /// How many frames may be in flight.
+    /// How many frames may be in flight: in a ring of bytes as many as have a descriptor, if the area has room for them.
     pub fn limit(&self) -> u32
         ensures value { result ≡ limit_of self.now }
         ensures bounds { HasBounds self.now }
@@ -219,6 +228,13 @@ impl Queue {
     }
 }
 
+/// How many frames may be in flight in a link of this version, with so many descriptors and slots.
+fn limit(version: u32, size: u32, slots: u32) -> u32
+    ensures { result ≡ cond (nat_le 3 version) size (min size slots) }
+{
+    if version >= 3 { size } else { size.min(slots) }
+}
+
 /// The byte at which the used ring of a queue of `size` begins.
 fn used_place(size: u32) -> u32
     requires { size ≤ 4096 }
@@ -251,6 +267,11 @@ fn queue_size(out: u64) -> Option<u32>
 /// the section.
 pub fn queue_size_is_greatest()
     ensures { QueueSizeIsGreatest }
+{}
+
+/// Law: where each frame of a session stands, and what it says of it that it has room.
+pub fn frames_have_places()
+    ensures { FramesHavePlaces }
 {}
 
 /// Law: in each queue no byte belongs to two fields, and each field lies inside the section.

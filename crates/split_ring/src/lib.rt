@@ -10,7 +10,7 @@ mod ranges;
 pub mod steps;
 
 pub use faults::QueueFault;
-pub use layout::{Queue, queue_size_is_greatest, queues_are_laid_out};
+pub use layout::{Queue, frames_have_places, queue_size_is_greatest, queues_are_laid_out};
 pub use ranges::{FieldName, Refused, need_event};
 
 #[cfg(test)]

@@ -3,7 +3,8 @@ ghost use Rattle.std.specs.Prelude.{◌≤◌, ◌^◌};
 
 use crate::steps::{Note, Notes};
 use crate::{
-    FieldName, Queue, QueueFault, Refused, need_event, queue_size_is_greatest, queues_are_laid_out,
+    FieldName, Queue, QueueFault, Refused, frames_have_places, need_event, queue_size_is_greatest,
+    queues_are_laid_out,
 };
 use std::process::Abort;
 use std::test::Fail;
@@ -51,6 +52,11 @@ fn versions(rt: HostRuntime) {
     assert_eq!(rt; second.version(), 2);
     assert!(rt; second.has_events());
     assert_eq!(rt; second.room(), 466_816);
+    assert!(rt; !second.is_byte_ring());
+    let third = Queue::of_version(3, 16_384, 256).expect(&rt, "a queue");
+    assert!(rt; third.has_events());
+    assert!(rt; third.is_byte_ring());
+    assert_eq!(rt; (third.size(), third.limit()), (64, 64));
     assert_eq!(rt;
         Queue::of_version(2, 16_384, 255).err(),
         Some(QueueFault::BadMtu(255))
@@ -187,6 +193,7 @@ fn events(rt: HostRuntime) {
 fn laws_and_texts(rt: HostRuntime) -> Result<(), Fail> {
     queue_size_is_greatest();
     queues_are_laid_out();
+    frames_have_places();
     let mut notes = Notes::new();
     notes.push(Note::default());
     assert_eq!(rt; notes.as_slice(), [Note::Over].as_slice());

@@ -17,6 +17,6 @@ used_place-requires c = (found c.args.out c.in-Some.size (sym c.in-Some.ensures)
 
 pub invariant_of-result : goal.invariant_of-result
 invariant_of-result c =
-    kept c.args.version c.args.out c.args.mtu c.in-Some.size c.used_place.result c.ring_part-payload.result c.up64-slot.result c.min.result
+    kept c.args.version c.args.out c.args.mtu c.in-Some.size c.used_place.result c.ring_part-payload.result c.up64-slot.result c.limit.result
     c.requires.known (sym c.in-Some.ensures) (search rules) (search rules) c.requires.section
-    c.used_place.ensures c.ring_part-payload.ensures (c.up64-slot.ensures.value ∙ ap (λ m. up64 (18 + m)) c.from.ensures) c.if-room-slot.false c.min.ensures
+    c.used_place.ensures c.ring_part-payload.ensures (c.up64-slot.ensures.value ∙ ap (λ m. up64 (18 + m)) c.from.ensures) c.if-room-slot.false c.limit.ensures

@@ -4,14 +4,14 @@ use Rattle.std.specs.Prelude.{◌==◌, nat_le, if◌then◌else◌}
 use Rattle.link_handshake.specs.declared.Move.{Move}
 use Rattle.link_handshake.specs.declared.Move.TheVariants.{Stay, Set, ClearThenSet}
 use Rattle.link_handshake.specs.Standing.{move_of}
-use Rattle.split_ring.specs.Layout.{has_events, size_of, limit_of}
+use Rattle.split_ring.specs.Layout.{has_events, size_of}
 use Rattle.split_ring.specs.Spelling.{low_half, entry_half}
 use Rattle.call_grammar.specs.Steps.{Step}
 use Rattle.call_grammar.specs.Trees.{CallTree, Ended, Goes}
 use Rattle.call_grammar.specs.Ends.{End}
 use Rattle.call_grammar.specs.Words.{address_of, words_for}
 use Rattle.call_grammar.specs.Ticks.{Who, clear, set_state, after_tick}
-use Rattle.call_grammar.specs.Offers.{Job, descriptor_of, entry_of, asks_for, tell, fill, read_ids, returned_by}
+use Rattle.call_grammar.specs.Offers.{Job, finds_room, descriptor_of, entry_of, asks_for, tell, fill, read_ids, returned_by}
 use Rattle.call_grammar.specs.Polls.{is_entry, is_address, is_length, read_words, items, published_by, is_last, ask, look, poll}
 use Rattle.call_grammar.specs.Calls.{Call, Tick, Stop, Offer, Poll, in_run, job_of, tree_of}
 use Rattle.call_grammar.specs.Places.{Place, Closed, AtState, Clearing, Setting, Refusing, Downed, AtUsedIndex, AtUsedId, Filling, WritingLow, WritingHigh, WritingLength, WritingFlags, WritingEntry, WritingIndex, AtEvent, RingingOffer, AtAvailIndex, Arming, AtEntry, AtLow, AtHigh, AtLength, AtFlags, AtWord, GivingId, GivingLength, GivingIndex, RingingPoll, remaining, clear_place, tick_place, fill_place, ids_place, tell_place, none_place, items_place, words_place, first_place, next_place, step_at, is_open, PlacesFollowTrees}
@@ -39,8 +39,8 @@ fill_left who job at zero = refl
 fill_left who job at (suc more) = refl
 
 ids_left : (who : Who) (job : Job) (freed count : ℕ) → remaining who (ids_place who job freed count) ≡ read_ids who job freed count
-ids_left who job freed zero = chosen who (job.number == freed + limit_of who.sizes) Closed (fill_place job 0 (words_for (length job.frame))) ∙
-    both (job.number == freed + limit_of who.sizes) Ended Ended _ _ refl (fill_left who job 0 (words_for (length job.frame)))
+ids_left who job freed zero = chosen who (finds_room who job freed) (fill_place job 0 (words_for (length job.frame))) Closed ∙
+    both (finds_room who job freed) _ _ Ended Ended (fill_left who job 0 (words_for (length job.frame))) refl
 ids_left who job freed (suc more) = refl
 
 tell_left : (who : Who) (number : ℕ) → remaining who (tell_place who number) ≡ tell who number

@@ -2,10 +2,12 @@ pub mod Cuts
 pub mod TickLists
 pub mod OfferLists
 pub mod PollLists
+pub mod Lengths
 pub mod Lists
 pub mod Phases
 pub mod AutomaticRounds
 pub mod Reaching
+pub mod Returning
 pub mod Rowing
 pub mod Following
 pub mod Bounding

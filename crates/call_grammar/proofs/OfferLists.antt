@@ -5,13 +5,13 @@ use Rattle.std.proofs.lemmas.Bool.Decides.{nat_tests}
 use mathlib.Core.Logic.{dite}
 use native.Mathlib.Decide.{dec_lt}
 use Rattle.split_ring.specs.declared.ranges.FieldName.TheVariants as field_name
-use Rattle.split_ring.specs.Layout.{has_events, limit_of}
+use Rattle.split_ring.specs.Layout.{has_events}
 use Rattle.split_ring.specs.Spelling.{low_half, high_half}
 use Rattle.call_grammar.specs.Steps.{Step, Mark, Full, Over}
 use Rattle.call_grammar.specs.Trees.{CallTree, Ended, Makes}
 use Rattle.call_grammar.specs.Ticks.{Who, set_state, state_step}
 use Rattle.call_grammar.specs.Words.{words_for}
-use Rattle.call_grammar.specs.Offers.{Job, descriptor_of, refusal, full_marks, ring, asks_for, hear, describe, fill, after_ids, read_ids, returned_by, reclaim_marks, offer, used_step, id_step, id_steps, refused_steps, fill_steps, publish_steps, ring_step, event_step, tell_steps, IsOffer}
+use Rattle.call_grammar.specs.Offers.{Job, finds_room, descriptor_of, refusal, full_marks, ring, asks_for, hear, describe, fill, after_ids, read_ids, returned_by, reclaim_marks, offer, used_step, id_step, id_steps, refused_steps, fill_steps, publish_steps, ring_step, event_step, tell_steps, IsOffer}
 use Rattle.call_grammar.proofs.TickLists.{set_listed}
 
 -- a test that holds or fails chooses
@@ -83,7 +83,7 @@ fill_made who job at (suc more) event = (refl, fill_made who job (at + 1) more e
 
 -- what an offer makes after its ids
 abbrev IsEnding : Who → Job → ℕ → List Step → Type 0
-IsEnding who job freed steps = ((job.number ≡ freed + limit_of who.sizes) × (steps ≡ [])) ⊎ ((job.number ≢ freed + limit_of who.sizes) × Published who job (fill_steps who job 0 (words_for (length job.frame))) steps)
+IsEnding who job freed steps = ((finds_room who job freed ≡ false) × (steps ≡ [])) ⊎ ((finds_room who job freed ≡ true) × Published who job (fill_steps who job 0 (words_for (length job.frame))) steps)
 
 -- what an offer makes from so many ids on: the rest of a good offer, or the ids up to one that is wrong
 abbrev IdsListed : Who → Job → (freed count total : ℕ) → List Step → Type 0
@@ -91,9 +91,9 @@ IdsListed who job freed count total steps =
     ((after : List Step) × (IsEnding who job total after) × (steps ≡ id_steps who freed count (full_marks who job total) ++ after)) ⊎
     ((passed : ℕ) × (at : ℕ) × (id : ℕ) × (at ≡ freed + passed) × (passed < count) × (id ≢ descriptor_of who at) × (steps ≡ id_steps who freed passed [] ++ refused_steps (id_step who at id (refusal field_name.UsedId id))))
 
-ending : (who : Who) (job : Job) (freed : ℕ) (b : Bool) (steps : List Step) → (job.number == freed + limit_of who.sizes) ≡ b → Makes (if b then Ended else fill who job 0 (words_for (length job.frame))) steps → IsEnding who job freed steps
-ending who job freed true steps is m = inl (grind (arith, nat_tests), m)
-ending who job freed false steps is m = inr ((λ e. grind (arith, nat_tests)), fill_listed who job 0 (words_for (length job.frame)) steps m)
+ending : (who : Who) (job : Job) (freed : ℕ) (b : Bool) (steps : List Step) → finds_room who job freed ≡ b → Makes (if b then fill who job 0 (words_for (length job.frame)) else Ended) steps → IsEnding who job freed steps
+ending who job freed true steps is m = inr (is, fill_listed who job 0 (words_for (length job.frame)) steps m)
+ending who job freed false steps is m = inl (is, m)
 
 -- the marks of an id, where the count of freed frames after the last one is known
 last_marks : (who : Who) (job : Job) (freed more total : ℕ) → total ≡ freed + suc more → (if more == 0 then full_marks who job (freed + 1) else []) ≡ (if more == 0 then full_marks who job total else [])
@@ -138,12 +138,12 @@ id_listed who job freed more total value step steps is false test first later ot
 
 ids_listed : (who : Who) (job : Job) (freed count total : ℕ) (steps : List Step) → total ≡ freed + count → Makes (read_ids who job freed count) steps → IdsListed who job freed count total steps
 ids_listed who job freed zero total steps is m = let same : freed ≡ total = omega arith in
-    inl (steps, subst (λ k. IsEnding who job k steps) same (ending who job freed (job.number == freed + limit_of who.sizes) steps refl m), refl)
+    inl (steps, subst (λ k. IsEnding who job k steps) same (ending who job freed (finds_room who job freed) steps refl m), refl)
 ids_listed who job freed (suc more) total [] is m = absurd m
 ids_listed who job freed (suc more) total (step ∷ steps) is m = id_listed who job freed more total m.0 step steps is (m.0 == descriptor_of who freed) refl m.1 m.2 (λ others made. ids_listed who job (freed + 1) more total others (omega arith) made)
 
-marks_none : (who : Who) (job : Job) (freed : ℕ) → job.number ≢ freed + limit_of who.sizes → full_marks who job freed ≡ []
-marks_none who job freed ne = no (job.number == freed + limit_of who.sizes) (Full ∷ []) [] (grind (arith, nat_tests))
+marks_none : (who : Who) (job : Job) (freed : ℕ) → finds_room who job freed ≡ true → full_marks who job freed ≡ []
+marks_none who job freed room = yes (finds_room who job freed) [] (Full ∷ []) room
 
 pub append_nil : (xs : List Step) → xs ++ [] ≡ xs
 append_nil [] = refl
@@ -224,13 +224,13 @@ within_test d n le = grind (arith, nat_tests)
 pub beyond_test : (d n : ℕ) → (d ≤ n → ⊥) → nat_le d n ≡ false
 beyond_test d n beyond = dite (dec_lt n d) (λ lt. grind (arith, nat_tests)) (λ ge. absurd (beyond (omega arith)))
 
-full_ends : (who : Who) (job : Job) (freed : ℕ) → job.number ≡ freed + limit_of who.sizes → Makes (after_ids who job freed) []
-full_ends who job freed is = subst (λ (t : CallTree). Makes t []) (sym (yes (job.number == freed + limit_of who.sizes) Ended (fill who job 0 (words_for (length job.frame))) (eq-eqb _ _ is))) refl
+full_ends : (who : Who) (job : Job) (freed : ℕ) → finds_room who job freed ≡ false → Makes (after_ids who job freed) []
+full_ends who job freed is = subst (λ (t : CallTree). Makes t []) (sym (no (finds_room who job freed) (fill who job 0 (words_for (length job.frame))) Ended is)) refl
 
-room_fills : (who : Who) (job : Job) (freed event : ℕ) → job.number ≢ freed + limit_of who.sizes →
+room_fills : (who : Who) (job : Job) (freed event : ℕ) → finds_room who job freed ≡ true →
     Makes (after_ids who job freed) (fill_steps who job 0 (words_for (length job.frame)) ++ (publish_steps who job ++ tell_steps who job.number event))
-room_fills who job freed event ne = subst (λ (t : CallTree). Makes t (fill_steps who job 0 (words_for (length job.frame)) ++ (publish_steps who job ++ tell_steps who job.number event)))
-    (sym (no (job.number == freed + limit_of who.sizes) Ended (fill who job 0 (words_for (length job.frame))) (ne_eqb _ _ ne))) (fill_made who job 0 (words_for (length job.frame)) event)
+room_fills who job freed event room = subst (λ (t : CallTree). Makes t (fill_steps who job 0 (words_for (length job.frame)) ++ (publish_steps who job ++ tell_steps who job.number event)))
+    (sym (yes (finds_room who job freed) (fill who job 0 (words_for (length job.frame))) Ended room)) (fill_made who job 0 (words_for (length job.frame)) event)
 
 pub offer_made : (who : Who) (job : Job) (freed : ℕ) (steps : List Step) → IsOffer who job freed steps → Makes (offer who job freed) steps
 offer_made who job freed steps (inl r) = subst (λ (l : List Step). Makes (offer who job freed) l) (sym r.steps_are)

@@ -2,7 +2,7 @@
 use Rattle.std.proofs.Common.{◌≡◌, ℕ, zero, suc, ◌+◌, ◌-◌, ◌*◌, ◌%◌, ◌<◌, ◌≤◌, Bool, true, false, List, [], ◌∷◌, ◌++◌, length, refl, sym, subst, arith, inl, inr, All, length-append}
 use Rattle.std.specs.Prelude.{◌==◌, nat_le, if◌then◌else◌}
 use Rattle.std.proofs.lemmas.Nat.{mod_below}
-use Rattle.split_ring.specs.Layout.{Field, Address, Length, Flags, AvailableIndex, Entry, UsedIndex, Id, Amount, AvailableEvent, Slot, IsField, has_events, size_of, limit_of, slot_of, width_of, word_place}
+use Rattle.split_ring.specs.Layout.{Field, Address, Length, Flags, AvailableIndex, Entry, UsedIndex, Id, Amount, AvailableEvent, IsField, has_events, size_of, limit_of, width_of, word_place}
 use Rattle.split_ring.specs.Spelling.{low_half, entry_half}
 use Rattle.split_ring.proofs.Bounds.{bounds}
 use Rattle.split_ring.proofs.Places.{places_lem}
@@ -17,7 +17,8 @@ use Rattle.call_grammar.specs.Trees.{CallTree, Ended, Does, Reads, Goes, GoesAlo
 use Rattle.call_grammar.specs.Ends.{End}
 use Rattle.call_grammar.specs.Ticks.{Who, clear, set_state, after_tick}
 use Rattle.call_grammar.specs.Words.{address_of, words_for}
-use Rattle.call_grammar.specs.Offers.{Job, entry_of, descriptor_of, ring, asks_for, hear, tell, fill, read_ids, returned_by, offer}
+use Rattle.call_grammar.specs.Offers.{Job, start_at, finds_room, entry_of, descriptor_of, ring, asks_for, hear, tell, fill, read_ids, returned_by, offer}
+use Rattle.call_grammar.proofs.Lengths.{words_fit}
 use Rattle.call_grammar.specs.Polls.{is_entry, is_address, is_length, read_words, read_flags, read_length, read_low, item, items, published_by, is_last, look, ask, poll}
 use Rattle.call_grammar.proofs.PollLists.{entry_tells, address_tells, length_tells}
 use Rattle.call_grammar.specs.Calls.{Call, Tick, Stop, Offer, Poll, in_run, job_of, down, tree_of}
@@ -69,7 +70,7 @@ tell_stays who has number = choice who (has_events who.sizes) (hear who number) 
   λ value. choice who (asks_for (low_half value) number) (ring who) Ended (λ _. (refl, tt)) tt,
 )) (refl, tt)
 
-fill_stays : (who : Who) → HasSections who → (job : Job) (at more : ℕ) → 4 * (at + more) ≤ slot_of who.sizes → StaysInReach who (fill who job at more)
+fill_stays : (who : Who) → HasSections who → (job : Job) (at more : ℕ) → start_at who job + 4 * (at + more) ≤ who.sizes.out → StaysInReach who (fill who job at more)
 fill_stays who has job at zero room = let i = in_table who has job.number in (
   first_own who has (Address (descriptor_of who job.number)) i (omega arith),
   (
@@ -87,19 +88,19 @@ fill_stays who has job at zero room = let i = in_table who has job.number in (
   ),
 )
 fill_stays who has job at (suc more) room =
-    (own_word who has (Slot (descriptor_of who job.number)) at (in_slots who has job.number) (omega arith), fill_stays who has job (at + 1) more (omega arith))
+    (let words = has.words in (omega arith, omega arith), fill_stays who has job (at + 1) more (omega arith))
 
-ids_stay : (who : Who) → HasSections who → (job : Job) (freed more : ℕ) → 4 * words_for (length job.frame) ≤ slot_of who.sizes → StaysInReach who (read_ids who job freed more)
-ids_stay who has job freed zero room = choice who (job.number == freed + limit_of who.sizes) Ended (fill who job 0 (words_for (length job.frame))) (λ _. tt) (fill_stays who has job 0 (words_for (length job.frame)) (omega arith))
+ids_stay : (who : Who) → HasSections who → (job : Job) (freed more : ℕ) → start_at who job + 4 * words_for (length job.frame) ≤ who.sizes.out → StaysInReach who (read_ids who job freed more)
+ids_stay who has job freed zero room = choice who (finds_room who job freed) (fill who job 0 (words_for (length job.frame))) Ended (λ _. fill_stays who has job 0 (words_for (length job.frame)) (omega arith)) tt
 ids_stay who has job freed (suc more) room = (
   first_their who has (Id (entry_of who freed)) (in_ring who has freed) (omega arith),
   λ value. choice who (value == descriptor_of who freed) (read_ids who job (freed + 1) more) (set_state 0) (λ _. ids_stay who has job (freed + 1) more room) (tt, tt),
 )
 
-offer_stays : (who : Who) → HasSections who → (job : Job) (freed : ℕ) → length job.frame ≤ who.sizes.mtu + 18 → StaysInReach who (offer who job freed)
+offer_stays : (who : Who) → HasSections who → (job : Job) (freed : ℕ) → start_at who job + 4 * words_for (length job.frame) ≤ who.sizes.out → StaysInReach who (offer who job freed)
 offer_stays who has job freed fits = (
   first_their who has UsedIndex tt (omega arith),
-  λ value. choice who (nat_le (returned_by freed value) (job.number - freed)) (read_ids who job freed (returned_by freed value)) (set_state 0) (λ _. ids_stay who has job freed (returned_by freed value) (omega arith)) (tt, tt),
+  λ value. choice who (nat_le (returned_by freed value) (job.number - freed)) (read_ids who job freed (returned_by freed value)) (set_state 0) (λ _. ids_stay who has job freed (returned_by freed value) fits) (tt, tt),
 )
 
 words_stay : (who : Who) → HasSections who → (number entry address bytes : ℕ) (read : List ℕ) (more : ℕ) (after : CallTree) → address % 4 ≡ 0 → address + bytes ≤ who.sizes.out → length read + more ≡ words_for bytes → StaysInReach who after → StaysInReach who (read_words who number entry address bytes read more after)
@@ -147,7 +148,7 @@ poll_stays who has taken false = look_stays who has taken false (ask who taken (
 pub call_stays : (who : Who) (end : End) (call : Call) → HasSections who → IsGiven who call → StaysInReach who (tree_of who end call)
 call_stays who end Tick has given = (inl refl, λ value. after_tick_stays who (move_of end.handshake value))
 call_stays who end Stop has given = (tt, tt)
-call_stays who end (Offer frame) has given = choice who (in_run end.handshake.phase) (offer who (job_of who end frame) end.freed) down (λ _. offer_stays who has (job_of who end frame) end.freed given.1) (tt, tt)
+call_stays who end (Offer frame) has given = choice who (in_run end.handshake.phase) (offer who (job_of who end frame) end.freed) down (λ _. offer_stays who has (job_of who end frame) end.freed (words_fit who end frame has given.1)) (tt, tt)
 call_stays who end Poll has given = choice who (in_run end.handshake.phase) (poll who (length end.delivered) (is_last who end.found_none)) down (λ _. poll_stays who has (length end.delivered) (is_last who end.found_none)) (tt, tt)
 
 reach_of : (who : Who) (a : Access) → MayDo who a → InReach who a

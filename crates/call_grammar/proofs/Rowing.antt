@@ -2,7 +2,7 @@
 use Rattle.std.proofs.Common.{◌≡◌, ℕ, zero, suc, ◌+◌, ◌-◌, true, false, Bool, List, [], ◌∷◌, ◌++◌, length, refl, sym, subst, inl, inr}
 use Rattle.std.specs.Prelude.{◌==◌, nat_le, if◌then◌else◌}
 use Rattle.split_ring.specs.declared.ranges.FieldName.TheVariants as field_name
-use Rattle.split_ring.specs.Layout.{has_events, size_of, limit_of, word_place, AvailableIndex, UsedIndex, Id}
+use Rattle.split_ring.specs.Layout.{has_events, size_of, word_place, AvailableIndex, UsedIndex, Id}
 use Rattle.split_ring.specs.Spelling.{low_half, high_half, entry_half}
 use Rattle.link_handshake.specs.declared.Phase.{Phase}
 use Rattle.link_handshake.specs.Standing.{move_of}
@@ -16,7 +16,7 @@ use Rattle.call_grammar.specs.Trees.{CallTree, Ended, Does, Reads, Goes}
 use Rattle.call_grammar.specs.Ends.{End}
 use Rattle.call_grammar.specs.Ticks.{Who, clear, set_state, tick_marks, after_tick}
 use Rattle.call_grammar.specs.Words.{address_of, words_for, frame_in}
-use Rattle.call_grammar.specs.Offers.{Job, entry_of, descriptor_of, refusal, full_marks, ring, asks_for, hear, tell, fill, read_ids, returned_by, reclaim_marks, offer}
+use Rattle.call_grammar.specs.Offers.{Job, finds_room, entry_of, descriptor_of, refusal, full_marks, ring, asks_for, hear, tell, fill, read_ids, returned_by, reclaim_marks, offer}
 use Rattle.call_grammar.specs.Polls.{is_entry, is_address, is_length, read_words, read_flags, read_length, read_high, read_low, item, items, published_by, is_last, look_marks, look, ask, poll}
 use Rattle.call_grammar.specs.Calls.{Call, Tick, Stop, Offer, Poll, in_run, job_of, down, tree_of}
 use Rattle.call_grammar.specs.Rows.{MovesTo, phase_with, seen_with, SeesTheOther, RowHolds, KeepsRows, CallsKeepRows}
@@ -60,7 +60,7 @@ back_off : (who : Who) (phase : Phase) (seen : ℕ) → KeepsRows who phase seen
 back_off who phase seen = ((inl refl, tt), tt)
 
 full_sees : (who : Who) (word value : ℕ) (job : Job) (freed : ℕ) → SeesTheOther who word value (full_marks who job freed)
-full_sees who word value job freed = blind who word value (job.number == freed + limit_of who.sizes) (Full ∷ []) [] tt tt
+full_sees who word value job freed = blind who word value (finds_room who job freed) [] (Full ∷ []) tt tt
 
 tell_keeps : (who : Who) (phase : Phase) (seen number : ℕ) → KeepsRows who phase seen (tell who number)
 tell_keeps who phase seen number = either who phase seen (has_events who.sizes) (hear who number) (ring who) (λ value. (
@@ -73,7 +73,7 @@ fill_keeps who phase seen job at zero = (tt, (tt, (tt, (tt, (tt, (tt, tell_keeps
 fill_keeps who phase seen job at (suc more) = (tt, fill_keeps who phase seen job (at + 1) more)
 
 ids_keep : (who : Who) (phase : Phase) (job : Job) (freed more seen : ℕ) → KeepsRows who phase seen (read_ids who job freed more)
-ids_keep who phase job freed zero seen = either who phase seen (job.number == freed + limit_of who.sizes) Ended (fill who job 0 (words_for (length job.frame))) tt (fill_keeps who phase seen job 0 (words_for (length job.frame)))
+ids_keep who phase job freed zero seen = either who phase seen (finds_room who job freed) (fill who job 0 (words_for (length job.frame))) Ended (fill_keeps who phase seen job 0 (words_for (length job.frame))) tt
 ids_keep who phase job freed (suc more) seen = λ value. let word = who.theirs + word_place who.sizes (Id (entry_of who freed)) in (
   blind who word value (value == descriptor_of who freed) (if more == 0 then full_marks who job (freed + 1) else []) (refusal field_name.UsedId value)
       (blind who word value (more == 0) (full_marks who job (freed + 1)) [] (full_sees who word value job (freed + 1)) tt) tt,

@@ -6,7 +6,7 @@ use Rattle.std.proofs.lemmas.List.Elements.{All-nil, All-cons}
 use Rattle.link_handshake.specs.Standing.{move_of}
 use Rattle.link_handshake.specs.declared.Move.{Move}
 use Rattle.link_handshake.specs.declared.Move.TheVariants.{Stay, Set, ClearThenSet}
-use Rattle.split_ring.specs.Layout.{has_events, size_of, limit_of, payload_of, word_place, Entry, Id, AvailableEvent}
+use Rattle.split_ring.specs.Layout.{has_events, size_of, payload_of, word_place, Entry, Id, AvailableEvent}
 use Rattle.split_ring.specs.Spelling.{low_half, high_half, entry_half}
 use Rattle.split_ring.specs.declared.ranges.FieldName.TheVariants as field_name
 use Rattle.split_ring.proofs.Bounds.{bounds}
@@ -15,7 +15,7 @@ use Rattle.call_grammar.specs.Trees.{CallTree, Ended, Does, Reads, Goes, GoesAlo
 use Rattle.call_grammar.specs.Ends.{End}
 use Rattle.call_grammar.specs.Ticks.{Who, clear, set_state, other_state, tick_marks, after_tick}
 use Rattle.call_grammar.specs.Words.{address_of, words_for, frame_in}
-use Rattle.call_grammar.specs.Offers.{Job, entry_of, descriptor_of, refusal, full_marks, ring, asks_for, hear, tell, fill, id_marks, read_ids, returned_by, reclaim_marks, used_marks, offer}
+use Rattle.call_grammar.specs.Offers.{Job, finds_room, entry_of, descriptor_of, refusal, full_marks, ring, asks_for, hear, tell, fill, id_marks, read_ids, returned_by, reclaim_marks, used_marks, offer}
 use Rattle.call_grammar.specs.Polls.{is_entry, is_address, is_length, read_words, read_flags, read_length, read_low, item, items, published_by, is_last, look_marks, available_marks, after_look, look, ask, poll}
 use Rattle.call_grammar.specs.Calls.{Call, Tick, Stop, Offer, Poll, in_run, job_of, down, tree_of}
 use Rattle.call_grammar.specs.Reach.{HasSections}
@@ -62,7 +62,7 @@ either who true t u words first second = first
 either who false t u words first second = second
 
 full_uses : (who : Who) (job : Job) (freed : ℕ) → indexes_used who (full_marks who job freed) ≡ []
-full_uses who job freed = either who (job.number == freed + limit_of who.sizes) (Full ∷ []) [] [] refl refl
+full_uses who job freed = either who (finds_room who job freed) [] (Full ∷ []) [] refl refl
 
 tick_uses : (who : Who) (value : ℕ) (move : Move) → indexes_used who (tick_marks value move) ≡ []
 tick_uses who value Stay = refl
@@ -121,7 +121,7 @@ id_apart : (who : Who) (freed : ℕ) → index_at who (who.theirs + word_place w
 id_apart who freed = at_no_index who _ (λ e. omega (arith, e)) (λ e. omega (arith, e))
 
 ids_use : (who : Who) → HasSections who → (job : Job) (freed more : ℕ) → UsesReads who (read_ids who job freed more)
-ids_use who has job freed zero = choice who (job.number == freed + limit_of who.sizes) Ended (fill who job 0 (words_for (length job.frame))) (λ _. tt) (fill_uses who has job 0 (words_for (length job.frame)))
+ids_use who has job freed zero = choice who (finds_room who job freed) (fill who job 0 (words_for (length job.frame))) Ended (λ _. fill_uses who has job 0 (words_for (length job.frame))) tt
 ids_use who has job freed (suc more) = λ value. (
   id_apart who freed ∙ sym (id_uses who job freed more value),
   choice who (value == descriptor_of who freed) (read_ids who job (freed + 1) more) (set_state 0) (λ _. ids_use who has job (freed + 1) more) (refl, tt),

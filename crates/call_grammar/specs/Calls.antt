@@ -1,5 +1,5 @@
 -- The call grammar: which steps a call of a link peer takes (profile), as a tree and as a table of lists.
-use Rattle.std.specs.Prelude.{ℕ, ◌≡◌, ◌≢◌, ◌+◌, Bool, true, false, if◌then◌else◌, List, [], ◌∷◌, length}
+use Rattle.std.specs.Prelude.{ℕ, ◌≡◌, ◌≢◌, ◌+◌, Bool, true, false, if◌then◌else◌, List, [], ◌∷◌, ◌++◌, length}
 use Rattle.link_handshake.specs.declared.Phase.{Phase}
 use Rattle.link_handshake.specs.declared.Phase.TheVariants.{Run}
 use Rattle.split_ring.specs.declared.steps.Access.TheVariants.{Nothing}
@@ -10,6 +10,7 @@ use Rattle.link_handshake.specs.Standing.{move_of}
 use Rattle.call_grammar.specs.Ends.{End}
 pub use Rattle.call_grammar.specs.Ticks.{Who}
 use Rattle.call_grammar.specs.Ticks.{tick, set_state, tick_steps, state_step}
+use Rattle.call_grammar.specs.Words.{lengths_of}
 use Rattle.call_grammar.specs.Offers.{Job, entry_of, offer, IsOffer}
 use Rattle.call_grammar.specs.Polls.{is_last, poll, IsPoll}
 
@@ -30,6 +31,7 @@ abbrev pub job_of : Who → End → List ℕ → Job
 job_of who end frame = record {
   frame = frame;
   number = length end.accepted;
+  lengths = lengths_of (end.accepted ++ frame ∷ []);
   beside = end.written (who.own + word_place who.sizes (Entry (entry_of who (length end.accepted))));
 }
 

@@ -7,6 +7,7 @@ pub mod Offers
 pub mod Polls
 pub mod Calls
 pub mod Reach
+pub mod Returning
 pub mod Rows
 pub mod Places
 pub mod Plays

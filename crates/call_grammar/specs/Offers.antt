@@ -1,11 +1,12 @@
 -- An offer in RUN: how a peer frees what was returned and publishes a frame (VIRTIO 1.1, section 2.6.13: supplying buffers to the device;
 -- the order of accesses, one each step, and the limit in flight: profile), as a tree and as a table of lists.
-use Rattle.std.specs.Prelude.{ℕ, zero, suc, ◌≡◌, ◌≢◌, ◌+◌, ◌-◌, ◌%◌, ◌<◌, ◌==◌, nat_le, Bool, ◌⊎◌, if◌then◌else◌, List, [], ◌∷◌, ◌++◌, length}
+use Rattle.std.specs.Prelude.{ℕ, zero, suc, ◌≡◌, ◌+◌, ◌-◌, ◌/◌, ◌%◌, ◌<◌, ◌==◌, nat_le, Bool, true, false, ◌⊎◌, if◌then◌else◌, List, [], ◌∷◌, ◌++◌, length}
 use Rattle.ivs_base.specs.Numbers.{distance}
 use Rattle.split_ring.specs.declared.ranges.FieldName.{FieldName}
 use Rattle.split_ring.specs.declared.ranges.FieldName.TheVariants as field_name
 use Rattle.split_ring.specs.declared.steps.Access.TheVariants.{Read, Write, Ring}
-use Rattle.split_ring.specs.Layout.{has_events, size_of, limit_of, place_of, word_place, Address, Length, Flags, AvailableIndex, Entry, UsedIndex, Id, AvailableEvent, Slot}
+use Rattle.split_ring.specs.Layout.{has_events, size_of, limit_of, word_place, Address, Length, Flags, AvailableIndex, Entry, UsedIndex, Id, AvailableEvent}
+use Rattle.split_ring.specs.Frames.{start_of, has_room}
 use Rattle.split_ring.specs.Spelling.{low_half, high_half}
 use Rattle.split_ring.specs.Ranges.{IsUsedIndex, IsUsedId, needs_event}
 use Rattle.call_grammar.specs.Steps.{Mark, Reclaim, Full, Accept, Refuse, Over, Step, step_of}
@@ -13,10 +14,12 @@ use Rattle.call_grammar.specs.Trees.{CallTree, Ended, Does, Reads}
 use Rattle.call_grammar.specs.Ticks.{Who, set_state, state_step}
 use Rattle.call_grammar.specs.Words.{index_word, with_entry, words_for, frame_word}
 
--- what an offer is to publish: the frame, its number in the session, and the word that holds the frame's entry as the end wrote it last
+-- what an offer is to publish: the frame, its number in the session, the lengths of the session's frames up to it, by their numbers, and the word
+-- that holds the frame's entry as the end wrote it last
 pub record Job : Type 0 where
   pub frame : List ℕ
   pub number : ℕ
+  pub lengths : ℕ → ℕ
   pub beside : ℕ
 
 -- the descriptor of the frame with this number, and the place of its entry in the ring
@@ -30,9 +33,17 @@ entry_of who number = number % size_of who.sizes
 abbrev pub refusal : FieldName → ℕ → List Mark
 refusal field value = Refuse record { field = field; value = value } ∷ []
 
--- so many frames may be in flight: an offer that finds them in flight is over
+-- the byte of the section at which the frame starts
+abbrev pub start_at : Who → Job → ℕ
+start_at who job = start_of who.sizes job.lengths job.number
+
+-- the frame has room where so many frames were freed
+abbrev pub finds_room : Who → Job → ℕ → Bool
+finds_room who job freed = has_room who.sizes job.lengths freed job.number
+
+-- an offer that finds no room is over
 abbrev pub full_marks : Who → Job → ℕ → List Mark
-full_marks who job freed = if job.number == freed + limit_of who.sizes then Full ∷ [] else []
+full_marks who job freed = if finds_room who job freed then [] else Full ∷ []
 
 -- The tree of an offer, from its end on
 
@@ -86,19 +97,19 @@ describe_high who job =
 
 abbrev pub describe : Who → Job → CallTree
 describe who job =
-    Does (Write (who.own + word_place who.sizes (Address (descriptor_of who job.number))) (place_of who.sizes (Slot (descriptor_of who job.number))))
+    Does (Write (who.own + word_place who.sizes (Address (descriptor_of who job.number))) (start_at who job))
     [] (describe_high who job)
 
--- so many words of the frame from this one on, each to its place in the slot
+-- so many words of the frame from this one on, each to its place in the data area
 abbrev pub fill : Who → Job → ℕ → ℕ → CallTree
 fill who job at zero = describe who job
 fill who job at (suc more) =
-    Does (Write (who.own + word_place who.sizes (Slot (descriptor_of who job.number)) + at) (frame_word job.frame at))
+    Does (Write (who.own + start_at who job / 4 + at) (frame_word job.frame at))
     [] (fill who job (at + 1) more)
 
--- the end of the reads: the offer is over where as many frames as may be are in flight
+-- the end of the reads: the offer is over where the frame has no room
 abbrev pub after_ids : Who → Job → ℕ → CallTree
-after_ids who job freed = if job.number == freed + limit_of who.sizes then Ended else fill who job 0 (words_for (length job.frame))
+after_ids who job freed = if finds_room who job freed then fill who job 0 (words_for (length job.frame)) else Ended
 
 -- the marks of the read of an id, with so many more to come
 abbrev pub id_marks : Who → Job → (freed more : ℕ) → ℕ → List Mark
@@ -163,13 +174,13 @@ write_step word written marks = step_of (Write word written) 0 marks
 abbrev pub fill_steps : Who → Job → ℕ → ℕ → List Step
 fill_steps who job at zero = []
 fill_steps who job at (suc more) =
-    write_step (who.own + word_place who.sizes (Slot (descriptor_of who job.number)) + at) (frame_word job.frame at) [] ∷
+    write_step (who.own + start_at who job / 4 + at) (frame_word job.frame at) [] ∷
     fill_steps who job (at + 1) more
 
 -- the descriptor, the entry and the index
 abbrev pub publish_steps : Who → Job → List Step
 publish_steps who job =
-    write_step (who.own + word_place who.sizes (Address (descriptor_of who job.number))) (place_of who.sizes (Slot (descriptor_of who job.number))) [] ∷
+    write_step (who.own + word_place who.sizes (Address (descriptor_of who job.number))) (start_at who job) [] ∷
     write_step (who.own + word_place who.sizes (Address (descriptor_of who job.number)) + 1) 0 [] ∷
     write_step (who.own + word_place who.sizes (Length (descriptor_of who job.number))) (length job.frame) [] ∷
     write_step (who.own + word_place who.sizes (Flags (descriptor_of who job.number))) 0 [] ∷
@@ -190,8 +201,8 @@ tell_steps who number value =
     then event_step who number value ∷ (if asks_for (low_half value) number then ring_step who (Over ∷ []) ∷ [] else [])
     else ring_step who (Over ∷ []) ∷ []
 
--- the reads of an offer that finds so many returned frames: the used index, then their ids in order, with `full` on the last where so
--- many are in flight still
+-- the reads of an offer that finds so many returned frames: the used index, then their ids in order, with `full` on the last where the
+-- frame has no room then
 abbrev pub reclaim_steps : Who → Job → ℕ → ℕ → List Step
 reclaim_steps who job freed value =
     used_step who value (reclaim_marks who job freed (returned_by freed value)) ∷
@@ -214,18 +225,18 @@ pub record RefusesUsedId (who : Who) (job : Job) (freed : ℕ) (steps : List Ste
   pub steps_are : steps ≡ used_step who value (reclaim_marks who job freed (returned_by freed value)) ∷
       (id_steps who freed passed [] ++ refused_steps (id_step who (freed + passed) id (refusal field_name.UsedId id)))
 
--- as many as may be are in flight still
+-- the frame has no room
 pub record MeetsFull (who : Who) (job : Job) (freed : ℕ) (steps : List Step) : Type 0 where
   pub value : ℕ
   pub within : IsUsedIndex (freed % 65536) (high_half value) (job.number - freed)
-  pub full : job.number ≡ freed + returned_by freed value + limit_of who.sizes
+  pub full : finds_room who job (freed + returned_by freed value) ≡ false
   pub steps_are : steps ≡ reclaim_steps who job freed value
 
 -- the frame is accepted
 pub record IsAccepted (who : Who) (job : Job) (freed : ℕ) (steps : List Step) : Type 0 where
   pub value : ℕ
   pub within : IsUsedIndex (freed % 65536) (high_half value) (job.number - freed)
-  pub room : job.number ≢ freed + returned_by freed value + limit_of who.sizes
+  pub room : finds_room who job (freed + returned_by freed value) ≡ true
   pub event : ℕ
   pub steps_are : steps ≡ reclaim_steps who job freed value ++
       (fill_steps who job 0 (words_for (length job.frame)) ++ (publish_steps who job ++ tell_steps who job.number event))

@@ -5,14 +5,14 @@ use Rattle.link_handshake.specs.declared.Move.TheVariants.{Stay, Set, ClearThenS
 use Rattle.link_handshake.specs.Standing.{Standing, move_of}
 use Rattle.split_ring.specs.declared.steps.Access.{Access}
 use Rattle.split_ring.specs.declared.steps.Access.TheVariants as access
-use Rattle.split_ring.specs.Layout.{has_events, size_of, limit_of, place_of, word_place, Address, Length, Flags, AvailableIndex, Entry, UsedIndex, Id, Amount, AvailableEvent, Slot}
+use Rattle.split_ring.specs.Layout.{has_events, size_of, word_place, Address, Length, Flags, AvailableIndex, Entry, UsedIndex, Id, Amount, AvailableEvent}
 use Rattle.split_ring.specs.Spelling.{low_half}
 use Rattle.call_grammar.specs.Steps.{Mark, Over, Accept, Deliver, Return, Done, Down, Step, step_of}
 use Rattle.call_grammar.specs.Trees.{CallTree, Ended, Reads, Goes}
 use Rattle.call_grammar.specs.Ends.{End}
 use Rattle.call_grammar.specs.Words.{index_word, address_of, words_for, frame_word, frame_in}
 use Rattle.call_grammar.specs.Ticks.{Who, clear, set_state, other_state, tick_marks, after_tick}
-use Rattle.call_grammar.specs.Offers.{Job, descriptor_of, entry_of, entry_written, ring, asks_for, event_marks, hear, publish, enter, describe_flags, describe_length, describe_high, describe, fill, id_marks, read_ids, returned_by, used_marks, offer}
+use Rattle.call_grammar.specs.Offers.{Job, start_at, finds_room, descriptor_of, entry_of, entry_written, ring, asks_for, event_marks, hear, publish, enter, describe_flags, describe_length, describe_high, describe, fill, id_marks, read_ids, returned_by, used_marks, offer}
 use Rattle.call_grammar.specs.Polls.{is_entry, is_address, is_length, entry_in, entry_marks, address_marks, length_marks, flags_marks, return_index, return_length, give_back, read_words, read_flags, read_length, read_high, read_low, item, ring_back, items, published_by, is_last, available_marks, ask, look, poll}
 use Rattle.call_grammar.specs.Calls.{Call, Tick, Stop, Offer, Poll, in_run, job_of, down, tree_of}
 
@@ -102,7 +102,7 @@ fill_place job at zero = WritingLow job
 fill_place job at (suc more) = Filling job at more
 
 abbrev pub ids_place : Who → Job → (freed count : ℕ) → Place
-ids_place who job freed zero = if job.number == freed + limit_of who.sizes then Closed else fill_place job 0 (words_for (length job.frame))
+ids_place who job freed zero = if finds_room who job freed then fill_place job 0 (words_for (length job.frame)) else Closed
 ids_place who job freed (suc more) = AtUsedId job freed more
 
 -- after its index a frame is told to the other
@@ -139,9 +139,9 @@ access_at who Downed = access.Nothing
 access_at who (AtUsedIndex job freed) = access.Read (who.theirs + word_place who.sizes UsedIndex)
 access_at who (AtUsedId job freed more) = access.Read (who.theirs + word_place who.sizes (Id (entry_of who freed)))
 access_at who (Filling job at more) =
-    access.Write (who.own + word_place who.sizes (Slot (descriptor_of who job.number)) + at) (frame_word job.frame at)
+    access.Write (who.own + start_at who job / 4 + at) (frame_word job.frame at)
 access_at who (WritingLow job) =
-    access.Write (who.own + word_place who.sizes (Address (descriptor_of who job.number))) (place_of who.sizes (Slot (descriptor_of who job.number)))
+    access.Write (who.own + word_place who.sizes (Address (descriptor_of who job.number))) (start_at who job)
 access_at who (WritingHigh job) = access.Write (who.own + word_place who.sizes (Address (descriptor_of who job.number)) + 1) 0
 access_at who (WritingLength job) = access.Write (who.own + word_place who.sizes (Length (descriptor_of who job.number))) (length job.frame)
 access_at who (WritingFlags job) = access.Write (who.own + word_place who.sizes (Flags (descriptor_of who job.number))) 0

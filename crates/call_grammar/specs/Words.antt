@@ -1,5 +1,5 @@
 -- Words, the fields in them, and frames as words (VIRTIO 1.1, section 2.6: fields are little-endian).
-use Rattle.std.specs.Prelude.{ℕ, ◌+◌, ◌*◌, ◌/◌, ◌%◌, ◌==◌, if◌then◌else◌, List, [], ◌∷◌, take, drop, flat_map}
+use Rattle.std.specs.Prelude.{ℕ, ◌+◌, ◌*◌, ◌/◌, ◌%◌, ◌==◌, if◌then◌else◌, List, [], ◌∷◌, take, drop, flat_map, length, get_or}
 use Rattle.ivs_base.specs.Numbers.{word_of}
 
 -- the word of an index that the end writes: the flags beside it are 0
@@ -17,6 +17,10 @@ address_of low high = low + 4294967296 * high
 -- the words that so many bytes take
 abbrev pub words_for : ℕ → ℕ
 words_for bytes = (bytes + 3) / 4
+
+-- the lengths of these frames, by their numbers
+abbrev pub lengths_of : List (List ℕ) → ℕ → ℕ
+lengths_of frames k = length (get_or frames k [])
 
 -- word j of a frame: its bytes from 4j on, and 0 after its last
 abbrev pub frame_word : List ℕ → ℕ → ℕ

@@ -9,6 +9,7 @@ ghost use Rattle.call_grammar.specs.Ends.{PhaseFollowsState};
 ghost use Rattle.call_grammar.specs.Calls.{CallsAreLists, CallsTakeAStep};
 ghost use Rattle.call_grammar.specs.Automatic.{RoundsKeepTheRule};
 ghost use Rattle.call_grammar.specs.Reach.{CallsStayInReach};
+ghost use Rattle.call_grammar.specs.Returning.{PollsThatReturnRing};
 ghost use Rattle.call_grammar.specs.Rows.{CallsKeepRows};
 ghost use Rattle.call_grammar.specs.Places.{PlacesFollowTrees};
 ghost use Rattle.call_grammar.specs.Plays.{PlayedAreCalls};
@@ -70,6 +71,12 @@ pub fn calls_meet_bounds()
 /// Each foreign field is read once for each item of a poll, each word once in an offer, and each index once for each use of it.
 pub fn fields_are_read_once()
     ensures { FieldsAreReadOnce }
+{}
+
+/// A finished poll that gave a frame back has the other peer's doorbell as its last step, unless it refused the link: so a peer whose offer found no
+/// room needs no event of its own to hear of it.
+pub fn polls_that_return_ring()
+    ensures { PollsThatReturnRing }
 {}
 
 /// The values read for one item of a poll spell the frame that it delivers, by the same definition as the words of a section.

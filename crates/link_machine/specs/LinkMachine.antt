@@ -4,11 +4,12 @@ use Rattle.link_handshake.specs.PhaseTable.{phase_at}
 use Rattle.split_ring.specs.declared.ranges.FieldName.{FieldName}
 use Rattle.split_ring.specs.declared.ranges.FieldName.TheVariants as field_name
 use Rattle.split_ring.specs.Layout.{Sizes, size_of, limit_of}
+use Rattle.split_ring.specs.Frames.{has_room}
 use Rattle.ivs_base.specs.Numbers.{distance}
 use Rattle.split_ring.specs.Spelling.{low_half, high_half, entry_half}
 use Rattle.split_ring.specs.Ranges.{IsAvailIndex, IsAvailEntry, IsDescAddress, IsDescLength, IsDescFlags, IsUsedIndex, IsUsedId}
 use Rattle.call_grammar.specs.Steps.{Mark, Saw, Reclaim, Full, Accept, Look, Deliver, Return, Done, Down, Refuse, Over}
-use Rattle.call_grammar.specs.Words.{address_of}
+use Rattle.call_grammar.specs.Words.{address_of, lengths_of}
 use Rattle.call_grammar.specs.Rows.{MovesTo}
 
 -- one side of the link: its state word; the value that it saw since it wrote its state last; whether it refused; the values that it read since its last mark or
@@ -96,16 +97,28 @@ IsBeyond sizes side field_name.UsedId value =
     (ids : List ℕ) × (side.read ≡ ids ++ value ∷ []) × (length ids < side.reclaimed) ×
     (¬ IsUsedId ((side.freed - side.reclaimed + length ids) % limit_of sizes) value)
 
+-- the frame has room behind those that the side accepted
+abbrev pub finds_room : Sizes → Side → List ℕ → Bool
+finds_room sizes side frame = has_room sizes (lengths_of (side.accepted ++ frame ∷ [])) side.freed (length side.accepted)
+
+-- a frame that may be offered has no room, and no more are in flight than may be: where there are slots, just as many as may be
+pub record IsFull (sizes : Sizes) (side : Side) : Type 0 where
+  pub frame : List ℕ
+  pub least : 14 ≤ length frame
+  pub most : length frame ≤ sizes.mtu + 18
+  pub none : finds_room sizes side frame ≡ false
+  pub in_flight : length side.accepted ≤ side.freed + limit_of sizes
+
 -- the row of a mark: where it is allowed to a side against an other that is honest or not, and what it makes of the side, whose reads begin anew. The marks of
 -- offers and polls come in RUN alone
 abbrev pub MarkRow : Sizes → Bool → Side → Side → Mark → Side → Type 0
 MarkRow sizes honest side other (Saw value) new = (side.read ≡ value ∷ []) × (value ≡ other.state) × (new ≡ record side { seen = Some value; read = [] })
 MarkRow sizes honest side other (Accept frame) new =
-    (side.state ≡ 3) × (length side.accepted < side.freed + limit_of sizes) × (new ≡ record side { accepted = side.accepted ++ frame ∷ []; read = [] })
+    (side.state ≡ 3) × (finds_room sizes side frame ≡ true) × (new ≡ record side { accepted = side.accepted ++ frame ∷ []; read = [] })
 MarkRow sizes honest side other (Reclaim count) new =
     (side.state ≡ 3) × ReadsIndex side side.freed count × MayReclaim honest side other count ×
     (new ≡ record side { freed = side.freed + count; reclaimed = count; read = [] })
-MarkRow sizes honest side other Full new = (side.state ≡ 3) × (length side.accepted ≡ side.freed + limit_of sizes) × (new ≡ record side { read = [] })
+MarkRow sizes honest side other Full new = (side.state ≡ 3) × IsFull sizes side × (new ≡ record side { read = [] })
 MarkRow sizes honest side other (Look count) new =
     (side.state ≡ 3) × ReadsIndex side (length side.delivered) count × MayLook sizes honest side other count ×
     (new ≡ record side { looked = length side.delivered + count; read = [] })

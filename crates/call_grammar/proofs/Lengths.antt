@@ -1,0 +1,28 @@
+-- The lengths of the frames of a session, one more and the ones before it.
+use Rattle.std.proofs.Common.{◌≡◌, ℕ, ◌+◌, ◌*◌, ◌<◌, ◌≤◌, List, [], ◌∷◌, ◌++◌, length, ap, arith}
+use Rattle.std.proofs.Math.ListN.{get_or-append}
+use Rattle.std.proofs.Math.Seq.{get_or-append_seam}
+use Rattle.split_ring.proofs.Frames.{frames_lem}
+use Rattle.call_grammar.specs.Words.{words_for, lengths_of}
+use Rattle.call_grammar.specs.Ends.{End}
+use Rattle.call_grammar.specs.Ticks.{Who}
+use Rattle.call_grammar.specs.Offers.{start_at}
+use Rattle.call_grammar.specs.Calls.{job_of}
+use Rattle.call_grammar.specs.Reach.{HasSections}
+
+pub last_length : (frames : List (List ℕ)) (frame : List ℕ) → lengths_of (frames ++ frame ∷ []) (length frames) ≡ length frame
+last_length frames frame = ap length (get_or-append_seam frames frame [] [])
+
+pub length_before : (frames : List (List ℕ)) (frame : List ℕ) (k : ℕ) → k < length frames → lengths_of (frames ++ frame ∷ []) k ≡ lengths_of frames k
+length_before frames frame k low = ap length (get_or-append frames (frame ∷ []) [] k low)
+
+-- the words of an offered frame lie in the section
+pub words_fit : (who : Who) (end : End) (frame : List ℕ) → HasSections who → length frame ≤ who.sizes.mtu + 18 →
+    start_at who (job_of who end frame) + 4 * words_for (length frame) ≤ who.sizes.out
+words_fit who end frame has fits =
+    let job = job_of who end frame in
+    let long = last_length end.accepted frame in
+    let placed = frames_lem.placed who.sizes job.lengths job.number has.queue in
+    let holds = placed.holds (omega arith) in
+    let inside = placed.inside (omega arith) in
+    omega arith

@@ -1,0 +1,5 @@
+use Rattle.call_grammar.proofs.Returning.{returning}
+use Rattle.call_grammar.proofs.polls_that_return_ring.Goals as goal
+
+pub returns : goal.returns
+returns c = returning

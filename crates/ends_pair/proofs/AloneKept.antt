@@ -18,7 +18,7 @@ use Rattle.ends_pair.specs.Steps.{IsUntouched, OnlyOwnChange, Leaves}
 use Rattle.ends_pair.specs.Alone.{IsNext, MaySet, Holds, Rests, Alone}
 use Rattle.ends_pair.specs.Laws.{AloneIsKept}
 use Rattle.ends_pair.proofs.Fields.{numbers, one_test, inside, field_read, fields_same}
-use Rattle.ends_pair.proofs.Forms.{comes, moves, spelled_kept, sent_kept, next_kept, filled_kept}
+use Rattle.ends_pair.proofs.Forms.{comes, moves, spelled_same, sent_same, next_kept, filled_kept}
 use Rattle.ends_pair.proofs.ReadSteps.{StepsTo, reads_used_index, reads_id, hears_event, reads_avail_index, reads_entry, reads_low, reads_high, reads_length, reads_flags, reads_word}
 use Rattle.ends_pair.proofs.WriteSteps.{puts_lem, fills, lowers, heightens, measures, unflags, enters, publishes, arms, gives_id, gives_length, gives_index}
 use Rattle.ends_pair.proofs.TickSteps.{not_phase, reads_state, clears, falls, sets}
@@ -78,10 +78,11 @@ either true x e h a = h refl
 either false x e h a = comes Downed (λ run. let f : true ≡ false = sym (ap in_run run) ∙ e in cc) refl a.rests a
 
 -- the other entry of the word is as the end wrote that word last
-job_next : (ground : Ground) (memory : ℕ → ℕ) (p : ℕ) (end : End) (frame : List ℕ) → IsGround ground → IsOffered ground frame → Alone ground memory p end Closed → IsNext ground (fields ground memory p) (length end.accepted) (job_of (who_of ground p) end frame)
+job_next : (ground : Ground) (memory : ℕ → ℕ) (p : ℕ) (end : End) (frame : List ℕ) → IsGround ground → IsOffered ground frame → Alone ground memory p end Closed → IsNext ground (fields ground memory p) end.accepted (job_of (who_of ground p) end frame)
 job_next ground memory p end frame is given a = let n = size_of ground.sizes in let k = length end.accepted % n in let b = numbers ground is in let least = b.size_least in let whole = b.size_whole in let below : k < n = mod_below (length end.accepted) n (omega arith) in record {
   frame = given;
   number = refl;
+  lengths = refl;
   beside = λ e ne half. let spot : nat_lt e n ≡ true = one_test e n (omega arith) in
       let place : word_place ground.sizes (Entry k) ≡ field_word ground.sizes (field.AvailEntry e) = omega arith in
       let low : word_place ground.sizes (Entry k) < ground.words = let i = inside ground is (field.AvailEntry e) spot in omega arith in
@@ -111,7 +112,7 @@ holds_kept ground memory after p end (WritingHigh job) keep same h = (h.0, fille
 holds_kept ground memory after p end (WritingLength job) keep same h = (h.0, filled_kept (λ e ne. same _) (λ j. same _) h.1, same _ ∙ h.2, same _ ∙ h.3)
 holds_kept ground memory after p end (WritingFlags job) keep same h = (h.0, filled_kept (λ e ne. same _) (λ j. same _) h.1, same _ ∙ h.2, same _ ∙ h.3, same _ ∙ h.4)
 holds_kept ground memory after p end (WritingEntry job) keep same h = (h.0, filled_kept (λ e ne. same _) (λ j. same _) h.1, same _ ∙ h.2, same _ ∙ h.3, same _ ∙ h.4, same _ ∙ h.5)
-holds_kept ground memory after p end (WritingIndex job) keep same h = (h.0, h.1, h.2, spelled_kept (λ f live na nu. same f) h.3)
+holds_kept ground memory after p end (WritingIndex job) keep same h = (h.0, h.1, h.2, h.3, spelled_same same h.4)
 holds_kept ground memory after p end place keep same h = h
 
 others_lem : (ground : Ground) (p : ℕ) (memory after : ℕ → ℕ) (end : End) (place : Place) → IsGround ground → IsUntouched ground memory after p → Alone ground memory p end place → Alone ground after p end place
@@ -122,7 +123,7 @@ others_lem ground p memory after end place is keep a = let same = fields_same gr
   rests = a.rests;
   ready = λ e. let b = a.ready e in record { section = record { none = λ j lt. keep.section j lt ∙ b.section.none j lt }; accepted = b.accepted; freed = b.freed; delivered = b.delivered; returned = b.returned };
   level = a.level;
-  sent = λ o. sent_kept (λ f live. same f) (a.sent o);
+  sent = λ o. sent_same (λ f. same f) (a.sent o);
   freed = a.freed;
   room = a.room;
 }

@@ -2,14 +2,16 @@
 use Rattle.std.proofs.Common.{◌≡◌, ◌≢◌, ℕ, zero, suc, ◌+◌, ◌-◌, ◌*◌, ◌/◌, ◌%◌, ◌<◌, ◌≤◌, Bool, true, false, refl, sym, ap, ◌∙◌, arith, eq-eqb, ne_eqb}
 use mathlib.Core.Logic.{dite}
 use native.Mathlib.Decide.{ℕ_discrete, dec_lt}
-use Rattle.std.specs.Prelude.{◌==◌, nat_lt, ◌&&◌, if◌then◌else◌}
+use Rattle.std.specs.Prelude.{◌==◌, nat_lt, nat_le, ◌&&◌, if◌then◌else◌}
 use Rattle.std.proofs.lemmas.Bool.Decides.{nat_tests}
-use Rattle.std.proofs.Math.Nat.{mul-le-mul_left, mul_assoc}
-use Rattle.split_ring.specs.Layout.{Sizes, HasBounds, size_of, limit_of, payload_of, slot_of, place_of, Slot}
-use Rattle.split_ring.specs.Ranges.{IsDescAddress}
+use Rattle.std.proofs.Math.Nat.{mul-le-mul_left}
+use Rattle.split_ring.specs.Layout.{Sizes, HasBounds, size_of, limit_of, payload_of}
+use Rattle.split_ring.specs.Frames.{start_of}
 use Rattle.split_ring.proofs.Bounds.{bounds}
+use Rattle.split_ring.proofs.Frames.{frames_lem}
+use Rattle.call_grammar.specs.Words.{words_for}
 use Rattle.call_grammar.proofs.OfferLists.{yes, no}
-use Rattle.ends_pair.specs.Fields.{Field, AvailIndex, UsedIndex, AvailEvent, AvailEntry, UsedId, UsedLength, AddressLow, AddressHigh, DescLength, DescFlags, SlotWord, is_field, field_word, part_of}
+use Rattle.ends_pair.specs.Fields.{Field, AvailIndex, UsedIndex, AvailEvent, AvailEntry, UsedId, UsedLength, AddressLow, AddressHigh, DescLength, DescFlags, DataWord, is_field, field_word, part_of}
 use Rattle.ends_pair.specs.Ground.{Ground, IsGround, section_of, fields}
 use Rattle.ends_pair.specs.Steps.{Stored, IsUntouched, OnlyOwnChange}
 
@@ -35,25 +37,25 @@ Lies q (AddressLow i) = i < size_of q
 Lies q (AddressHigh i) = i < size_of q
 Lies q (DescLength i) = i < size_of q
 Lies q (DescFlags i) = i < size_of q
-Lies q (SlotWord i j) = (i < limit_of q) × (j < slot_of q / 4)
+Lies q (DataWord w) = (payload_of q / 4 ≤ w) × (w < q.out / 4)
 
 one_tells : (k n : ℕ) → nat_lt k n ≡ true → k < n
 one_tells k n h = grind (arith, nat_tests)
 
-both_tell : (i j m n : ℕ) → (nat_lt i m && nat_lt j n) ≡ true → (i < m) × (j < n)
-both_tell i j m n h = (grind (arith, nat_tests), grind (arith, nat_tests))
+both_tell : (i m n : ℕ) → (nat_le m i && nat_lt i n) ≡ true → (m ≤ i) × (i < n)
+both_tell i m n h = (grind (arith, nat_tests), grind (arith, nat_tests))
 
 pub one_test : (i m : ℕ) → i < m → nat_lt i m ≡ true
 one_test i m a = grind (arith, nat_tests)
 
-pub both_tests : (i j m n : ℕ) → i < m → j < n → (nat_lt i m && nat_lt j n) ≡ true
-both_tests i j m n a b = grind (arith, nat_tests)
+pub both_tests : (i m n : ℕ) → m ≤ i → i < n → (nat_le m i && nat_lt i n) ≡ true
+both_tests i m n a b = grind (arith, nat_tests)
 
 lies : (q : Sizes) (f : Field) → is_field q f ≡ true → Lies q f
 lies q AvailIndex h = tt
 lies q UsedIndex h = tt
 lies q AvailEvent h = tt
-lies q (SlotWord i j) h = both_tell i j (limit_of q) (slot_of q / 4) h
+lies q (DataWord w) h = both_tell w (payload_of q / 4) (q.out / 4) h
 lies q (AvailEntry k) h = one_tells k (size_of q) h
 lies q (UsedId k) h = one_tells k (size_of q) h
 lies q (UsedLength k) h = one_tells k (size_of q) h
@@ -62,31 +64,27 @@ lies q (AddressHigh k) h = one_tells k (size_of q) h
 lies q (DescLength k) h = one_tells k (size_of q) h
 lies q (DescFlags k) h = one_tells k (size_of q) h
 
--- Slots
+-- Frames
 
-slot_whole : (x : ℕ) → (x + 63) / 64 * 64 ≡ 4 * ((x + 63) / 64 * 64 / 4)
-slot_whole x = omega arith
+-- a frame of so many bytes that starts here is in range, and its words end inside the section
+pub record IsGood (ground : Ground) (start bytes : ℕ) : Type 0 where
+  pub even : start % 4 ≡ 0
+  pub after : payload_of ground.sizes ≤ start
+  pub inside : start + 4 * words_for bytes ≤ ground.sizes.out
 
--- a slot begins at a whole word
-pub slot_start : (q : Sizes) (i : ℕ) → place_of q (Slot i) ≡ 4 * (payload_of q / 4 + slot_of q / 4 * i)
-slot_start q i = let whole : slot_of q ≡ 4 * (slot_of q / 4) = slot_whole (18 + q.mtu) in let product : slot_of q * i ≡ 4 * (slot_of q / 4 * i) = ap (λ x. x * i) whole ∙ mul_assoc 4 (slot_of q / 4) i in omega arith
+-- each frame of a session is
+pub start_good : (ground : Ground) → IsGround ground → (length_of : ℕ → ℕ) (k : ℕ) → length_of k ≤ ground.sizes.mtu + 18 → IsGood ground (start_of ground.sizes length_of k) (length_of k)
+start_good ground is length_of k short =
+    let placed = frames_lem.placed ground.sizes length_of k is.queue in
+    let holds = placed.holds short in
+    let inside = placed.inside short in
+    record { even = placed.even; after = placed.after; inside = omega arith }
 
-slot_word : (q : Sizes) (i j : ℕ) → field_word q (SlotWord i j) ≡ payload_of q / 4 + slot_of q / 4 * i + j
-slot_word q i j = let start = slot_start q i in omega arith
-
-slots_fit : (slot i c : ℕ) → i < c → slot * i + slot ≤ slot * c
-slots_fit slot i c lt = let h : slot * (i + 1) ≤ slot * c = mul-le-mul_left slot (omega arith) in omega arith
-
--- it is in range
-pub slot_good : (ground : Ground) → IsGround ground → (i : ℕ) → i < limit_of ground.sizes → IsDescAddress ground.sizes (place_of ground.sizes (Slot i)) × (place_of ground.sizes (Slot i) + slot_of ground.sizes ≤ ground.sizes.out)
-slot_good ground is i low = let b = numbers ground is in let slots = b.slots in let fit = slots_fit (slot_of ground.sizes) i (limit_of ground.sizes) low in let start = slot_start ground.sizes i in let mtu = is.queue.mtu_least in
-    ((omega arith, omega arith, omega arith), omega arith)
-
-same_slot : (slot i j k l : ℕ) → j < slot → l < slot → slot * i + j ≡ slot * k + l → (i ≡ k) × (j ≡ l)
-same_slot slot i j k l jl ll e = let same : i ≡ k = dite (dec_lt i k)
-    (λ lt. let h : slot * (i + 1) ≤ slot * k = mul-le-mul_left slot (omega arith) in absurd (omega arith))
-    (λ ge. dite (dec_lt k i) (λ lt. let h : slot * (k + 1) ≤ slot * i = mul-le-mul_left slot (omega arith) in absurd (omega arith)) (λ le. omega arith)) in
-    (same, let f : slot * i ≡ slot * k = ap (λ n. slot * n) same in omega arith)
+-- its words are fields
+pub is_word : (ground : Ground) → IsGround ground → (start bytes at : ℕ) → IsGood ground start bytes → at < words_for bytes → is_field ground.sizes (DataWord (start / 4 + at)) ≡ true
+is_word ground is start bytes at good below =
+    let even = good.even in let after = good.after in let inside = good.inside in let words = is.words in
+    both_tests (start / 4 + at) (payload_of ground.sizes / 4) (ground.sizes.out / 4) (omega arith) (omega arith)
 
 -- Where the fields stand
 
@@ -94,7 +92,7 @@ pub inside : (ground : Ground) → IsGround ground → (f : Field) → is_field 
 inside ground is f h = placed f (lies ground.sizes f h)
   where
     placed : (f : Field) → Lies ground.sizes f → field_word ground.sizes f < ground.words
-    placed (SlotWord i j) l = let good = (slot_good ground is i l.0).1 in let words = is.words in let start = slot_start ground.sizes i in let lt = l.1 in let whole : slot_of ground.sizes ≡ 4 * (slot_of ground.sizes / 4) = slot_whole (18 + ground.sizes.mtu) in omega arith
+    placed (DataWord w) l = let words = is.words in let high = l.1 in omega arith
     placed AvailIndex l = let rings = (numbers ground is).rings in let words = is.words in omega arith
     placed UsedIndex l = let rings = (numbers ground is).rings in let words = is.words in omega arith
     placed AvailEvent l = let rings = (numbers ground is).rings in let words = is.words in omega arith
@@ -113,7 +111,7 @@ Entries s t = ⊥
 
 shares : (q : Sizes) (s t : Field) → limit_of q ≤ size_of q → Lies q s → Lies q t → t ≢ s → field_word q t ≡ field_word q s → Entries s t
 shares q (AvailEntry k) (AvailEntry l) few ls lt ne e = omega arith
-shares q (SlotWord i j) (SlotWord k l) few ls lt ne e = let a = ls.1 in let b = lt.1 in let x = slot_word q i j in let y = slot_word q k l in let f = same_slot (slot_of q / 4) k l i j b a (omega arith) in absurd (ne (let g = f.0 in let h = f.1 in cc))
+shares q (DataWord v) (DataWord w) few ls lt ne e = absurd (ne (ap DataWord e))
 shares q AvailIndex AvailIndex few ls lt ne e = absurd (ne refl)
 shares q UsedIndex UsedIndex few ls lt ne e = absurd (ne refl)
 shares q AvailEvent AvailEvent few ls lt ne e = absurd (ne refl)
@@ -123,8 +121,8 @@ shares q (AddressLow k) (AddressLow l) few ls lt ne e = absurd (ne (ap AddressLo
 shares q (AddressHigh k) (AddressHigh l) few ls lt ne e = absurd (ne (ap AddressHigh (let f : l ≡ k = omega arith in f)))
 shares q (DescLength k) (DescLength l) few ls lt ne e = absurd (ne (ap DescLength (let f : l ≡ k = omega arith in f)))
 shares q (DescFlags k) (DescFlags l) few ls lt ne e = absurd (ne (ap DescFlags (let f : l ≡ k = omega arith in f)))
-shares q (SlotWord i j) t few ls lt ne e = let x = slot_word q i j in absurd (omega arith)
-shares q s (SlotWord i j) few ls lt ne e = let x = slot_word q i j in absurd (omega arith)
+shares q (DataWord w) t few ls lt ne e = let low = ls.0 in absurd (omega arith)
+shares q s (DataWord w) few ls lt ne e = let low = lt.0 in absurd (omega arith)
 shares q s t few ls lt ne e = absurd (omega arith)
 
 -- Values

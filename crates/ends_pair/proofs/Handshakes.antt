@@ -17,7 +17,7 @@ use Rattle.ends_pair.specs.Steps.{Stored}
 use Rattle.ends_pair.specs.Alone.{Opened, Holds, IsBlank, Sent, Alone}
 use Rattle.ends_pair.specs.Pair.{freed_at, Polls, Link, Attends}
 use Rattle.ends_pair.proofs.Fields.{fields_same}
-use Rattle.ends_pair.proofs.Forms.{sent_kept}
+use Rattle.ends_pair.proofs.Forms.{sent_same}
 use Rattle.ends_pair.proofs.TickSteps.{not_phase, tick_quiet}
 use Rattle.ends_pair.proofs.PairForms.{Facing, takes_on, polls_kept, Before, Leads}
 
@@ -179,8 +179,8 @@ module _ (ground : Ground) (memory after : ℕ → ℕ) (p : ℕ) (end : End) (u
   same_faces : (now : End) (place next : Place) → IsIdle next → now.accepted ≡ end.accepted → now.freed ≡ end.freed → now.delivered ≡ end.delivered → now.returned ≡ end.returned → ((q : ℕ) (f : Field) → q < 2 → fields ground after q f ≡ fields ground memory q f) → p < 2 →
       Alone ground memory p end place → Facing ground memory p end place u w → Facing ground after p now next u w
   same_faces now place next idle ac fr de re same p2 a f = record {
-    mine = subst (λ x. Sent ground (fields ground after p) x now.freed now.returned) (sym ac) (subst (λ x. Sent ground (fields ground after p) end.accepted x now.returned) (sym fr) (subst (λ x. Sent ground (fields ground after p) end.accepted end.freed x) (sym re) (sent_kept (λ g live. same p g p2) f.mine)));
-    theirs = sent_kept (λ g live. same (1 - p) g (omega arith)) f.theirs;
+    mine = subst (λ x. Sent ground (fields ground after p) x now.freed now.returned) (sym ac) (subst (λ x. Sent ground (fields ground after p) end.accepted x now.returned) (sym fr) (subst (λ x. Sent ground (fields ground after p) end.accepted end.freed x) (sym re) (sent_same (λ g. same p g p2) f.mine)));
+    theirs = sent_same (λ g. same (1 - p) g (omega arith)) f.theirs;
     sends = let l = f.sends in record { returns = let r = l.returns in omega arith; delivers = l.delivers; prefix = (l.prefix.0, ac ∙ l.prefix.1); named = λ k from below. same (1 - p) _ (omega arith) ∙ l.named k (let read = idle_freed now.freed next idle in let low = freed_low ground memory p end place a in omega arith) below; polls = subst (λ x. Polls ground (fields ground after (1 - p)) x w) (sym ac) (polls_kept ground (fields ground memory (1 - p)) (fields ground after (1 - p)) end.accepted w (λ g. same (1 - p) g (omega arith)) l.polls) };
     takes = let t = f.takes in record { returns = let r = t.returns in omega arith; delivers = let v = t.delivers in let e = ap length de in omega arith; prefix = (t.prefix.0, t.prefix.1 ∙ ap (λ (x : List (List ℕ)). x ++ t.prefix.0) (sym de)); named = λ k from below. same p _ p2 ∙ t.named k from (omega arith); polls = idle_polls ground (fields ground after p) u.accepted next idle };
   }

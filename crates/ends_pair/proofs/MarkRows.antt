@@ -1,24 +1,24 @@
 -- The marks of each kind of step go along their rows.
-use Rattle.std.proofs.Common.{◌≡◌, ℕ, zero, suc, ◌+◌, ◌<◌, ◌≤◌, inl, inr, Bool, true, false, List, [], ◌∷◌, length, refl, sym, ap, ◌∙◌, subst, arith, ne_eqb}
+use Rattle.std.proofs.Common.{◌≡◌, ℕ, zero, suc, ◌+◌, ◌<◌, ◌≤◌, inl, inr, Bool, true, false, List, [], ◌∷◌, ◌++◌, length, refl, sym, ap, ◌∙◌, subst, arith, ne_eqb}
 use Rattle.std.specs.Prelude.{◌==◌, if◌then◌else◌, map}
-use Rattle.std.proofs.lemmas.Bool.Decides.{nat_tests}
 use Rattle.split_ring.specs.declared.ranges.FieldName.{FieldName}
 use Rattle.split_ring.specs.Layout.{limit_of}
+use Rattle.split_ring.specs.Frames.{has_room}
 use Rattle.link_handshake.specs.declared.Move.TheVariants.{Stay, Set, ClearThenSet}
 use Rattle.link_handshake.specs.PhaseTable.{move_on}
 use Rattle.link_handshake.specs.Standing.{move_of}
 use Rattle.call_grammar.specs.Steps.{Mark, Reclaim, Full, Look}
 use Rattle.call_grammar.specs.Ends.{End, noted_all}
-use Rattle.call_grammar.specs.Words.{words_for}
+use Rattle.call_grammar.specs.Words.{words_for, lengths_of}
 use Rattle.call_grammar.specs.Ticks.{Who}
 use Rattle.call_grammar.specs.Rows.{MovesTo}
 use Rattle.call_grammar.specs.Calls.{Call, Tick, Stop, Offer, Poll, in_run, job_of}
-use Rattle.call_grammar.specs.Offers.{Job, refusal, full_marks}
+use Rattle.call_grammar.specs.Offers.{Job, finds_room, refusal, full_marks}
 use Rattle.call_grammar.specs.Polls.{is_last, look_marks}
 use Rattle.call_grammar.specs.Places.{Closed, Refusing, Downed, AtUsedIndex, AtUsedId, AtAvailIndex, AtEntry, fill_place, ids_place, none_place, items_place, words_place, first_place}
 use Rattle.call_grammar.proofs.OfferLists.{yes, no}
-use Rattle.link_machine.specs.LinkMachine.{Side, Marked, ReadsIndex, MayReclaim, MayLook, IsBeyond}
-use Rattle.ends_pair.specs.Ground.{Ground, who_of}
+use Rattle.link_machine.specs.LinkMachine.{Side, IsFull, Marked, ReadsIndex, MayReclaim, MayLook, IsBeyond}
+use Rattle.ends_pair.specs.Ground.{Ground, who_of, IsOffered}
 use Rattle.ends_pair.specs.Sides.{HasLeft, CallIs, SideIs}
 use Rattle.ends_pair.proofs.StateRows.{Follows, Same, same_of, side_is, silent, anew, same_anew, same_looked}
 
@@ -50,46 +50,61 @@ pub fill_call : (end : End) (job : Job) (at count : ℕ) (side : Side) → CallI
 fill_call end job at zero side = tt
 fill_call end job at (suc more) side = tt
 
+-- the job is of a frame that may be offered next
+pub record IsNextOf (ground : Ground) (accepted : List (List ℕ)) (job : Job) : Type 0 where
+  pub frame : IsOffered ground job.frame
+  pub number : job.number ≡ length accepted
+  pub lengths : job.lengths ≡ lengths_of (accepted ++ job.frame ∷ [])
+
+-- where it finds no room, the side is full
+full_of : (ground : Ground) (side : Side) (job : Job) (freed : ℕ) → IsNextOf ground side.accepted job → has_room ground.sizes job.lengths freed job.number ≡ false → side.freed ≡ freed → length side.accepted ≤ freed + limit_of ground.sizes → IsFull ground.sizes side
+full_of ground side job freed next none f room = record {
+  frame = job.frame;
+  least = next.frame.least;
+  most = next.frame.most;
+  none = ap (λ (l : ℕ → ℕ). has_room ground.sizes l side.freed (length side.accepted)) (sym next.lengths) ∙ (ap (has_room ground.sizes job.lengths side.freed) (sym next.number) ∙ (ap (λ n. has_room ground.sizes job.lengths n job.number) f ∙ none));
+  in_flight = omega arith;
+}
+
 -- the place after ids, of which none was read yet
 ids_call : (who : Who) (end : End) (job : Job) (freed count : ℕ) (side : Side) → side.read ≡ [] → side.reclaimed ≡ count → CallIs end (ids_place who job freed count) side
-ids_call who end job freed zero side none is = by_bool (job.number == freed + limit_of who.sizes)
+ids_call who end job freed zero side none is = by_bool (finds_room who job freed)
   where
-    by_bool : (b : Bool) → CallIs end (if b then Closed else fill_place job 0 (words_for (length job.frame))) side
-    by_bool true = none
-    by_bool false = fill_call end job 0 (words_for (length job.frame)) side
+    by_bool : (b : Bool) → CallIs end (if b then fill_place job 0 (words_for (length job.frame)) else Closed) side
+    by_bool true = fill_call end job 0 (words_for (length job.frame)) side
+    by_bool false = none
 ids_call who end job freed (suc more) side none is = let e = ap length none in (omega arith, omega arith)
 
 -- the marks of what was reclaimed
-pub reclaim_rows : (ground : Ground) (theirs : Bool) (other side : Side) (end : End) (who : Who) (job : Job) (freed count number : ℕ) (c : Bool) → (number == freed + limit_of ground.sizes) ≡ c → Same end side → side.state ≡ 3 → ReadsIndex side side.freed count → MayReclaim theirs side other count →
-    length side.accepted ≡ number → side.freed ≡ freed →
-    Follows ground theirs other side (map Marked (if count == 0 then Reclaim 0 ∷ (if c then Full ∷ [] else []) else Reclaim count ∷ [])) (noted_all end (if count == 0 then Reclaim 0 ∷ (if c then Full ∷ [] else []) else Reclaim count ∷ [])) (ids_place who job freed count)
-reclaim_rows ground theirs other side end who job freed zero number true full_test same run read may n f = let full : number ≡ freed + limit_of ground.sizes = grind (arith, nat_tests) in let mid = record side { freed = side.freed + 0; reclaimed = 0; read = [] } in (
+pub reclaim_rows : (ground : Ground) (theirs : Bool) (other side : Side) (end : End) (who : Who) (job : Job) (freed count : ℕ) (c : Bool) → has_room ground.sizes job.lengths freed job.number ≡ c → Same end side → side.state ≡ 3 → ReadsIndex side side.freed count → MayReclaim theirs side other count →
+    IsNextOf ground side.accepted job → length side.accepted ≤ freed + limit_of ground.sizes → side.freed ≡ freed →
+    Follows ground theirs other side (map Marked (if count == 0 then Reclaim 0 ∷ (if c then [] else Full ∷ []) else Reclaim count ∷ [])) (noted_all end (if count == 0 then Reclaim 0 ∷ (if c then [] else Full ∷ []) else Reclaim count ∷ [])) (ids_place who job freed count)
+reclaim_rows ground theirs other side end who job freed zero false none same run read may next room f = let mid = record side { freed = side.freed + 0; reclaimed = 0; read = [] } in (
   mid,
-  (mid, (refl, (run, read, may, refl)), (mid, (refl, (run, (let z : length side.accepted ≡ side.freed + 0 + limit_of ground.sizes = omega arith in z), refl)), refl)),
+  (mid, (refl, (run, read, may, refl)), (mid, (refl, (run, full_of ground mid job freed next none (let z : side.freed + 0 ≡ freed = omega arith in z) room, refl)), refl)),
   record { state = same.state; refused = same.refused; accepted = same.accepted; delivered = same.delivered; returned = same.returned; freed = ap (λ k. k + 0) same.freed; call = ids_call who (record end { freed = end.freed + 0 }) job freed 0 mid refl refl },
 )
-reclaim_rows ground theirs other side end who job freed zero number false full_test same run read may n f = let mid = record side { freed = side.freed + 0; reclaimed = 0; read = [] } in (
+reclaim_rows ground theirs other side end who job freed zero true has same run read may next room f = let mid = record side { freed = side.freed + 0; reclaimed = 0; read = [] } in (
   mid,
   (mid, (refl, (run, read, may, refl)), refl),
   record { state = same.state; refused = same.refused; accepted = same.accepted; delivered = same.delivered; returned = same.returned; freed = ap (λ k. k + 0) same.freed; call = ids_call who (record end { freed = end.freed + 0 }) job freed 0 mid refl refl },
 )
-reclaim_rows ground theirs other side end who job freed (suc count) number c full_test same run read may n f = let mid = record side { freed = side.freed + suc count; reclaimed = suc count; read = [] } in
-    subst (λ (m : List Mark). Follows ground theirs other side (map Marked m) (noted_all end m) (AtUsedId job freed count)) (sym (no (suc count == 0) (Reclaim 0 ∷ (if c then Full ∷ [] else [])) (Reclaim (suc count) ∷ []) (ne_eqb (suc count) 0 (λ e. omega arith)))) (
+reclaim_rows ground theirs other side end who job freed (suc count) c test same run read may next room f = let mid = record side { freed = side.freed + suc count; reclaimed = suc count; read = [] } in
+    subst (λ (m : List Mark). Follows ground theirs other side (map Marked m) (noted_all end m) (AtUsedId job freed count)) (sym (no (suc count == 0) (Reclaim 0 ∷ (if c then [] else Full ∷ [])) (Reclaim (suc count) ∷ []) (ne_eqb (suc count) 0 (λ e. omega arith)))) (
       mid,
       (mid, (refl, (run, read, may, refl)), refl),
       record { state = same.state; refused = same.refused; accepted = same.accepted; delivered = same.delivered; returned = same.returned; freed = ap (λ k. k + suc count) same.freed; call = ids_call who (record end { freed = end.freed + suc count }) job freed (suc count) mid refl refl },
     )
 
 -- the marks of an id that passed
-pub id_rows : (ground : Ground) (theirs : Bool) (other side : Side) (end : End) (p : ℕ) (job : Job) (freed more : ℕ) → Same end side → side.state ≡ 3 → length side.accepted ≡ job.number → side.freed ≡ freed + suc more → side.reclaimed ≡ length side.read + more → length side.read ≤ freed + 1 →
+pub id_rows : (ground : Ground) (theirs : Bool) (other side : Side) (end : End) (p : ℕ) (job : Job) (freed more : ℕ) → Same end side → side.state ≡ 3 → IsNextOf ground side.accepted job → length side.accepted ≤ freed + limit_of ground.sizes → side.freed ≡ freed + suc more → side.reclaimed ≡ length side.read + more → length side.read ≤ freed + 1 →
     Follows ground theirs other side (map Marked (if more == 0 then full_marks (who_of ground p) job (freed + 1) else [])) (noted_all end (if more == 0 then full_marks (who_of ground p) job (freed + 1) else [])) (ids_place (who_of ground p) job (freed + 1) more)
-id_rows ground theirs other side end p job freed zero same run n f r l = by_bool (job.number == freed + 1 + limit_of ground.sizes) refl
+id_rows ground theirs other side end p job freed zero same run next room f r l = by_bool (has_room ground.sizes job.lengths (freed + 1) job.number) refl
   where
-    by_bool : (c : Bool) → (job.number == freed + 1 + limit_of ground.sizes) ≡ c → Follows ground theirs other side (map Marked (if c then Full ∷ [] else [])) (noted_all end (if c then Full ∷ [] else [])) (if c then Closed else fill_place job 0 (words_for (length job.frame)))
-    by_bool true test = let full : job.number ≡ freed + 1 + limit_of ground.sizes = grind (arith, nat_tests) in
-        (anew side, (anew side, (refl, (run, (let z : length side.accepted ≡ side.freed + limit_of ground.sizes = omega arith in z), refl)), refl), side_is (same_anew same) refl)
-    by_bool false test = silent ground theirs other side same (fill_call end job 0 (words_for (length job.frame)) side)
-id_rows ground theirs other side end p job freed (suc more) same run n f r l =
+    by_bool : (c : Bool) → has_room ground.sizes job.lengths (freed + 1) job.number ≡ c → Follows ground theirs other side (map Marked (if c then [] else Full ∷ [])) (noted_all end (if c then [] else Full ∷ [])) (if c then fill_place job 0 (words_for (length job.frame)) else Closed)
+    by_bool false none = (anew side, (anew side, (refl, (run, full_of ground side job (freed + 1) next none f (omega arith), refl)), refl), side_is (same_anew same) refl)
+    by_bool true has = silent ground theirs other side same (fill_call end job 0 (words_for (length job.frame)) side)
+id_rows ground theirs other side end p job freed (suc more) same run next room f r l =
     subst (λ (m : List Mark). Follows ground theirs other side (map Marked m) (noted_all end m) (AtUsedId job (freed + 1) more)) (sym (no (suc more == 0) (full_marks (who_of ground p) job (freed + 1)) [] (ne_eqb (suc more) 0 (λ e. omega arith))))
     (silent ground theirs other side same (omega arith, l))
 

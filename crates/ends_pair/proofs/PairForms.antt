@@ -12,6 +12,7 @@ use Rattle.ends_pair.specs.Fields.{Field, UsedId}
 use Rattle.ends_pair.specs.Ground.{Ground, fields, first_words}
 use Rattle.ends_pair.specs.Steps.{OnlyComes}
 use Rattle.ends_pair.specs.Alone.{Sent, Alone}
+use Rattle.ends_pair.proofs.Forms.{start_before}
 use Rattle.ends_pair.specs.Pair.{freed_at, Polls, Link, Linked, Attends, OpensNone, EitherAttends, Pair}
 
 module _ (ground : Ground) (memory after : ℕ → ℕ) (ends next : ℕ → End) (places goes : ℕ → Place) (p : ℕ) (end : End) (place : Place) (p2 : p < 2) (only : OnlyComes ends next places goes p end place) where
@@ -83,11 +84,11 @@ link_same {ground} {field} {now} {accepted} {delivered} {freed} {read} {returned
 pub polls_more : (ground : Ground) (field : Field → ℕ) (frames : List (List ℕ)) (g : List ℕ) (place : Place) → Polls ground field frames place → Polls ground field (frames ++ g ∷ []) place
 polls_more ground field frames g (AtEntry number more) h = let n = length-append frames (g ∷ []) in omega arith
 polls_more ground field frames g (AtLow number more entry) h = let n = length-append frames (g ∷ []) in let up = h.0 in (omega arith, h.1)
-polls_more ground field frames g (AtHigh number more entry low) h = let n = length-append frames (g ∷ []) in let up = h.0 in (omega arith, h.1, h.2)
-polls_more ground field frames g (AtLength number more entry address) h = let n = length-append frames (g ∷ []) in let up = h.0 in (omega arith, h.1, h.2)
-polls_more ground field frames g (AtFlags number more entry address bytes) h = let n = length-append frames (g ∷ []) in let up = h.0 in let same = get_or-append frames (g ∷ []) [] number (omega arith) in (omega arith, h.1, h.2, h.3 ∙ ap length (sym same))
+polls_more ground field frames g (AtHigh number more entry low) h = let n = length-append frames (g ∷ []) in let up = h.0 in (omega arith, h.1, h.2 ∙ sym (start_before ground frames g number (omega arith)))
+polls_more ground field frames g (AtLength number more entry address) h = let n = length-append frames (g ∷ []) in let up = h.0 in (omega arith, h.1, h.2 ∙ sym (start_before ground frames g number (omega arith)))
+polls_more ground field frames g (AtFlags number more entry address bytes) h = let n = length-append frames (g ∷ []) in let up = h.0 in let same = get_or-append frames (g ∷ []) [] number (omega arith) in (omega arith, h.1, h.2 ∙ sym (start_before ground frames g number (omega arith)), h.3 ∙ ap length (sym same))
 polls_more ground field frames g (AtWord number more entry address bytes read words) h = let n = length-append frames (g ∷ []) in let up = h.0 in let same = get_or-append frames (g ∷ []) [] number (omega arith) in
-    (omega arith, h.1, h.2, h.3 ∙ ap length (sym same), h.4 ∙ ap (λ (x : List ℕ). first_words x (length read)) (sym same))
+    (omega arith, h.1, h.2 ∙ sym (start_before ground frames g number (omega arith)), h.3 ∙ ap length (sym same), h.4 ∙ ap (λ (x : List ℕ). first_words x (length read)) (sym same))
 polls_more ground field frames g (GivingId number more entry) h = let n = length-append frames (g ∷ []) in let up = h.0 in (omega arith, h.1)
 polls_more ground field frames g (GivingLength number more) h = let n = length-append frames (g ∷ []) in let up = h.0 in (omega arith, h.1)
 polls_more ground field frames g (GivingIndex number more) h = let n = length-append frames (g ∷ []) in let up = h.0 in (omega arith, h.1)

@@ -1,5 +1,5 @@
 -- Each step of two honest ends keeps the pair.
-use Rattle.std.proofs.Common.{◌≡◌, ◌≢◌, ℕ, zero, suc, ◌+◌, ◌-◌, ◌%◌, ◌<◌, inl, inr, ⊎_elim, Bool, true, false, List, [], ◌∷◌, length, refl, sym, ap, ◌∙◌, subst, arith}
+use Rattle.std.proofs.Common.{◌≡◌, ◌≢◌, ℕ, zero, suc, ◌+◌, ◌-◌, ◌%◌, ◌/◌, ◌<◌, inl, inr, ⊎_elim, Bool, true, false, List, [], ◌∷◌, length, refl, sym, ap, ◌∙◌, subst, arith}
 use Rattle.std.specs.Prelude.{◌==◌, if◌then◌else◌}
 use Rattle.split_ring.specs.Layout.{size_of, limit_of, word_place, Address}
 use Rattle.link_handshake.specs.declared.Phase.TheVariants.{Reset, Init, Ready, Run}
@@ -15,11 +15,11 @@ use Rattle.ends_pair.specs.Fields.{Field}
 use Rattle.ends_pair.specs.Fields as field
 use Rattle.ends_pair.specs.Ground.{Ground, IsGround, section_of, who_of, fields}
 use Rattle.ends_pair.specs.Steps.{Stored, IsUntouched, OnlyComes, Meets, Leaves, BeginsCall, TakesStep, IsReset}
-use Rattle.ends_pair.specs.Alone.{Alone}
+use Rattle.ends_pair.specs.Alone.{start_for, Alone}
 use Rattle.ends_pair.specs.Pair.{freed_at, Polls, Link, Attends, Pair}
 use Rattle.ends_pair.specs.Laws.{PairIsKept}
 use Rattle.ends_pair.proofs.Fields.{fields_same, Put, theirs_stay}
-use Rattle.ends_pair.proofs.Forms.{by_test, opened, sent_kept}
+use Rattle.ends_pair.proofs.Forms.{by_test, opened, sent_same}
 use Rattle.ends_pair.proofs.WriteSteps.{puts_lem}
 use Rattle.ends_pair.proofs.TickSteps.{not_phase}
 use Rattle.ends_pair.proofs.AloneKept.{alone_kept}
@@ -49,7 +49,7 @@ module _ (ground : Ground) (is : IsGround ground) (p : ℕ) (p2 : p < 2) (memory
     sound = (works.mark, calm_not next Refusing works.calm (λ x. x));
     from = λ a. b.from (inl run);
     back = λ a. (not_phase {a = Run} {b = Init} (λ f. omega arith) works.run, calm_not next (Setting 1) works.calm (λ x. x));
-    faces = λ a. record { mine = mine.sent (opened works.run); theirs = sent_kept (λ f live. same f) (b.faces (inl (inl run))).theirs; sends = link_same same works.sends; takes = works.takes };
+    faces = λ a. record { mine = mine.sent (opened works.run); theirs = sent_same (λ f. same f) (b.faces (inl (inl run))).theirs; sends = link_same same works.sends; takes = works.takes };
   }
 
 -- what the step at a place leads to
@@ -94,7 +94,7 @@ module _ (ground : Ground) (is : IsGround ground) (p : ℕ) (p2 : p < 2) (memory
   leads after Downed value opened calm met left mine b = subst (λ (k : ℕ → ℕ). LeadsTo k Downed value) (sym left) (idles ground memory p end u w Downed Closed tt tt (λ e. cc) (λ a e. cc) b)
   leads after (AtUsedIndex job freed) value opened calm met left mine b = reads after (AtUsedIndex job freed) value left mine b.mine.holds.0 (sends_used_index ground is p memory end u w b.mark job freed value met b.mine) b
   leads after (AtUsedId job freed more) value opened calm met left mine b = reads after (AtUsedId job freed more) value left mine b.mine.holds.0 (sends_id ground is p memory end u w b.mark job freed more value met b.mine) b
-  leads after (Filling job at more) value opened calm met left mine b = let x = fill_calm job (at + 1) more in word_leads after (Filling job at more) (fill_place job (at + 1) more) (field.SlotWord (job.number % limit_of ground.sizes) at) _ _ _ b.mine.holds.0 (λ k e. cc) x.0 x.1 x.2 (puts_lem ground is p p2 memory after end (Filling job at more) left b.mine.holds) mine b
+  leads after (Filling job at more) value opened calm met left mine b = let x = fill_calm job (at + 1) more in word_leads after (Filling job at more) (fill_place job (at + 1) more) (field.DataWord (start_for ground job / 4 + at)) _ _ _ b.mine.holds.0 (λ k e. cc) x.0 x.1 x.2 (puts_lem ground is p p2 memory after end (Filling job at more) left b.mine.holds) mine b
   leads after (WritingLow job) value opened calm met left mine b = word_leads after (WritingLow job) (WritingHigh job) (field.AddressLow (job.number % limit_of ground.sizes)) _ _ _ b.mine.holds.0 (λ k e. cc) tt refl (λ f fs. tt) (puts_lem ground is p p2 memory after end (WritingLow job) left b.mine.holds) mine b
   leads after (WritingHigh job) value opened calm met left mine b = word_leads after (WritingHigh job) (WritingLength job) (field.AddressHigh (job.number % limit_of ground.sizes)) _ _ _ b.mine.holds.0 (λ k e. cc) tt refl (λ f fs. tt) (puts_lem ground is p p2 memory after end (WritingHigh job) left b.mine.holds) mine b
   leads after (WritingLength job) value opened calm met left mine b = word_leads after (WritingLength job) (WritingFlags job) (field.DescLength (job.number % limit_of ground.sizes)) _ _ _ b.mine.holds.0 (λ k e. cc) tt refl (λ f fs. tt) (puts_lem ground is p p2 memory after end (WritingLength job) left b.mine.holds) mine b
@@ -194,7 +194,7 @@ others_lem ground memory after ends places is keep m = let same = λ (q : ℕ) (
   alone = λ p p2. alone_kept.others ground p memory after (ends p) (places p) is (keep p p2) (m.alone p p2);
   sound = m.sound;
   cross = m.cross;
-  sent = λ p p2 a. sent_kept (λ f live. same p p2 f) (m.sent p p2 a);
+  sent = λ p p2 a. sent_same (λ f. same p p2 f) (m.sent p p2 a);
   link = λ p p2 a. link_same (same (1 - p) (omega arith)) (m.link p p2 a);
 }
 

@@ -1,10 +1,9 @@
 -- The reads of an offer and of a poll: an end alone.
-use Rattle.std.proofs.Common.{◌≡◌, ℕ, zero, suc, ◌+◌, ◌-◌, ◌%◌, ◌<◌, ◌≤◌, Bool, true, false, List, [], ◌∷◌, ◌++◌, length, refl, sym, ap, ◌∙◌, subst, arith, eq-eqb, ne_eqb, length-append}
-use mathlib.Core.Logic.{dite}
-use native.Mathlib.Decide.{ℕ_discrete}
+use Rattle.std.proofs.Common.{◌≡◌, ℕ, zero, suc, ◌+◌, ◌-◌, ◌%◌, ◌<◌, ◌≤◌, Bool, true, false, List, [], ◌∷◌, ◌++◌, length, refl, sym, ap, ◌∙◌, subst, arith, ne_eqb, length-append}
 use Rattle.std.specs.Prelude.{◌==◌, nat_le, if◌then◌else◌}
 use Rattle.std.proofs.lemmas.Bool.Decides.{nat_tests}
 use Rattle.split_ring.specs.Layout.{Sizes, size_of, limit_of}
+use Rattle.split_ring.specs.Frames.{has_room}
 use Rattle.split_ring.specs.Ranges.{IsDescAddress, IsDescLength}
 use Rattle.split_ring.specs.declared.ranges.FieldName.TheVariants as field_name
 use Rattle.split_ring.specs.Spelling.{low_half, high_half, entry_half}
@@ -12,10 +11,10 @@ use Rattle.link_handshake.specs.declared.Phase.TheVariants.{Run}
 use Rattle.call_grammar.specs.Steps.{Mark, Reclaim, Full, Look, Over, Deliver}
 use Rattle.call_grammar.specs.Ends.{End, noted_all, end_after}
 use Rattle.call_grammar.specs.Words.{words_for, frame_in, address_of}
-use Rattle.call_grammar.specs.Offers.{Job, refusal, full_marks, returned_by, reclaim_marks, descriptor_of, asks_for}
+use Rattle.call_grammar.specs.Offers.{Job, finds_room, refusal, full_marks, returned_by, reclaim_marks, descriptor_of, asks_for}
 use Rattle.call_grammar.specs.Polls.{is_entry, is_address, is_length, published_by, look_marks}
 use Rattle.call_grammar.specs.Places.{Place, Closed, Refusing, AtUsedIndex, AtUsedId, AtEvent, RingingOffer, AtAvailIndex, AtEntry, AtLow, AtHigh, AtLength, AtFlags, AtWord, fill_place, ids_place, none_place, items_place, words_place, next_place, step_at}
-use Rattle.call_grammar.proofs.OfferLists.{yes, no}
+use Rattle.call_grammar.proofs.OfferLists.{no}
 use Rattle.ends_pair.specs.Ground.{Ground, who_of, fields}
 use Rattle.ends_pair.specs.Alone.{IsNext, Filled, Holds, counts, Alone}
 use Rattle.ends_pair.proofs.Forms.{by_test, run_ready, opened, free, moves, refuses}
@@ -26,17 +25,19 @@ StepsTo ground p memory end place value = Alone ground memory p (end_after end (
 
 -- Places after counts
 
-pub fill_holds : (ground : Ground) (memory : ℕ → ℕ) (p : ℕ) (end : End) (job : Job) (at count : ℕ) → end.handshake.phase ≡ Run → at + count ≡ words_for (length job.frame) → Filled ground (fields ground memory p) (length end.accepted) end.freed job at →
+pub fill_holds : (ground : Ground) (memory : ℕ → ℕ) (p : ℕ) (end : End) (job : Job) (at count : ℕ) → end.handshake.phase ≡ Run → at + count ≡ words_for (length job.frame) → Filled ground (fields ground memory p) end.accepted end.freed job at →
     Holds ground memory p end (fill_place job at count) × (counts (fill_place job at count) ≡ (0, 0))
-fill_holds ground memory p end job at zero run all filled = let e : at ≡ words_for (length job.frame) = omega arith in ((run, subst (Filled ground (fields ground memory p) (length end.accepted) end.freed job) e filled), refl)
+fill_holds ground memory p end job at zero run all filled = let e : at ≡ words_for (length job.frame) = omega arith in ((run, subst (Filled ground (fields ground memory p) end.accepted end.freed job) e filled), refl)
 fill_holds ground memory p end job at (suc more) run all filled = ((run, filled, all), refl)
 
-pub ids_holds : (ground : Ground) (memory : ℕ → ℕ) (p : ℕ) (end : End) (job : Job) (freed count : ℕ) → end.handshake.phase ≡ Run → IsNext ground (fields ground memory p) (length end.accepted) job → freed + count ≡ end.freed → length end.accepted ≤ freed + limit_of ground.sizes →
+pub ids_holds : (ground : Ground) (memory : ℕ → ℕ) (p : ℕ) (end : End) (job : Job) (freed count : ℕ) → end.handshake.phase ≡ Run → IsNext ground (fields ground memory p) end.accepted job → freed + count ≡ end.freed → length end.accepted ≤ freed + limit_of ground.sizes →
     Holds ground memory p end (ids_place (who_of ground p) job freed count) × (counts (ids_place (who_of ground p) job freed count) ≡ (0, 0))
-ids_holds ground memory p end job freed zero run next all room = dite (ℕ_discrete job.number (freed + limit_of ground.sizes))
-    (λ e. subst (λ x. Holds ground memory p end x × (counts x ≡ (0, 0))) (sym (yes (job.number == freed + limit_of ground.sizes) Closed (fill_place job 0 (words_for (length job.frame))) (eq-eqb _ _ e))) (tt, refl))
-    (λ ne. subst (λ x. Holds ground memory p end x × (counts x ≡ (0, 0))) (sym (no (job.number == freed + limit_of ground.sizes) Closed (fill_place job 0 (words_for (length job.frame))) (ne_eqb _ _ ne)))
-    (fill_holds ground memory p end job 0 (words_for (length job.frame)) run (omega arith) record { next = next; room = let number = next.number in omega arith; words = λ j lt. absurd (omega arith) }))
+ids_holds ground memory p end job freed zero run next all room = by_room (finds_room (who_of ground p) job freed) refl
+  where
+    by_room : (b : Bool) → finds_room (who_of ground p) job freed ≡ b → Holds ground memory p end (if b then fill_place job 0 (words_for (length job.frame)) else Closed) × (counts (if b then fill_place job 0 (words_for (length job.frame)) else Closed) ≡ (0, 0))
+    by_room true has = let same : freed ≡ end.freed = omega arith in
+        fill_holds ground memory p end job 0 (words_for (length job.frame)) run (omega arith) record { next = next; room = ap (λ n. has_room ground.sizes job.lengths n job.number) (sym same) ∙ has; words = λ j lt. absurd (omega arith) }
+    by_room false none = (tt, refl)
 ids_holds ground memory p end job freed (suc more) run next all room = ((run, next, all, room), refl)
 
 pub items_holds : (ground : Ground) (memory : ℕ → ℕ) (p : ℕ) (end : End) (number count : ℕ) → end.handshake.phase ≡ Run → number ≡ length end.delivered → count ≤ size_of ground.sizes → Holds ground memory p end (items_place number count) × (counts (items_place number count) ≡ (0, 0))
@@ -44,7 +45,7 @@ items_holds ground memory p end number zero run is few = (run, refl)
 items_holds ground memory p end number (suc more) run is few = ((run, is, omega arith), refl)
 
 -- Marks that count frames freed
-pub full_quiet : (end : End) (b : Bool) → noted_all end (if b then Full ∷ [] else []) ≡ end
+pub full_quiet : (end : End) (b : Bool) → noted_all end (if b then [] else Full ∷ []) ≡ end
 full_quiet end true = refl
 full_quiet end false = refl
 
@@ -52,7 +53,7 @@ pub freed_by : (end : End) (count : ℕ) (full : List Mark) → ((e : End) → n
 freed_by end zero full quiet = quiet (record end { freed = end.freed + 0 })
 freed_by end (suc count) full quiet = ap (noted_all end) (no (suc count == 0) (Reclaim 0 ∷ full) (Reclaim (suc count) ∷ []) (ne_eqb (suc count) 0 (λ e. omega arith)))
 
-pub ids_quiet : (end : End) (b c : Bool) → noted_all end (if b then (if c then Full ∷ [] else []) else []) ≡ end
+pub ids_quiet : (end : End) (b c : Bool) → noted_all end (if b then (if c then [] else Full ∷ []) else []) ≡ end
 ids_quiet end true c = full_quiet end c
 ids_quiet end false c = refl
 
@@ -77,7 +78,7 @@ module _ (ground : Ground) (p : ℕ) (memory : ℕ → ℕ) (end : End) where
       (λ test. let within : d ≤ job.number - freed = grind (arith, nat_tests) in let number = h.1.number in let same = h.2 in let f = a.freed in let room = a.room in
       let now : End = record end { freed = end.freed + d } in
       let x = ids_holds ground memory p now job freed d run h.1 (omega arith) (omega arith) in
-      subst (λ (e : End). Alone ground memory p e (ids_place (who_of ground p) job freed d)) (sym (freed_by end d (full_marks (who_of ground p) job freed) (λ e. full_quiet e (job.number == freed + limit_of ground.sizes)))) record {
+      subst (λ (e : End). Alone ground memory p e (ids_place (who_of ground p) job freed d)) (sym (freed_by end d (full_marks (who_of ground p) job freed) (λ e. full_quiet e (finds_room (who_of ground p) job freed)))) record {
         state = a.state;
         written = a.written;
         holds = x.0;
@@ -94,7 +95,7 @@ module _ (ground : Ground) (p : ℕ) (memory : ℕ → ℕ) (end : End) where
   reads_id job freed more value a = let h = a.holds in
       by_test (λ m x. Alone ground memory p (noted_all end m) x) (value == descriptor_of (who_of ground p) freed) (if more == 0 then full_marks (who_of ground p) job (freed + 1) else []) (refusal field_name.UsedId value) (ids_place (who_of ground p) job (freed + 1) more) Refusing
       (λ test. let all = h.2 in let room = h.3 in let x = ids_holds ground memory p end job (freed + 1) more h.0 h.1 (omega arith) (omega arith) in
-      subst (λ (e : End). Alone ground memory p e (ids_place (who_of ground p) job (freed + 1) more)) (sym (ids_quiet end (more == 0) (job.number == freed + 1 + limit_of ground.sizes))) (moves _ x.0 x.1 a.rests a))
+      subst (λ (e : End). Alone ground memory p e (ids_place (who_of ground p) job (freed + 1) more)) (sym (ids_quiet end (more == 0) (finds_room (who_of ground p) job (freed + 1)))) (moves _ x.0 x.1 a.rests a))
       (λ test. refuses h.0 refl a)
 
   pub hears_event : (number value : ℕ) → Alone ground memory p end (AtEvent number) → StepsTo ground p memory end (AtEvent number) value

@@ -8,6 +8,8 @@ use Rattle.std.proofs.lemmas.Option.{slice_get-get_or}
 use Rattle.split_ring.specs.declared.ranges.FieldName.{FieldName}
 use Rattle.split_ring.specs.declared.ranges.FieldName.TheVariants as field_name
 use Rattle.split_ring.specs.Layout.{has_events, size_of, limit_of, word_place, AvailableIndex, UsedIndex}
+use Rattle.split_ring.specs.Frames.{has_room}
+use Rattle.ends_pair.specs.Fields.{Field}
 use Rattle.split_ring.specs.Ranges.{IsDescAddress, IsDescLength}
 use Rattle.call_grammar.proofs.OfferLists.{no}
 use Rattle.split_ring.specs.Spelling.{high_half, low_half, entry_half}
@@ -17,7 +19,7 @@ use Rattle.link_handshake.specs.PhaseTable.{state_of}
 use Rattle.link_handshake.specs.Standing.{move_of}
 use Rattle.call_grammar.specs.Steps.{Mark, Deliver, Over}
 use Rattle.call_grammar.specs.Ends.{End, noted_all, end_after}
-use Rattle.call_grammar.specs.Words.{words_for, frame_in, address_of}
+use Rattle.call_grammar.specs.Words.{words_for, lengths_of, frame_in, address_of}
 use Rattle.call_grammar.specs.Offers.{Job, refusal, full_marks, returned_by, reclaim_marks, asks_for}
 use Rattle.call_grammar.specs.Polls.{is_entry, is_address, is_length, published_by, look_marks}
 use Rattle.call_grammar.specs.Places.{Place, Closed, AtState, Clearing, Setting, Refusing, Downed, AtUsedIndex, AtUsedId, Filling, WritingLow, WritingHigh, WritingLength, WritingFlags, WritingEntry, WritingIndex, AtEvent, RingingOffer, AtAvailIndex, Arming, AtEntry, AtLow, AtHigh, AtLength, AtFlags, AtWord, GivingId, GivingLength, GivingIndex, RingingPoll, ids_place, none_place, items_place, words_place, access_at, next_place, step_at, is_open}
@@ -27,8 +29,8 @@ use Rattle.call_grammar.proofs.PollLists.{address_denies, length_denies}
 use Rattle.ends_pair.specs.Ground.{Ground, IsGround, section_of, who_of}
 use Rattle.ends_pair.specs.Steps.{Meets, Leaves}
 use Rattle.ends_pair.proofs.StateRows.{Follows, Same, same_of, side_is, silent, heard, anew, same_heard, same_anew, wrote, hears, clear_call, saw, wrote_state}
-use Rattle.ends_pair.proofs.MarkRows.{refused_row, fill_call, reclaim_rows, id_rows, items_call, words_call, look_rows, moves_set, moves_clear, begin_follows}
-use Rattle.ends_pair.specs.Alone.{Alone}
+use Rattle.ends_pair.proofs.MarkRows.{IsNextOf, refused_row, fill_call, reclaim_rows, id_rows, items_call, words_call, look_rows, moves_set, moves_clear, begin_follows}
+use Rattle.ends_pair.specs.Alone.{IsNext, Alone}
 use Rattle.ends_pair.specs.Sides.{told_by, SawFor, CallIs, SideIs, StepsFollowRows}
 use Rattle.ends_pair.proofs.Forms.{by_test, opened}
 use Rattle.ends_pair.proofs.AloneKept.{alone_kept}
@@ -50,6 +52,14 @@ read_on values value read e = ap (λ (l : List ℕ). l ++ value ∷ []) e
 
 entry_beyond : (n e : ℕ) → nat_le (suc e) n ≡ false → e < n → ⊥
 entry_beyond n e test lt = grind (arith, nat_tests)
+
+-- the job of an end is of the next frame of its side
+next_of : {ground : Ground} {field : Field → ℕ} {accepted of_side : List (List ℕ)} {job : Job} → of_side ≡ accepted → IsNext ground field accepted job → IsNextOf ground of_side job
+next_of {ground} {field} {accepted} {of_side} {job} same next = record {
+  frame = next.frame;
+  number = next.number ∙ sym (ap length same);
+  lengths = next.lengths ∙ sym (ap (λ (l : List (List ℕ)). lengths_of (l ++ job.frame ∷ [])) same);
+}
 
 module _ (ground : Ground) (is : IsGround ground) (p : ℕ) (p2 : p < 2) (memory : ℕ → ℕ) (theirs : Bool) (other side : Side) (end u : End) (w : Place) where
   -- what is known of an honest other
@@ -75,7 +85,7 @@ module _ (ground : Ground) (is : IsGround ground) (p : ℕ) (p2 : p < 2) (memory
   reclaims job freed value met a known si = let h = a.holds in let d = returned_by freed value in let run = in_run (AtUsedIndex job freed) si h.0 in let number = h.1.number in let count = ap length si.accepted in let read = read_on [] value side.read si.call in
       let freed_is : side.freed ≡ freed = si.freed ∙ sym h.2 in
       judged (AtUsedIndex job freed) value (ids_place (who_of ground p) job freed d) (nat_le d (job.number - freed)) (reclaim_marks (who_of ground p) job freed d) field_name.UsedIndex (high_half value) (calm (AtUsedIndex job freed) value refl (λ e. cc) met refl a known) si h.0
-      (λ test. reclaim_rows ground theirs other (heard side value) end (who_of ground p) job freed d job.number (job.number == freed + limit_of ground.sizes) refl (same_heard value (same_of si)) run (value, read, ap (λ k. (high_half value + 65536 - k % 65536) % 65536) (sym freed_is)) (may theirs known (grind (arith, nat_tests))) (omega arith) freed_is)
+      (λ test. reclaim_rows ground theirs other (heard side value) end (who_of ground p) job freed d (has_room ground.sizes job.lengths freed job.number) refl (same_heard value (same_of si)) run (value, read, ap (λ k. (high_half value + 65536 - k % 65536) % 65536) (sym freed_is)) (may theirs known (grind (arith, nat_tests))) (next_of si.accepted h.1) (let room = a.room in let same = h.2 in omega arith) freed_is)
       (λ test. (value, read, refl, λ within. let beyond : job.number - freed < d = grind (arith, nat_tests) in let near : d ≤ length side.accepted - side.freed = subst (λ k. (high_half value + 65536 - k % 65536) % 65536 ≤ length side.accepted - side.freed) freed_is within in omega arith))
     where
       may : (b : Bool) → (b ≡ true → Other (AtUsedIndex job freed)) → returned_by freed value ≤ job.number - freed → MayReclaim b (heard side value) other (returned_by freed value)
@@ -85,7 +95,7 @@ module _ (ground : Ground) (is : IsGround ground) (p : ℕ) (p2 : p < 2) (memory
   frees : (job : Job) (freed more value : ℕ) → Meets memory (access_at (who_of ground p) (AtUsedId job freed more)) value → Alone ground memory p end (AtUsedId job freed more) → (theirs ≡ true → Other (AtUsedId job freed more)) → SideIs end (AtUsedId job freed more) side → Goes (AtUsedId job freed more) value
   frees job freed more value met a known si = let h = a.holds in let run = in_run (AtUsedId job freed more) si h.0 in let number = h.1.number in let all = h.2 in let count = ap length si.accepted in let f = si.freed in let n = length-append side.read (value ∷ []) in let r = si.call.0 in let l = si.call.1 in
       judged (AtUsedId job freed more) value (ids_place (who_of ground p) job (freed + 1) more) (value == freed % limit_of ground.sizes) (if more == 0 then full_marks (who_of ground p) job (freed + 1) else []) field_name.UsedId value (calm (AtUsedId job freed more) value refl (λ e. cc) met refl a known) si h.0
-      (λ test. id_rows ground theirs other (heard side value) end p job freed more (same_heard value (same_of si)) run (omega arith) (omega arith) (omega arith) (omega arith))
+      (λ test. id_rows ground theirs other (heard side value) end p job freed more (same_heard value (same_of si)) run (next_of si.accepted h.1) (let room = h.3 in omega arith) (omega arith) (omega arith) (omega arith))
       (λ test. (side.read, refl, omega arith, λ e. let same : side.freed - side.reclaimed + length side.read ≡ freed = omega arith in let good : value ≡ freed % limit_of ground.sizes = e ∙ ap (λ k. k % limit_of ground.sizes) same in grind (arith, nat_tests)))
 
   looks : (taken : ℕ) (last : Bool) (value : ℕ) → value ≡ memory (section_of ground (1 - p) + word_place ground.sizes AvailableIndex) → Alone ground memory p end (AtAvailIndex taken last) → (theirs ≡ true → Other (AtAvailIndex taken last)) → SideIs end (AtAvailIndex taken last) side → Goes (AtAvailIndex taken last) value
@@ -151,14 +161,20 @@ module _ (ground : Ground) (is : IsGround ground) (p : ℕ) (p2 : p < 2) (memory
       may false known = let h = a.holds in let all = h.5 in let low = h.4.0 in let high = h.4.1 in let size = frame_length bytes (read ++ value ∷ []) (let n = length-append read (value ∷ []) in omega arith) in (omega arith, omega arith)
 
   accepts : (job : Job) (value : ℕ) → Alone ground memory p end (WritingIndex job) → SideIs end (WritingIndex job) side → Goes (WritingIndex job) value
-  accepts job value a si = let h = a.holds in let new = record side { accepted = side.accepted ++ job.frame ∷ []; read = [] } in let f = si.freed in let count = ap length si.accepted in let number = h.1 in let room = h.2 in (
+  accepts job value a si = let h = a.holds in let new = record side { accepted = side.accepted ++ job.frame ∷ []; read = [] } in let f = si.freed in let count = ap length si.accepted in let number = h.1 in (
     new,
-    (new, (refl, (in_run (WritingIndex job) si h.0, omega arith, refl)), refl),
+    (new, (refl, (in_run (WritingIndex job) si h.0, room, refl)), refl),
     record { state = si.state; refused = si.refused; accepted = ap (λ (l : List (List ℕ)). l ++ job.frame ∷ []) si.accepted; delivered = si.delivered; returned = si.returned; freed = si.freed; call = by_bool (has_events ground.sizes) },
   )
     where
       now : End
       now = end_after end (step_at (who_of ground p) (WritingIndex job) value)
+
+      room : has_room ground.sizes (lengths_of (side.accepted ++ job.frame ∷ [])) side.freed (length side.accepted) ≡ true
+      room = ap (λ (l : List (List ℕ)). has_room ground.sizes (lengths_of (l ++ job.frame ∷ [])) side.freed (length l)) si.accepted ∙
+          (ap (λ n. has_room ground.sizes (lengths_of (end.accepted ++ job.frame ∷ [])) n (length end.accepted)) si.freed ∙
+          (ap (λ (l : ℕ → ℕ). has_room ground.sizes l end.freed (length end.accepted)) (sym a.holds.2) ∙
+          (ap (has_room ground.sizes job.lengths end.freed) (sym a.holds.1) ∙ a.holds.3)))
 
       by_bool : (b : Bool) → CallIs now (if b then AtEvent job.number else RingingOffer) (record side { accepted = side.accepted ++ job.frame ∷ []; read = [] })
       by_bool true = refl

@@ -1,7 +1,5 @@
 -- The steps of an offer, between two honest ends.
-use Rattle.std.proofs.Common.{◌≡◌, ◌≢◌, ℕ, zero, suc, ◌+◌, ◌-◌, ◌%◌, ◌≤◌, Bool, true, false, List, [], ◌∷◌, ◌++◌, length, refl, sym, ap, ◌∙◌, subst, arith, eq-eqb, ne_eqb, append_assoc, length-append}
-use mathlib.Core.Logic.{dite}
-use native.Mathlib.Decide.{ℕ_discrete}
+use Rattle.std.proofs.Common.{◌≡◌, ◌≢◌, ℕ, zero, suc, ◌+◌, ◌-◌, ◌%◌, ◌≤◌, Bool, true, false, List, [], ◌∷◌, ◌++◌, length, refl, sym, ap, ◌∙◌, subst, arith, append_assoc, length-append}
 use Rattle.std.specs.Prelude.{◌==◌, nat_le, if◌then◌else◌}
 use Rattle.std.proofs.lemmas.Bool.Decides.{nat_tests}
 use Rattle.std.proofs.lemmas.Nat.{mod_below}
@@ -11,9 +9,8 @@ use Rattle.split_ring.specs.Spelling.{high_half}
 use Rattle.link_handshake.specs.declared.Phase.TheVariants.{Run}
 use Rattle.call_grammar.specs.Ends.{End, noted_all, end_after}
 use Rattle.call_grammar.specs.Words.{words_for}
-use Rattle.call_grammar.specs.Offers.{Job, refusal, full_marks, returned_by, reclaim_marks, descriptor_of}
+use Rattle.call_grammar.specs.Offers.{Job, finds_room, refusal, full_marks, returned_by, reclaim_marks, descriptor_of}
 use Rattle.call_grammar.specs.Places.{Place, Closed, Refusing, AtUsedIndex, AtUsedId, WritingIndex, AtEvent, RingingOffer, fill_place, ids_place, tell_place, next_place, step_at}
-use Rattle.call_grammar.proofs.OfferLists.{yes, no}
 use Rattle.ends_pair.specs.Fields.{Field}
 use Rattle.ends_pair.specs.Fields as field
 use Rattle.ends_pair.specs.Ground.{Ground, IsGround, section_of, who_of, fields}
@@ -33,9 +30,14 @@ fill_at ground field frames now freed job at zero e = (tt, e, tt)
 fill_at ground field frames now freed job at (suc more) e = (tt, e, tt)
 
 ids_at : (ground : Ground) (p : ℕ) (field : Field → ℕ) (frames : List (List ℕ)) (now freed : ℕ) (job : Job) (count : ℕ) → now ≡ freed + count → IdsAt ground field frames now freed (ids_place (who_of ground p) job freed count)
-ids_at ground p field frames now freed job zero e = let same : now ≡ freed = omega arith in dite (ℕ_discrete job.number (freed + limit_of ground.sizes))
-    (λ e. subst (IdsAt ground field frames now freed) (sym (yes (job.number == freed + limit_of ground.sizes) Closed (fill_place job 0 (words_for (length job.frame))) (eq-eqb _ _ e))) (tt, same, tt))
-    (λ ne. subst (IdsAt ground field frames now freed) (sym (no (job.number == freed + limit_of ground.sizes) Closed (fill_place job 0 (words_for (length job.frame))) (ne_eqb _ _ ne))) (fill_at ground field frames now freed job 0 (words_for (length job.frame)) same))
+ids_at ground p field frames now freed job zero e = by_room (finds_room (who_of ground p) job freed)
+  where
+    same : now ≡ freed
+    same = omega arith
+
+    by_room : (b : Bool) → IdsAt ground field frames now freed (if b then fill_place job 0 (words_for (length job.frame)) else Closed)
+    by_room true = fill_at ground field frames now freed job 0 (words_for (length job.frame)) same
+    by_room false = (tt, same, tt)
 ids_at ground p field frames now freed job (suc more) e = (tt, refl, tt)
 
 -- the place after the index of a frame
@@ -65,7 +67,7 @@ module _ (ground : Ground) (is : IsGround ground) (p : ℕ) (memory : ℕ → �
       let fact = returned_is job freed value met a f in let exact = fact.0 in let most = fact.1 in
       by_test (λ m x. Works ground memory memory p u w (noted_all end m) x) (nat_le d (job.number - freed)) (reclaim_marks (who_of ground p) job freed d) (refusal field_name.UsedIndex (high_half value)) (ids_place (who_of ground p) job freed d) Refusing
       (λ test. let x = ids_at ground p (fields ground memory p) u.accepted (end.freed + d) freed job d (omega arith) in
-      subst (λ (e : End). Works ground memory memory p u w e (ids_place (who_of ground p) job freed d)) (sym (freed_by end d (full_marks (who_of ground p) job freed) (λ e. full_quiet e (job.number == freed + limit_of ground.sizes)))) record {
+      subst (λ (e : End). Works ground memory memory p u w e (ids_place (who_of ground p) job freed d)) (sym (freed_by end d (full_marks (who_of ground p) job freed) (λ e. full_quiet e (finds_room (who_of ground p) job freed)))) record {
         run = h.0;
         mark = mark;
         calm = x.0;
@@ -79,7 +81,7 @@ module _ (ground : Ground) (is : IsGround ground) (p : ℕ) (memory : ℕ → �
       let good : value ≡ freed % limit_of ground.sizes = field_read ground memory (1 - p) (field.UsedId k) value (one_test _ _ (mod_below freed (size_of ground.sizes) (omega arith))) met ∙ l.named freed (omega arith) (omega arith) in
       by_test (λ m x. Works ground memory memory p u w (noted_all end m) x) (value == descriptor_of (who_of ground p) freed) (if more == 0 then full_marks (who_of ground p) job (freed + 1) else []) (refusal field_name.UsedId value) (ids_place (who_of ground p) job (freed + 1) more) Refusing
       (λ test. let x = ids_at ground p (fields ground memory p) u.accepted end.freed (freed + 1) job more (omega arith) in
-      subst (λ (e : End). Works ground memory memory p u w e (ids_place (who_of ground p) job (freed + 1) more)) (sym (ids_quiet end (more == 0) (job.number == freed + 1 + limit_of ground.sizes))) record {
+      subst (λ (e : End). Works ground memory memory p u w e (ids_place (who_of ground p) job (freed + 1) more)) (sym (ids_quiet end (more == 0) (finds_room (who_of ground p) job (freed + 1)))) record {
         run = h.0;
         mark = mark;
         calm = x.0;

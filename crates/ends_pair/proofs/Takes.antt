@@ -7,13 +7,13 @@ use Rattle.std.proofs.lemmas.Bool.Decides.{nat_tests}
 use Rattle.std.proofs.lemmas.Nat.{mod_below}
 use Rattle.std.proofs.Math.Seq.{get_or-append_seam}
 use Rattle.split_ring.specs.declared.ranges.FieldName.TheVariants as field_name
-use Rattle.split_ring.specs.Layout.{Sizes, size_of, limit_of, slot_of, place_of, word_place, Address, Length, Flags, AvailableIndex, Entry, Slot}
+use Rattle.split_ring.specs.Layout.{Sizes, size_of, limit_of, word_place, Address, Length, Flags, AvailableIndex, Entry}
 use Rattle.split_ring.specs.Ranges.{IsDescAddress, IsDescLength}
 use Rattle.split_ring.specs.Spelling.{high_half, low_half, entry_half}
 use Rattle.link_handshake.specs.declared.Phase.TheVariants.{Run}
 use Rattle.call_grammar.specs.Steps.{Mark, Deliver}
 use Rattle.call_grammar.specs.Ends.{End, noted_all, end_after}
-use Rattle.call_grammar.specs.Words.{words_for, frame_word, frame_in, address_of}
+use Rattle.call_grammar.specs.Words.{words_for, lengths_of, frame_word, frame_in, address_of}
 use Rattle.call_grammar.specs.Offers.{refusal}
 use Rattle.call_grammar.specs.Polls.{is_entry, is_address, is_length, published_by, look_marks}
 use Rattle.call_grammar.specs.Places.{Place, Refusing, AtAvailIndex, AtEntry, AtLow, AtHigh, AtLength, AtFlags, AtWord, GivingId, GivingLength, GivingIndex, none_place, items_place, words_place, next_place, step_at}
@@ -21,9 +21,9 @@ use Rattle.call_grammar.proofs.OfferLists.{no}
 use Rattle.ends_pair.specs.Fields.{Field, is_field, field_word, part_of}
 use Rattle.ends_pair.specs.Fields as field
 use Rattle.ends_pair.specs.Ground.{Ground, IsGround, section_of, who_of, fields, first_words}
-use Rattle.ends_pair.specs.Alone.{frame_at, Spelled, Alone}
+use Rattle.ends_pair.specs.Alone.{frame_at, start_in, Spelled, Alone}
 use Rattle.ends_pair.specs.Pair.{freed_at, Polls, Link}
-use Rattle.ends_pair.proofs.Fields.{numbers, ring_apart, one_test, both_tests, slot_start, slot_good, field_read}
+use Rattle.ends_pair.proofs.Fields.{numbers, ring_apart, one_test, is_word, start_good, field_read}
 use Rattle.ends_pair.proofs.Forms.{by_test, opened, Puts}
 use Rattle.ends_pair.proofs.ReadSteps.{looked}
 use Rattle.ends_pair.proofs.Frames.{frames_lem}
@@ -81,7 +81,7 @@ module _ (ground : Ground) (is : IsGround ground) (p : ℕ) (memory : ℕ → �
   onward place next run calm read polls f = record { run = run; mark = mark; calm = calm; sends = subst (λ k. Link ground (fields ground memory (1 - p)) end.accepted end.freed k u.delivered u.returned w) read f.sends; takes = takes_on next (λ k. refl) polls f.takes }
 
   -- the frame in hand
-  in_hand : (place : Place) (number more : ℕ) → number ≡ length end.delivered → number + suc more ≤ length u.accepted → Facing ground memory p end place u w → Spelled ground (fields ground memory (1 - p)) number (frame_at u.accepted number)
+  in_hand : (place : Place) (number more : ℕ) → number ≡ length end.delivered → number + suc more ≤ length u.accepted → Facing ground memory p end place u w → Spelled ground (fields ground memory (1 - p)) number (start_in ground u.accepted number) (frame_at u.accepted number)
   in_hand place number more is up f = let r = f.takes.returns in let d = f.takes.delivers in f.theirs.spelled number (omega arith) (omega arith)
 
   low_slot : (number : ℕ) → number % limit_of ground.sizes < limit_of ground.sizes
@@ -127,10 +127,11 @@ module _ (ground : Ground) (is : IsGround ground) (p : ℕ) (memory : ℕ → �
   pub takes_high : (number more entry low value : ℕ) → value ≡ memory (section_of ground (1 - p) + (word_place ground.sizes (Address entry) + 1)) → Alone ground memory p end (AtHigh number more entry low) → Facing ground memory p end (AtHigh number more entry low) u w → Goes (AtHigh number more entry low) value
   takes_high number more entry low value met a f = let h = a.holds in let q = f.takes.polls in let s = in_hand (AtHigh number more entry low) number more h.1 q.0 f in let address = address_of low value in
       let none : value ≡ 0 = read_of (field.AddressHigh entry) value (one_test _ _ h.2) met ∙ (ap (λ k. fields ground memory (1 - p) (field.AddressHigh k)) q.1 ∙ s.high) in
-      let good : address ≡ place_of ground.sizes (Slot (number % limit_of ground.sizes)) = let l = q.2 in address_is low value _ l none in
+      let good : address ≡ start_in ground u.accepted number = let l = q.2 in address_is low value _ l none in
       by_test (λ m x. Works ground memory memory p u w (noted_all end m) x) (is_address ground.sizes address) [] (refusal field_name.DescAddress address) (AtLength number more entry address) Refusing
       (λ test. onward (AtHigh number more entry low) (AtLength number more entry address) h.0 tt refl (q.0, q.1, good) f)
-      (λ test. absurd (address_denies ground.sizes address test (subst (IsDescAddress ground.sizes) (sym good) (slot_good ground is (number % limit_of ground.sizes) (low_slot number)).0)))
+      (λ test. let some = s.offered.least in let fits = start_good ground is (lengths_of u.accepted) number s.offered.most in let even = fits.even in let after = fits.after in let inside = fits.inside in
+      absurd (address_denies ground.sizes address test (subst (IsDescAddress ground.sizes) (sym good) (omega arith, omega arith, omega arith))))
     where
       address_is : (low high n : ℕ) → low ≡ n → high ≡ 0 → address_of low high ≡ n
       address_is low high n e f = omega arith
@@ -138,7 +139,7 @@ module _ (ground : Ground) (is : IsGround ground) (p : ℕ) (memory : ℕ → �
   pub takes_length : (number more entry address value : ℕ) → value ≡ memory (section_of ground (1 - p) + word_place ground.sizes (Length entry)) → Alone ground memory p end (AtLength number more entry address) → Facing ground memory p end (AtLength number more entry address) u w → Goes (AtLength number more entry address) value
   takes_length number more entry address value met a f = let h = a.holds in let q = f.takes.polls in let s = in_hand (AtLength number more entry address) number more h.1 q.0 f in
       let good : value ≡ length (frame_at u.accepted number) = read_of (field.DescLength entry) value (one_test _ _ h.2) met ∙ (ap (λ k. fields ground memory (1 - p) (field.DescLength k)) q.1 ∙ s.size) in
-      let fits = (slot_good ground is (number % limit_of ground.sizes) (low_slot number)).1 in let some = s.offered.least in let most = s.offered.most in let mtu = is.queue.mtu_most in let at = q.2 in
+      let fits = start_good ground is (lengths_of u.accepted) number s.offered.most in let even = fits.even in let inside = fits.inside in let some = s.offered.least in let most = s.offered.most in let mtu = is.queue.mtu_most in let at = q.2 in
       by_test (λ m x. Works ground memory memory p u w (noted_all end m) x) (is_length ground.sizes address value) [] (refusal field_name.DescLength value) (AtFlags number more entry address value) Refusing
       (λ test. onward (AtLength number more entry address) (AtFlags number more entry address value) h.0 tt refl (q.0, q.1, q.2, good) f)
       (λ test. absurd (length_denies ground.sizes address value test (omega arith, omega arith, omega arith)))
@@ -157,11 +158,11 @@ module _ (ground : Ground) (is : IsGround ground) (p : ℕ) (memory : ℕ → �
   -- the word that is read is the next one of the frame
   word_is : (number more entry address bytes : ℕ) (read : List ℕ) (words value : ℕ) → value ≡ memory (section_of ground (1 - p) + (address / 4 + length read)) → Alone ground memory p end (AtWord number more entry address bytes read words) → Facing ground memory p end (AtWord number more entry address bytes read words) u w →
       read ++ value ∷ [] ≡ first_words (frame_at u.accepted number) (suc (length read))
-  word_is number more entry address bytes read words value met a f = let h = a.holds in let q = f.takes.polls in let s = in_hand (AtWord number more entry address bytes read words) number more h.1 q.0 f in let i = number % limit_of ground.sizes in let g = frame_at u.accepted number in
-      let all = h.5 in let size = q.3 in let below : length read < words_for (length g) = omega arith in let some = s.offered.least in let most = s.offered.most in let inside : length read < slot_of ground.sizes / 4 = omega arith in
-      let start = slot_start ground.sizes i in let at = q.2 in
-      let w : address / 4 + length read ≡ field_word ground.sizes (field.SlotWord i (length read)) = omega arith in
-      let same : value ≡ frame_word g (length read) = read_of (field.SlotWord i (length read)) value (both_tests _ _ _ _ (low_slot number) inside) (met ∙ ap (λ x. memory (section_of ground (1 - p) + x)) w) ∙ s.words (length read) below in
+  word_is number more entry address bytes read words value met a f = let h = a.holds in let q = f.takes.polls in let s = in_hand (AtWord number more entry address bytes read words) number more h.1 q.0 f in let g = frame_at u.accepted number in let start = start_in ground u.accepted number in
+      let all = h.5 in let size = q.3 in let below : length read < words_for (length g) = omega arith in let at = q.2 in
+      let good = start_good ground is (lengths_of u.accepted) number s.offered.most in
+      let w : address / 4 + length read ≡ start / 4 + length read = omega arith in
+      let same : value ≡ frame_word g (length read) = read_of (field.DataWord (start / 4 + length read)) value (is_word ground is start (length g) (length read) good below) (met ∙ ap (λ x. memory (section_of ground (1 - p) + x)) w) ∙ s.words (length read) below in
       ap (λ (l : List ℕ). l ++ value ∷ []) q.4 ∙ ap (λ (x : ℕ). first_words g (length read) ++ x ∷ []) same
 
   -- the frame that is delivered is the next one

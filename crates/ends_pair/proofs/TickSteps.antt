@@ -18,7 +18,7 @@ use Rattle.ends_pair.specs.Ground.{Ground, IsGround, section_of, who_of}
 use Rattle.ends_pair.specs.Steps.{Stored}
 use Rattle.ends_pair.specs.Alone.{Opened, IsClear, Holds, counts, Rests, Alone}
 use Rattle.ends_pair.proofs.Fields.{fields_same, fields_blank, written_kept}
-use Rattle.ends_pair.proofs.Forms.{free, comes, sent_kept}
+use Rattle.ends_pair.proofs.Forms.{free, comes, sent_same}
 use Rattle.ends_pair.proofs.ReadSteps.{StepsTo}
 
 pub not_phase : {a b c : Phase} → state_of a ≢ state_of b → c ≡ a → c ≡ b → ⊥
@@ -106,7 +106,7 @@ module _ (ground : Ground) (p : ℕ) (memory after : ℕ → ℕ) (end : End) wh
     rests = λ t. let f : true ≡ false = sym t ∙ a.rests in cc;
     ready = λ e. absurd (not_phase {a = Run} {b = Ready} (λ f. omega arith) refl e);
     level = λ o. a.level ready;
-    sent = λ o. sent_kept (λ f live. fields_same ground memory after p is (section_stays 3 is p2 stored) f) (a.sent ready);
+    sent = λ o. sent_same (λ f. fields_same ground memory after p is (section_stays 3 is p2 stored) f) (a.sent ready);
     freed = a.freed;
     room = a.room;
   }

@@ -7,7 +7,7 @@ use Rattle.std.proofs.lemmas.Bool.Decides.{nat_tests}
 use Rattle.split_ring.specs.declared.steps.Access.{Access}
 use Rattle.split_ring.specs.declared.steps.Access.TheVariants as access
 use Rattle.split_ring.specs.declared.ranges.FieldName.TheVariants as field_name
-use Rattle.split_ring.specs.Layout.{has_events, size_of, limit_of, word_place, AvailableEvent}
+use Rattle.split_ring.specs.Layout.{has_events, size_of, word_place, AvailableEvent}
 use Rattle.split_ring.specs.Spelling.{low_half, high_half}
 use Rattle.link_handshake.specs.declared.Move.{Move}
 use Rattle.link_handshake.specs.declared.Move.TheVariants.{Stay, Set, ClearThenSet}
@@ -16,7 +16,7 @@ use Rattle.call_grammar.specs.Steps.{Mark, Reclaim, Full, Accept, Look, Deliver,
 use Rattle.call_grammar.specs.Ends.{End, stated, noted, noted_all, end_after}
 use Rattle.call_grammar.specs.Words.{address_of, frame_in}
 use Rattle.call_grammar.specs.Ticks.{Who, tick_marks}
-use Rattle.call_grammar.specs.Offers.{Job, refusal, full_marks, returned_by, reclaim_marks, descriptor_of, asks_for}
+use Rattle.call_grammar.specs.Offers.{Job, finds_room, refusal, full_marks, returned_by, reclaim_marks, descriptor_of, asks_for}
 use Rattle.call_grammar.specs.Polls.{is_entry, is_address, is_length, entry_in, published_by, look_marks}
 use Rattle.call_grammar.specs.Places.{Place, Closed, AtState, Clearing, Setting, Refusing, AtUsedIndex, AtUsedId, Filling, WritingLow, WritingHigh, WritingLength, WritingFlags, WritingEntry, WritingIndex, AtEvent, RingingOffer, AtAvailIndex, Arming, AtEntry, AtHigh, AtLength, AtFlags, AtWord, GivingId, GivingLength, GivingIndex, access_at, marks_at, next_place, step_at}
 use Rattle.ends_pair.specs.Fields.{Field}
@@ -54,7 +54,7 @@ tick_none value (Set state) = tt
 tick_none value (ClearThenSet state) = tt
 
 full_none : (who : Who) (job : Job) (freed : ℕ) → AcceptsNone (full_marks who job freed)
-full_none who job freed = by_bool (job.number == freed + limit_of who.sizes) (Full ∷ []) [] tt tt
+full_none who job freed = by_bool (finds_room who job freed) [] (Full ∷ []) tt tt
 
 reclaim_none : (who : Who) (job : Job) (freed count : ℕ) → AcceptsNone (reclaim_marks who job freed count)
 reclaim_none who job freed count = by_bool (count == 0) (Reclaim 0 ∷ full_marks who job freed) (Reclaim count ∷ []) (full_none who job freed) tt

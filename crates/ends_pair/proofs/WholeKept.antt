@@ -1,10 +1,11 @@
 -- Two ends, each honest or not.
-use Rattle.std.proofs.Common.{◌≡◌, ℕ, ◌+◌, ◌-◌, ◌%◌, ◌<◌, ◌≢◌, ◌⊎◌, Bool, true, false, length, refl, sym, ap, ◌∙◌, subst, arith, List}
+use Rattle.std.proofs.Common.{◌≡◌, ℕ, ◌+◌, ◌-◌, ◌/◌, ◌%◌, ◌<◌, ◌≢◌, ◌⊎◌, Bool, true, false, length, refl, sym, ap, ◌∙◌, subst, arith, List}
 use mathlib.Core.Logic.{dite}
 use native.Mathlib.Decide.{ℕ_discrete}
 use Rattle.std.proofs.lemmas.Nat.{mod_below}
-use Rattle.split_ring.specs.Layout.{size_of, limit_of, place_of, word_place, Address, Length, Slot}
+use Rattle.split_ring.specs.Layout.{size_of, limit_of, word_place, Address, Length}
 use Rattle.split_ring.specs.Spelling.{address_at, bytes_from}
+use Rattle.call_grammar.specs.Words.{lengths_of}
 use Rattle.call_grammar.specs.Ends.{End}
 use Rattle.call_grammar.specs.Calls.{Call}
 use Rattle.call_grammar.specs.Places.{Refusing, Place, WritingIndex}
@@ -12,12 +13,12 @@ use Rattle.ends_pair.specs.Fields.{Field, is_field, field_word, part_of}
 use Rattle.ends_pair.specs.Fields as field
 use Rattle.ends_pair.specs.Ground.{Ground, IsGround, section_of, fields}
 use Rattle.ends_pair.specs.Steps.{IsUntouched, OnlyComes, BeginsCall, TakesStep, IsReset}
-use Rattle.ends_pair.specs.Alone.{frame_at, Spelled, Sent, Alone}
+use Rattle.ends_pair.specs.Alone.{frame_at, start_in, start_for, Spelled, Sent, Alone}
 use Rattle.ends_pair.specs.Pair.{Linked, Attends, OpensNone}
 use Rattle.ends_pair.specs.Whole.{Whole, WholeIsKept, HonestEndsAgree, SectionSpells, FramesAreSpelled}
-use Rattle.ends_pair.proofs.Fields.{numbers, one_test, both_tests, slot_start, slot_good, field_read}
+use Rattle.ends_pair.proofs.Fields.{numbers, one_test, is_word, IsGood, start_good, field_read}
 use Rattle.ends_pair.proofs.FrameBytes.{bytes_lem}
-use Rattle.ends_pair.proofs.Forms.{spelled_kept}
+use Rattle.ends_pair.proofs.Forms.{spelled_kept, job_good_at}
 use Rattle.ends_pair.proofs.WriteSteps.{puts_lem}
 use Rattle.ends_pair.proofs.AloneKept.{alone_kept}
 use Rattle.ends_pair.proofs.PairKept.{still, by_state, untouched, starts_alone, pair_kept}
@@ -87,23 +88,23 @@ agree = record { never_refuse = λ ground memory ends places p p2 m. ((m.sound p
 
 -- Frames that are spelled, by the words of the section
 
-spells : (ground : Ground) (memory : ℕ → ℕ) (p k : ℕ) (frame : List ℕ) → IsGround ground → Spelled ground (fields ground memory p) k frame → SectionSpells ground memory p k frame
-spells ground memory p k frame is s =
+spells : (ground : Ground) (memory : ℕ → ℕ) (p k start : ℕ) (frame : List ℕ) → IsGround ground → IsGood ground start (length frame) → Spelled ground (fields ground memory p) k start frame → SectionSpells ground memory p k frame
+spells ground memory p k start frame is good s =
     let d = k % limit_of ground.sizes in let i = k % size_of ground.sizes in let b = numbers ground is in let least = b.size_least in let some = s.offered.least in let most = s.offered.most in let mtu = is.queue.mtu_most in
     let words : ℕ → ℕ = λ w. memory (section_of ground p + w) in
     let low : d < limit_of ground.sizes = mod_below k (limit_of ground.sizes) b.limit_least in let few = b.limit_most in let size : d < size_of ground.sizes = omega arith in
-    let good = slot_good ground is d low in let fits = good.1 in let start = slot_start ground.sizes d in
-    let low_is : words (word_place ground.sizes (Address d)) ≡ place_of ground.sizes (Slot d) = read (field.AddressLow d) (one_test _ _ size) ∙ s.low in
+    let even = good.even in let after = good.after in let inside = good.inside in
+    let low_is : words (word_place ground.sizes (Address d)) ≡ start = read (field.AddressLow d) (one_test _ _ size) ∙ s.low in
     let high_is : words (word_place ground.sizes (Address d) + 1) ≡ 0 = read (field.AddressHigh d) (one_test _ _ size) ∙ s.high in
     let length_is : words (word_place ground.sizes (Length d)) ≡ length frame = read (field.DescLength d) (one_test _ _ size) ∙ s.size in
-    let address : address_at ground.sizes words d ≡ place_of ground.sizes (Slot d) = omega arith in
+    let address : address_at ground.sizes words d ≡ start = omega arith in
     record {
       entry_is = read (field.AvailEntry i) (one_test _ _ (mod_below k (size_of ground.sizes) (omega arith))) ∙ s.entry;
       entry = size;
       address = (omega arith, omega arith, omega arith);
       length = (omega arith, omega arith, omega arith);
       flags = read (field.DescFlags d) (one_test _ _ size) ∙ s.flags;
-      bytes = bytes_lem words (place_of ground.sizes (Slot d)) (word_place ground.sizes (Slot d)) frame (omega arith) (λ j lt. read (field.SlotWord d j) (both_tests _ _ _ _ low (omega arith)) ∙ s.words j lt) s.offered.bytes ∙
+      bytes = bytes_lem words start (start / 4) frame (omega arith) (λ j lt. read (field.DataWord (start / 4 + j)) (is_word ground is start (length frame) j good lt) ∙ s.words j lt) s.offered.bytes ∙
           (ap (λ (a : ℕ). bytes_from words a (length frame)) (sym address) ∙ ap (λ (l : ℕ). bytes_from words (address_at ground.sizes words d) l) (sym length_is));
     }
   where
@@ -112,7 +113,9 @@ spells ground memory p k frame is s =
 
 pub spelled_lem : FramesAreSpelled
 spelled_lem = record {
-  in_flight = λ ground memory p end place k is a o from below. spells ground memory p k (frame_at end.accepted k) is ((a.sent o).spelled k from below);
+  in_flight = λ ground memory p end place k is a o from below. let s = (a.sent o).spelled k from below in
+      spells ground memory p k (start_in ground end.accepted k) (frame_at end.accepted k) is (start_good ground is (lengths_of end.accepted) k s.offered.most) s;
   accepted = λ ground memory after p end job is p2 a left. let put = puts_lem ground is p p2 memory after end (WritingIndex job) left a.holds in
-      spells ground after p job.number job.frame is (spelled_kept (λ f live na nu. put.beside f na) a.holds.3);
+      let good = job_good_at ground is end.accepted job a.holds.1 a.holds.2 a.holds.4.offered.most in
+      spells ground after p job.number (start_for ground job) job.frame is good (spelled_kept good.even (λ f live na nu. put.beside f na) a.holds.4);
 }

@@ -1,15 +1,16 @@
 -- What one honest end keeps, whatever the other does: stated of its end and its place in a call, over the words of memory.
-use Rattle.std.specs.Prelude.{◌≡◌, ◌≢◌, ℕ, zero, suc, ◌+◌, ◌/◌, ◌%◌, ◌<◌, ◌≤◌, true, false, List, [], length, get_or}
-use Rattle.split_ring.specs.Layout.{size_of, limit_of, place_of, Slot}
+use Rattle.std.specs.Prelude.{◌≡◌, ◌≢◌, ℕ, zero, suc, ◌+◌, ◌/◌, ◌%◌, ◌<◌, ◌≤◌, true, false, List, [], ◌∷◌, ◌++◌, length, get_or}
+use Rattle.split_ring.specs.Layout.{size_of, limit_of}
+use Rattle.split_ring.specs.Frames.{start_of, has_room}
 use Rattle.split_ring.specs.Ranges.{IsDescAddress, IsDescLength}
 use Rattle.link_handshake.specs.declared.Phase.{Phase}
 use Rattle.link_handshake.specs.declared.Phase.TheVariants.{Reset, Init, Ready, Run}
 use Rattle.link_handshake.specs.PhaseTable.{state_of}
 use Rattle.call_grammar.specs.Ends.{End}
-use Rattle.call_grammar.specs.Words.{words_for, frame_word}
+use Rattle.call_grammar.specs.Words.{words_for, lengths_of, frame_word}
 use Rattle.call_grammar.specs.Offers.{Job}
 use Rattle.call_grammar.specs.Places.{Place, Closed, AtState, Clearing, Setting, Refusing, Downed, AtUsedIndex, AtUsedId, Filling, WritingLow, WritingHigh, WritingLength, WritingFlags, WritingEntry, WritingIndex, AtEvent, AtAvailIndex, Arming, AtEntry, AtLow, AtHigh, AtLength, AtFlags, AtWord, GivingId, GivingLength, GivingIndex}
-use Rattle.ends_pair.specs.Fields.{Field, AvailIndex, UsedIndex, AvailEntry, AddressLow, AddressHigh, DescLength, DescFlags, SlotWord, part_of}
+use Rattle.ends_pair.specs.Fields.{Field, AvailIndex, UsedIndex, AvailEntry, AddressLow, AddressHigh, DescLength, DescFlags, DataWord, part_of}
 use Rattle.ends_pair.specs.Ground.{Ground, section_of, fields, IsOffered}
 
 -- Frames in flight
@@ -18,43 +19,56 @@ use Rattle.ends_pair.specs.Ground.{Ground, section_of, fields, IsOffered}
 abbrev pub frame_at : List (List ℕ) → ℕ → List ℕ
 frame_at frames k = get_or frames k []
 
--- the fields spell this frame at position k in the sender's own way: the entry names descriptor k mod the limit, whose address is that of its own slot
-pub record Spelled (ground : Ground) (field : Field → ℕ) (k : ℕ) (frame : List ℕ) : Type 0 where
+-- the byte of the section at which it starts
+abbrev pub start_in : Ground → List (List ℕ) → ℕ → ℕ
+start_in ground frames k = start_of ground.sizes (lengths_of frames) k
+
+-- the fields spell this frame at position k in the sender's own way: the entry names descriptor k mod the limit, whose address is that byte
+pub record Spelled (ground : Ground) (field : Field → ℕ) (k start : ℕ) (frame : List ℕ) : Type 0 where
   pub offered : IsOffered ground frame
   pub entry : field (AvailEntry (k % size_of ground.sizes)) ≡ k % limit_of ground.sizes
-  pub low : field (AddressLow (k % limit_of ground.sizes)) ≡ place_of ground.sizes (Slot (k % limit_of ground.sizes))
+  pub low : field (AddressLow (k % limit_of ground.sizes)) ≡ start
   pub high : field (AddressHigh (k % limit_of ground.sizes)) ≡ 0
   pub size : field (DescLength (k % limit_of ground.sizes)) ≡ length frame
   pub flags : field (DescFlags (k % limit_of ground.sizes)) ≡ 0
-  pub words : (j : ℕ) → j < words_for (length frame) → field (SlotWord (k % limit_of ground.sizes) j) ≡ frame_word frame j
+  pub words : (j : ℕ) → j < words_for (length frame) → field (DataWord (start / 4 + j)) ≡ frame_word frame j
 
 -- the own section in a session: the indexes are the counts, and each frame in flight is spelled
 pub record Sent (ground : Ground) (field : Field → ℕ) (accepted : List (List ℕ)) (freed returned : ℕ) : Type 0 where
   pub available : field AvailIndex ≡ length accepted % 65536
   pub used : field UsedIndex ≡ returned % 65536
-  pub spelled : (k : ℕ) → freed ≤ k → k < length accepted → Spelled ground field k (frame_at accepted k)
+  pub spelled : (k : ℕ) → freed ≤ k → k < length accepted → Spelled ground field k (start_in ground accepted k) (frame_at accepted k)
 
 -- What an open offer has written
 
--- the job is of the next frame, where so many were accepted, and it has the other entry of its word as that stands
-pub record IsNext (ground : Ground) (field : Field → ℕ) (accepted : ℕ) (job : Job) : Type 0 where
+-- the job is of the next frame after those that were accepted, and it has the other entry of its word as that stands
+pub record IsNext (ground : Ground) (field : Field → ℕ) (accepted : List (List ℕ)) (job : Job) : Type 0 where
   pub frame : IsOffered ground job.frame
-  pub number : job.number ≡ accepted
+  pub number : job.number ≡ length accepted
+  pub lengths : job.lengths ≡ lengths_of (accepted ++ job.frame ∷ [])
   pub beside : (e : ℕ) → e ≢ job.number % size_of ground.sizes → e / 2 ≡ job.number % size_of ground.sizes / 2 →
       part_of (AvailEntry e) job.beside ≡ field (AvailEntry e)
 
--- and so many of its words stand in a free slot
-pub record Filled (ground : Ground) (field : Field → ℕ) (accepted freed : ℕ) (job : Job) (count : ℕ) : Type 0 where
+-- the byte at which its frame starts
+abbrev pub start_for : Ground → Job → ℕ
+start_for ground job = start_of ground.sizes job.lengths job.number
+
+-- its frame has room, where so many frames were freed
+abbrev pub HasRoom : Ground → Job → ℕ → Type 0
+HasRoom ground job freed = has_room ground.sizes job.lengths freed job.number ≡ true
+
+-- and so many of its words stand where there is room
+pub record Filled (ground : Ground) (field : Field → ℕ) (accepted : List (List ℕ)) (freed : ℕ) (job : Job) (count : ℕ) : Type 0 where
   pub next : IsNext ground field accepted job
-  pub room : job.number < freed + limit_of ground.sizes
-  pub words : (j : ℕ) → j < count → field (SlotWord (job.number % limit_of ground.sizes) j) ≡ frame_word job.frame j
+  pub room : HasRoom ground job freed
+  pub words : (j : ℕ) → j < count → field (DataWord (start_for ground job / 4 + j)) ≡ frame_word job.frame j
 
 -- all of them; and then each part of the descriptor
 abbrev pub HasWords : Ground → (Field → ℕ) → End → Job → Type 0
-HasWords ground field end job = Filled ground field (length end.accepted) end.freed job (words_for (length job.frame))
+HasWords ground field end job = Filled ground field end.accepted end.freed job (words_for (length job.frame))
 
 abbrev pub HasLow : Ground → (Field → ℕ) → Job → Type 0
-HasLow ground field job = field (AddressLow (job.number % limit_of ground.sizes)) ≡ place_of ground.sizes (Slot (job.number % limit_of ground.sizes))
+HasLow ground field job = field (AddressLow (job.number % limit_of ground.sizes)) ≡ start_for ground job
 
 abbrev pub HasHigh : Ground → (Field → ℕ) → Job → Type 0
 HasHigh ground field job = field (AddressHigh (job.number % limit_of ground.sizes)) ≡ 0
@@ -104,12 +118,12 @@ Holds ground memory p end (AtState handshake) = handshake ≡ end.handshake
 Holds ground memory p end (Clearing at more state) = (end.handshake.phase ≡ Init) × (state ≡ 2) × HasCleared ground memory p at more
 Holds ground memory p end (Setting state) = MaySet ground memory p end.handshake.phase state
 Holds ground memory p end Downed = end.handshake.phase ≢ Run
-Holds ground memory p end (AtUsedIndex job freed) = InRun end × IsNext ground (fields ground memory p) (length end.accepted) job × (freed ≡ end.freed)
+Holds ground memory p end (AtUsedIndex job freed) = InRun end × IsNext ground (fields ground memory p) end.accepted job × (freed ≡ end.freed)
 Holds ground memory p end (AtUsedId job freed more) =
-    InRun end × IsNext ground (fields ground memory p) (length end.accepted) job × (freed + suc more ≡ end.freed) ×
+    InRun end × IsNext ground (fields ground memory p) end.accepted job × (freed + suc more ≡ end.freed) ×
     (length end.accepted ≤ freed + limit_of ground.sizes)
 Holds ground memory p end (Filling job at more) =
-    InRun end × Filled ground (fields ground memory p) (length end.accepted) end.freed job at × (at + suc more ≡ words_for (length job.frame))
+    InRun end × Filled ground (fields ground memory p) end.accepted end.freed job at × (at + suc more ≡ words_for (length job.frame))
 Holds ground memory p end (WritingLow job) = InRun end × HasWords ground (fields ground memory p) end job
 Holds ground memory p end (WritingHigh job) = InRun end × HasWords ground (fields ground memory p) end job × HasLow ground (fields ground memory p) job
 Holds ground memory p end (WritingLength job) =
@@ -121,8 +135,8 @@ Holds ground memory p end (WritingEntry job) =
     InRun end × HasWords ground (fields ground memory p) end job × HasLow ground (fields ground memory p) job × HasHigh ground (fields ground memory p) job ×
     HasLength ground (fields ground memory p) job × HasFlags ground (fields ground memory p) job
 Holds ground memory p end (WritingIndex job) =
-    InRun end × (job.number ≡ length end.accepted) × (job.number < end.freed + limit_of ground.sizes) ×
-    Spelled ground (fields ground memory p) job.number job.frame
+    InRun end × (job.number ≡ length end.accepted) × (job.lengths ≡ lengths_of (end.accepted ++ job.frame ∷ [])) × HasRoom ground job end.freed ×
+    Spelled ground (fields ground memory p) job.number (start_for ground job) job.frame
 Holds ground memory p end (AtEvent number) = InRun end × (number + 1 ≡ length end.accepted)
 Holds ground memory p end (AtAvailIndex taken last) = InRun end × IsTaken end taken
 Holds ground memory p end (Arming taken) = InRun end × IsTaken end taken

@@ -1,12 +1,12 @@
 -- The fields of an output section that the two ends use: the word in which each stands, and the part of that word which it is
 -- (VIRTIO 1.1, section 2.6: split virtqueues; one half of the queue in each section: profile).
-use Rattle.std.specs.Prelude.{ℕ, ◌+◌, ◌/◌, nat_lt, Bool, true, ◌&&◌}
-use Rattle.split_ring.specs.Layout.{Sizes, size_of, limit_of, slot_of, word_place, Address, Length, Flags, AvailableIndex, Entry, Id, Amount, AvailableEvent, Slot}
+use Rattle.std.specs.Prelude.{ℕ, ◌+◌, ◌/◌, nat_lt, nat_le, Bool, true, ◌&&◌}
+use Rattle.split_ring.specs.Layout.{Sizes, size_of, payload_of, word_place, Address, Length, Flags, AvailableIndex, Entry, Id, Amount, AvailableEvent}
 use Rattle.split_ring.specs.Layout as ring
 use Rattle.split_ring.specs.Spelling.{low_half, high_half, entry_half}
 
 -- the two indexes and the event; the available entry, and the id and the amount of the used element, at a position of their ring; the parts of a descriptor;
--- and the words of its slot
+-- and the words of the data area, by their numbers in the section
 pub data Field : Type 0 where
   AvailIndex : Field
   UsedIndex : Field
@@ -18,9 +18,9 @@ pub data Field : Type 0 where
   AddressHigh : (descriptor : ℕ) → Field
   DescLength : (descriptor : ℕ) → Field
   DescFlags : (descriptor : ℕ) → Field
-  SlotWord : (descriptor : ℕ) (at : ℕ) → Field
+  DataWord : (word : ℕ) → Field
 
--- positions and descriptors are below the queue's size, and slots below the limit in flight
+-- positions and descriptors are below the queue's size, and the data area goes to the section's end
 abbrev pub is_field : Sizes → Field → Bool
 is_field sizes AvailIndex = true
 is_field sizes UsedIndex = true
@@ -32,7 +32,7 @@ is_field sizes (AddressLow i) = nat_lt i (size_of sizes)
 is_field sizes (AddressHigh i) = nat_lt i (size_of sizes)
 is_field sizes (DescLength i) = nat_lt i (size_of sizes)
 is_field sizes (DescFlags i) = nat_lt i (size_of sizes)
-is_field sizes (SlotWord i at) = nat_lt i (limit_of sizes) && nat_lt at (slot_of sizes / 4)
+is_field sizes (DataWord word) = nat_le (payload_of sizes / 4) word && nat_lt word (sizes.out / 4)
 
 -- the word of the section in which a field stands
 abbrev pub field_word : Sizes → Field → ℕ
@@ -46,7 +46,7 @@ field_word sizes (AddressLow i) = word_place sizes (Address i)
 field_word sizes (AddressHigh i) = word_place sizes (Address i) + 1
 field_word sizes (DescLength i) = word_place sizes (Length i)
 field_word sizes (DescFlags i) = word_place sizes (Flags i)
-field_word sizes (SlotWord i at) = word_place sizes (Slot i) + at
+field_word sizes (DataWord word) = word
 
 -- the field in its word: indexes, the event, entries and flags are halves of it, any other is all of it
 abbrev pub part_of : Field → ℕ → ℕ

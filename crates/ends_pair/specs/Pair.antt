@@ -1,12 +1,12 @@
 -- What two honest ends keep between them.
 use Rattle.std.specs.Prelude.{◌≡◌, ◌≢◌, ℕ, suc, ◌+◌, ◌-◌, ◌%◌, ◌<◌, ◌≤◌, ◌⊎◌, false, List, ◌++◌, length}
-use Rattle.split_ring.specs.Layout.{size_of, limit_of, place_of, Slot}
+use Rattle.split_ring.specs.Layout.{size_of, limit_of}
 use Rattle.link_handshake.specs.declared.Phase.TheVariants.{Init, Ready, Run}
 use Rattle.call_grammar.specs.Ends.{End}
 use Rattle.call_grammar.specs.Places.{Place, Setting, Refusing, AtUsedId, AtEntry, AtLow, AtHigh, AtLength, AtFlags, AtWord, GivingId, GivingLength, GivingIndex}
 use Rattle.ends_pair.specs.Fields.{Field, UsedId}
 use Rattle.ends_pair.specs.Ground.{Ground, fields, first_words}
-use Rattle.ends_pair.specs.Alone.{frame_at, Sent, Alone}
+use Rattle.ends_pair.specs.Alone.{frame_at, start_in, Sent, Alone}
 
 -- the ids below this number were read: of an end that freed so many, but in the middle of its ids
 abbrev pub freed_at : ℕ → Place → ℕ
@@ -21,8 +21,8 @@ AreAccepted frames number more = number + suc more ≤ length frames
 abbrev pub IsOwnEntry : Ground → (number entry : ℕ) → Type 0
 IsOwnEntry ground number entry = entry ≡ number % limit_of ground.sizes
 
-abbrev pub IsOwnSlot : Ground → (number address : ℕ) → Type 0
-IsOwnSlot ground number address = address ≡ place_of ground.sizes (Slot (number % limit_of ground.sizes))
+abbrev pub IsOwnStart : Ground → List (List ℕ) → (number address : ℕ) → Type 0
+IsOwnStart ground frames number address = address ≡ start_in ground frames number
 
 abbrev pub IsSize : List (List ℕ) → (number bytes : ℕ) → Type 0
 IsSize frames number bytes = bytes ≡ length (frame_at frames number)
@@ -34,13 +34,13 @@ IsNamed ground field number = field (UsedId (number % size_of ground.sizes)) ≡
 abbrev pub Polls : Ground → (Field → ℕ) → List (List ℕ) → Place → Type 0
 Polls ground field frames (AtEntry number more) = AreAccepted frames number more
 Polls ground field frames (AtLow number more entry) = AreAccepted frames number more × IsOwnEntry ground number entry
-Polls ground field frames (AtHigh number more entry low) = AreAccepted frames number more × IsOwnEntry ground number entry × IsOwnSlot ground number low
+Polls ground field frames (AtHigh number more entry low) = AreAccepted frames number more × IsOwnEntry ground number entry × IsOwnStart ground frames number low
 Polls ground field frames (AtLength number more entry address) = AreAccepted frames number more × IsOwnEntry ground number entry ×
-    IsOwnSlot ground number address
+    IsOwnStart ground frames number address
 Polls ground field frames (AtFlags number more entry address bytes) =
-    AreAccepted frames number more × IsOwnEntry ground number entry × IsOwnSlot ground number address × IsSize frames number bytes
+    AreAccepted frames number more × IsOwnEntry ground number entry × IsOwnStart ground frames number address × IsSize frames number bytes
 Polls ground field frames (AtWord number more entry address bytes read words) =
-    AreAccepted frames number more × IsOwnEntry ground number entry × IsOwnSlot ground number address × IsSize frames number bytes ×
+    AreAccepted frames number more × IsOwnEntry ground number entry × IsOwnStart ground frames number address × IsSize frames number bytes ×
     (read ≡ first_words (frame_at frames number) (length read))
 Polls ground field frames (GivingId number more entry) = AreAccepted frames number more × IsOwnEntry ground number entry
 Polls ground field frames (GivingLength number more) = AreAccepted frames number more × IsNamed ground field number

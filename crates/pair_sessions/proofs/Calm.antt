@@ -19,7 +19,7 @@ use Rattle.call_grammar.specs.Words.{words_for, address_of}
 use Rattle.call_grammar.specs.Rows.{MovesTo}
 use Rattle.call_grammar.specs.Calls.{Call, Tick, Stop, Offer, Poll, in_run, job_of}
 use Rattle.call_grammar.specs.Ticks.{Who}
-use Rattle.call_grammar.specs.Offers.{Job, descriptor_of, asks_for, returned_by}
+use Rattle.call_grammar.specs.Offers.{Job, finds_room, descriptor_of, asks_for, returned_by}
 use Rattle.call_grammar.specs.Polls.{is_entry, is_address, is_length, is_last, published_by}
 use Rattle.call_grammar.specs.Places.{Place, Closed, AtState, Clearing, Setting, Refusing, Downed, AtUsedIndex, AtUsedId, Filling, WritingLow, WritingHigh, WritingLength, WritingFlags, WritingEntry, WritingIndex, AtEvent, RingingOffer, AtAvailIndex, Arming, AtEntry, AtLow, AtHigh, AtLength, AtFlags, AtWord, GivingId, GivingLength, GivingIndex, RingingPoll, clear_place, tick_place, fill_place, ids_place, none_place, items_place, words_place, first_place, access_at, next_place, step_at}
 use Rattle.link_machine.specs.LinkMachine.{Side, fresh_side, Told, Gave, Wrote, Marked, WasReset, MarkRow, Row, Log, no_sessions, log_after, MachineRuns}
@@ -215,7 +215,7 @@ fill_up job at zero down = down
 fill_up job at (suc more) down = down
 
 ids_up : (who : Who) (job : Job) (freed count : ℕ) → ¬ IsDown (ids_place who job freed count)
-ids_up who job freed zero = test_up (job.number == freed + limit_of who.sizes) Closed (fill_place job 0 (words_for (length job.frame))) (λ d. d) (fill_up job 0 (words_for (length job.frame)))
+ids_up who job freed zero = test_up (finds_room who job freed) (fill_place job 0 (words_for (length job.frame))) Closed (fill_up job 0 (words_for (length job.frame))) (λ d. d)
 ids_up who job freed (suc more) = λ d. d
 
 none_up : (taken : ℕ) (last : Bool) → ¬ IsDown (none_place taken last)

@@ -118,7 +118,8 @@ telling_few sender who end number is stands =
     let counts = telling_at sender.place sender who end (has_events who.sizes) number stands.at in
     let few = is.in_flight in
     let limit = ap limit_of stands.made.sizes in
-    omega (arith, counts.in_flight, few, limit)
+    let all = counts.flight.stands.in_flight in
+    omega (arith, all, few, limit)
 
 publishing_next : (who : Who) (place : places.Place) (value : ℕ) → is_publishing place ≡ true → (number : ℕ) × (places.next_place who place value ≡ places.tell_place who number)
 publishing_next who (places.WritingIndex job) value is = (job.number, refl)

@@ -1,7 +1,7 @@
 -- A step of the receiver.
 use Rattle.std.proofs.Common.{◌≡◌, ℕ, ◌+◌, ◌%◌, ◌<◌, Bool, true, false, Some, None, List, length, refl, subst, ap, sym, ◌∙◌, All, arith}
 use Rattle.std.proofs.lemmas.Grind.{common_steps}
-use Rattle.split_ring.specs.Layout.{size_of, limit_of, word_place, Entry}
+use Rattle.split_ring.specs.Layout.{size_of, word_place, Entry}
 use Rattle.split_ring.specs.declared.ranges.Refused.{Refused}
 use Rattle.split_ring.specs.declared.steps.Note.{Note}
 use Rattle.call_grammar.specs.Steps.{marks_of}
@@ -9,7 +9,8 @@ use Rattle.call_grammar.specs.Ends.{End, end_after}
 use Rattle.call_grammar.specs.Calls.{Who}
 use Rattle.call_grammar.specs.Places as places
 use Rattle.call_grammar.specs.StepBounds.{HasFewInFlight}
-use Rattle.tx_engine.specs.Sender.{Sender}
+use Rattle.call_grammar.specs.Words.{lengths_of}
+use Rattle.tx_engine.specs.Sender.{Sender, KeepsFlight, turn_of}
 use Rattle.tx_engine.specs.Stands as tx
 use Rattle.tx_engine.specs.declared.place.Place as tx_places
 use Rattle.tx_engine.specs.declared.place.Place.TheVariants as tx_place
@@ -35,8 +36,8 @@ sender_stays_at tx_place.Closed sender who end other at accepted freed entries p
       let count = ap (λ frames. length frames) (sym accepted) in
       record {
         accepted = old.accepted ∙ ap (λ n. n % 65536) count;
-        next = old.next ∙ ap (λ n. n % limit_of who.sizes) count;
-        in_flight = ap (λ n. n + sender.in_flight) freed ∙ old.in_flight ∙ count;
+        flight = subst (λ f. KeepsFlight (turn_of sender) sender.lengths (lengths_of other.accepted) f (length other.accepted)) (sym freed)
+            (subst (λ (frames : List (List ℕ)). KeepsFlight (turn_of sender) sender.lengths (lengths_of frames) end.freed (length frames)) (sym accepted) old.flight);
         copy = λ k below. entries k below ∙ old.copy k below;
       },
 )

@@ -1,11 +1,12 @@
 -- For which ends of the call grammar an endpoint stands, and its steps there.
-use Rattle.std.specs.Prelude.{ℕ, ◌≡◌, ◌+◌, ◌-◌, ◌<◌, ◌≤◌, Bool, true, false, is_some, List, [], ◌∷◌, map, All}
+use Rattle.std.specs.Prelude.{ℕ, ◌≡◌, ◌+◌, ◌-◌, ◌<◌, ◌≤◌, ◌&&◌, Bool, true, false, is_some, List, [], ◌∷◌, map, All}
 use Rattle.link_handshake.specs.declared.Phase.TheVariants.{Init}
+use Rattle.split_ring.specs.Layout.{has_events}
 use Rattle.split_ring.specs.declared.steps.Note.{Note}
 use Rattle.split_ring.specs.declared.steps.Note.TheVariants as note
 use Rattle.call_grammar.specs.Steps.{Mark, Saw, Accept, Over, mark_of, marks_of}
 use Rattle.call_grammar.specs.Ends.{End, end_after}
-use Rattle.call_grammar.specs.Calls.{Who, Tick}
+use Rattle.call_grammar.specs.Calls.{Who, Tick, in_run}
 use Rattle.call_grammar.specs.Places as places
 use Rattle.call_grammar.specs.StepBounds.{HasFewInFlight}
 use Rattle.tx_engine.specs.Stands as tx
@@ -62,6 +63,11 @@ pub record StandsAt (e : Engine) (who : Who) (end : End) (place : places.Place) 
   pub standing : end.handshake ≡ standing_of e
   pub few : HasFewInFlight who end
   pub at : IsAt e.place e who end place
+
+-- an end that has no call open waits armed: it is in RUN, and the last look of its session found no new frame, after which its event asks for a doorbell at the
+-- next one, in a link with events
+abbrev pub is_armed : Who → End → Bool
+is_armed who end = in_run end.handshake.phase && (has_events who.sizes && end.found_none)
 
 -- Its steps
 

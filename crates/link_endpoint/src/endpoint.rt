@@ -10,7 +10,7 @@ ghost use Rattle.call_grammar.specs.Stretches.{Each, ReadsOn, WritesOn};
 ghost use Rattle.call_grammar.specs.Words.{word_bytes};
 ghost use Rattle.call_grammar.specs.StepBounds.{HasFewInFlight};
 ghost use Rattle.link_endpoint.specs.Engine.{who_of, fresh_engine, engine_after_reset, is_busy, is_down, is_leaving, is_looking, is_tick, offered, delivered, call_of, comes_down, refused_after, reads_ahead, writes_ahead};
-ghost use Rattle.link_endpoint.specs.Stands.{StandsAt, Takes, Opens};
+ghost use Rattle.link_endpoint.specs.Stands.{StandsAt, is_armed, Takes, Opens};
 ghost use Rattle.link_endpoint.specs.Leaving.{Refuses, Leaves, KeepsRefused, Stays, KeepsAway};
 ghost use Rattle.link_endpoint.specs.Stretches.{IsTaken};
 ghost use Rattle.link_endpoint.specs.Orders.{order_at, order_of};
@@ -105,6 +105,14 @@ impl Endpoint {
         ensures left { is_some self.now.refused ≡ true → is_leaving self.now ≡ false → result ≡ Phase.Reset }
     {
         self.handshake.phase()
+    }
+
+    /// Does the end wait armed? Asked where no call is open: in RUN it does from a poll that finds nothing on, until one finds a frame. An
+    /// end that does is rung at the next frame that an honest other accepts. In a link without events none does.
+    pub fn is_armed(&self) -> bool
+        ensures { (who : Who) (end : End) → StandsAt self.now who end places.Closed → result ≡ is_armed who end }
+    {
+        self.in_run() && self.rx.is_armed()
     }
 
     /// The value that the end refused, with its field, from the step that read it until the next reset: a Stop leaves it, and each

@@ -1,5 +1,5 @@
 -- A receiver, as contracts see it.
-use Rattle.std.specs.Prelude.{ℕ, ◌≡◌, ◌-◌, ◌*◌, ◌<◌, ◌==◌, if◌then◌else◌, Bool, true, false, ◌||◌, not, List, []}
+use Rattle.std.specs.Prelude.{ℕ, ◌≡◌, ◌-◌, ◌*◌, ◌<◌, ◌==◌, if◌then◌else◌, Bool, true, false, ◌&&◌, ◌||◌, not, List, []}
 use Rattle.split_ring.specs.Layout.{Sizes, has_events}
 use Rattle.split_ring.specs.Ranges.{IsAvailEntry, IsDescAddress, IsDescLength}
 use Rattle.call_grammar.specs.Words.{words_for}
@@ -43,6 +43,10 @@ renewed rx = record (fresh_receiver rx.sizes rx.own rx.theirs rx.target rx.vecto
 -- the first look of a poll that begins now is its last where it finds nothing, and no event is to be written
 abbrev pub is_last : Receiver → Bool
 is_last rx = not (has_events rx.sizes) || rx.found_none
+
+-- between two polls: the last look of the session found no new frame, and so the own event asks for a doorbell at the next one, in a link with events
+abbrev pub is_armed : Receiver → Bool
+is_armed rx = has_events rx.sizes && rx.found_none
 
 -- a poll is open at each place but one
 abbrev pub is_open_at : Place → Bool

@@ -10,7 +10,7 @@ ghost use Rattle.call_grammar.specs.Stretches.{Each, ReadsOn, WritesOn};
 ghost use Rattle.call_grammar.specs.Orders.{word_kind};
 ghost use Rattle.call_grammar.specs.Places as laws;
 ghost use Rattle.call_grammar.specs.Reach.{HasSections, InReach};
-ghost use Rattle.rx_engine.specs.Receiver.{fresh_receiver, renewed, is_last, is_busy, reads_ahead, writes_ahead, given, words_read, IsReached, KeepsNumbers};
+ghost use Rattle.rx_engine.specs.Receiver.{fresh_receiver, renewed, is_last, is_armed, is_busy, reads_ahead, writes_ahead, given, words_read, IsReached, KeepsNumbers};
 ghost use Rattle.rx_engine.specs.Stands.{IsMadeFor, IsFreshSession, StandsAt, Takes, TakesOn, ClosedStays};
 
 use crate::place::Place;
@@ -144,6 +144,14 @@ impl Rx {
         ensures open { (who : Who) (end : End) (place : laws.Place) → StandsAt self.now who end place → result ≡ laws.is_open place }
     {
         !matches!(self.place, Place::Closed)
+    }
+
+    /// Does the own event ask for a doorbell at the next frame? Asked where no poll is open: it does from a poll that finds nothing on,
+    /// until one finds a frame. In a link without events it never does.
+    pub fn is_armed(&self) -> bool
+        ensures { result ≡ is_armed self.now }
+    {
+        self.queue.has_events() && self.found_none
     }
 
     /// Opens a poll, of an end in RUN.

@@ -5,15 +5,16 @@ use Rattle.split_ring.specs.declared.steps.Access.TheVariants.{Read, Write}
 use Rattle.split_ring.specs.Layout.{HasBounds, size_of, limit_of, word_place, Entry, Id}
 use Rattle.call_grammar.specs.Ends.{End}
 use Rattle.call_grammar.specs.Ticks.{Who}
-use Rattle.call_grammar.specs.Words.{with_entry}
+use Rattle.call_grammar.specs.Words.{with_entry, lengths_of}
 use Rattle.call_grammar.specs.Offers.{descriptor_of, entry_of}
 use Rattle.call_grammar.specs.Places as laws
 use Rattle.frame_slots.specs.declared.slots.Slot as slots
 use Rattle.tx_engine.specs.declared.place.Place.{Place}
 use Rattle.tx_engine.specs.declared.place.Place.TheVariants.{AtUsedId, WritingEntry}
-use Rattle.tx_engine.specs.Sender.{Sender, IsSender, entry_word_of}
+use Rattle.tx_engine.specs.Sender.{Sender, IsSender, turn_of, entry_word_of}
 use Rattle.tx_engine.specs.Stands.{StandsAt, Counts, IsAt, IsMadeFor, HasCopy}
 use Rattle.tx_engine.proofs.Counting.{fewer, once}
+use Rattle.tx_engine.proofs.Flights.{oldest_of_flight}
 
 -- what standing means at the place where the sender is
 pub at_here : (tx : Sender) (here : Place) (who : Who) (end : End) (place : laws.Place) → tx.place ≡ here → StandsAt tx who end place → IsAt here tx who end place
@@ -24,6 +25,7 @@ pub freed_is : (tx : Sender) (who : Who) (end : End) (freed : ℕ) → IsSender 
 freed_is tx who end freed is counts =
     let few = is.in_flight in
     let bounds = is.bounds in
+    let all = counts.flight.stands.in_flight in
     let small : tx.in_flight ≤ 65536 = omega arith in
     let left : length end.accepted - tx.in_flight ≡ freed = omega arith in
     ap (λ a. (a + 65536 - tx.in_flight) % 65536) counts.accepted ∙ (fewer (length end.accepted) 65536 tx.in_flight (omega arith) small ∙ ap (λ n. n % 65536) left)
@@ -31,11 +33,7 @@ freed_is tx who end freed is counts =
 -- the oldest descriptor in flight
 pub oldest_is : (tx : Sender) (who : Who) (end : End) (freed : ℕ) → IsSender tx → IsMadeFor tx who → Counts tx who end freed → (tx.next + limit_of tx.sizes - tx.in_flight) % limit_of tx.sizes ≡ descriptor_of who freed
 oldest_is tx who end freed is made counts =
-    let c = limit_of tx.sizes in
-    let few = is.in_flight in
-    let next : tx.next ≡ length end.accepted % c = counts.next ∙ ap (λ q. length end.accepted % limit_of q) made.sizes in
-    let left : length end.accepted - tx.in_flight ≡ freed = omega arith in
-    ap (λ n. (n + c - tx.in_flight) % c) next ∙ (fewer (length end.accepted) c tx.in_flight (omega arith) few ∙ (ap (λ n. n % c) left ∙ ap (λ q. freed % limit_of q) (sym made.sizes)))
+    oldest_of_flight (turn_of tx) (lengths_of end.accepted) freed (length end.accepted) counts.flight.stands ∙ ap (λ q. freed % limit_of q) (sym made.sizes)
 
 -- the place of the next entry
 pub entry_is : (tx : Sender) (who : Who) (number : ℕ) → IsSender tx → IsMadeFor tx who → tx.accepted ≡ number % 65536 → tx.accepted % size_of tx.sizes ≡ entry_of who number

@@ -63,8 +63,7 @@ entry_taken tx old slot value at word notes tx_is is here at_is word_is notes_ar
         refl,
         record {
           accepted = counts.accepted;
-          next = counts.next;
-          in_flight = counts.in_flight;
+          flight = counts.flight;
           copy = λ j below. after j below ∙ ap (λ (es : List ℕ). slice_index es (j / 2)) (sym entries_are);
         },
       ),

@@ -1,5 +1,5 @@
 -- The fields of a sender, as its value has them.
-use Rattle.std.proofs.Common.{◌≡◌, ℕ, ◌+◌, ◌-◌, ◌/◌, ◌%◌, List, [], ◌∷◌, length, arith, ap, sym, ◌∙◌, subst}
+use Rattle.std.proofs.Common.{◌≡◌, ℕ, ◌+◌, ◌-◌, ◌/◌, ◌%◌, List, [], ◌∷◌, length, slice_index, arith, ap, sym, ◌∙◌, subst}
 use Rattle.std.proofs.lemmas.List.{length-take}
 use Rattle.ivs_base.specs.Numbers.{distance}
 use Rattle.split_ring.specs.declared.ranges.FieldName.TheVariants.{UsedId}
@@ -11,43 +11,54 @@ use Rattle.frame_slots.specs.Turns.{Turn, oldest_of, with_freed}
 use Rattle.tx_engine.specs.declared.tx.Tx.TheInside.{Inside}
 use Rattle.tx_engine.specs.declared.place.Place.{Place}
 use Rattle.tx_engine.specs.declared.place.Place.TheVariants.{AtUsedIndex, AtUsedId, Refusing}
-use Rattle.tx_engine.specs.Sender.{Sender, IsPlace}
+use Rattle.tx_engine.specs.Sender.{Sender, IsFrame, IsPlace, turn_of}
 use Rattle.tx_engine.specs.Kept.{sender_of, IsKept}
 use Rattle.tx_engine.specs.Reads.{GoesOn}
 use Rattle.tx_engine.specs.Stands.{Takes}
-use Rattle.tx_engine.proofs.Reading.{turn_of, with_turn, full_notes, index_taken, id_taken, id_refused}
+use Rattle.tx_engine.proofs.Reading.{CanGoOn, with_turn, oldest_length, full_notes, index_taken, id_taken, id_refused}
 
 pub length_is : (t : Inside) → IsKept t → length (sender_of t).frame ≡ t.length
 length_is t kept = omega (arith, length-take t.length t.buffer.items, kept.buffer, kept.length)
 
 pub turn_is : (t : Inside) → IsKept t → t.slots ≡ turn_of (sender_of t)
-turn_is t kept = ap (λ q. let turn : Turn = record { sizes = q; next = t.slots.next; in_flight = t.slots.in_flight } in turn) kept.slots
+turn_is t kept = ap (λ q. let turn : Turn = record t.slots { sizes = q } in turn) kept.slots
 
 -- what holds at the place where the sender is
 pub place_holds : (t : Inside) (here : Place) → IsKept t → t.place ≡ here → IsPlace (sender_of t) here
 place_holds t here kept is = subst (λ p. IsPlace (sender_of t) p) is kept.sender.place
 
-pub goes_on_from : (t : Inside) (count : ℕ) (old : Turn) (place : Place) (new : Turn) → IsKept t → GoesOn old t.length count place new → GoesOn old (length (sender_of t).frame) count place new
-goes_on_from t count old place new kept on = subst (λ n. GoesOn old n count place new) (sym (length_is t kept)) on
+-- a sender can go on after a read
+pub can_go_on : (t : Inside) → IsKept t → IsFrame t.queue (sender_of t).frame → CanGoOn (sender_of t)
+can_go_on t kept frame = record { queue = kept.sender.queue; lengths = kept.sender.lengths; least = frame.0; most = frame.1 }
+
+pub goes_on_from : (t : Inside) (count : ℕ) (old : Turn) (place : Place) (new : Turn) (lengths : List ℕ) → IsKept t → GoesOn old t.lengths.items t.length count place new lengths →
+    GoesOn old t.lengths.items (length (sender_of t).frame) count place new lengths
+goes_on_from t count old place new lengths kept on = subst (λ n. GoesOn old t.lengths.items n count place new lengths) (sym (length_is t kept)) on
 
 -- the sender reads a used index in range
-pub index_step : (t : Inside) (old : Sender) (value count freed in_flight : ℕ) (place : Place) (turn : Turn) (notes : List Note) → sender_of t ≡ old → IsKept t → t.place ≡ AtUsedIndex →
+pub index_step : (t : Inside) (old : Sender) (value count freed in_flight : ℕ) (place : Place) (turn : Turn) (lengths : List ℕ) (notes : List Note) → sender_of t ≡ old → IsKept t → t.place ≡ AtUsedIndex →
     freed ≡ (t.accepted + 65536 - t.slots.in_flight) % 65536 → in_flight ≡ t.slots.in_flight → IsUsedIndex freed (value / 65536) in_flight → count ≡ distance freed (value / 65536) →
-    GoesOn t.slots t.length count place turn → notes ≡ Reclaim count ∷ full_notes place → Takes old value notes (with_turn (sender_of t) turn place)
-index_step t old value count freed in_flight place turn notes view_is kept here freed_is in_flight_is within count_is on notes_are =
+    GoesOn t.slots t.lengths.items t.length count place turn lengths → notes ≡ Reclaim count ∷ full_notes place → Takes old value notes (with_turn (sender_of t) turn lengths place)
+index_step t old value count freed in_flight place turn lengths notes view_is kept here freed_is in_flight_is within count_is on notes_are =
     let within_all : IsUsedIndex ((t.accepted + 65536 - t.slots.in_flight) % 65536) (value / 65536) t.slots.in_flight =
     subst (λ n. IsUsedIndex n (value / 65536) t.slots.in_flight) freed_is (subst (λ n. IsUsedIndex freed (value / 65536) n) in_flight_is within) in
     let count_all = count_is ∙ ap (λ n. distance n (value / 65536)) freed_is in
-    let on_all = subst (λ u. GoesOn u (length (sender_of t).frame) count place turn) (turn_is t kept) (goes_on_from t count t.slots place turn kept on) in
-    subst (λ s. Takes s value notes (with_turn (sender_of t) turn place)) view_is (index_taken (sender_of t) value count place turn notes kept.sender (place_holds t AtUsedIndex kept here).0 here within_all count_all on_all notes_are)
+    let on_all = subst (λ u. GoesOn u t.lengths.items (length (sender_of t).frame) count place turn lengths) (turn_is t kept) (goes_on_from t count t.slots place turn lengths kept on) in
+    subst (λ s. Takes s value notes (with_turn (sender_of t) turn lengths place)) view_is
+    (index_taken (sender_of t) value count place turn lengths notes kept.sender (can_go_on t kept (place_holds t AtUsedIndex kept here)) here within_all count_all on_all notes_are)
 
 -- the sender reads the id of the oldest frame in flight
-pub id_step : (t : Inside) (old : Sender) (more id oldest : ℕ) (free : Turn) (place : Place) (turn : Turn) (notes : List Note) → sender_of t ≡ old → IsKept t → t.place ≡ AtUsedId more → oldest ≡ oldest_of t.slots → id ≡ oldest →
-    free ≡ with_freed t.slots → GoesOn free t.length more place turn → notes ≡ full_notes place → Takes old id notes (with_turn (sender_of t) turn place)
-id_step t old more id oldest free place turn notes view_is kept here oldest_is id_is free_is on notes_are =
+pub id_step : (t : Inside) (old : Sender) (more id oldest : ℕ) (free : Turn) (place : Place) (turn : Turn) (lengths : List ℕ) (notes : List Note) → sender_of t ≡ old → IsKept t → t.place ≡ AtUsedId more →
+    oldest ≡ oldest_of t.slots → id ≡ oldest → free ≡ with_freed t.slots (slice_index t.lengths.items oldest) → GoesOn free t.lengths.items t.length more place turn lengths →
+    notes ≡ full_notes place → Takes old id notes (with_turn (sender_of t) turn lengths place)
+id_step t old more id oldest free place turn lengths notes view_is kept here oldest_is id_is free_is on notes_are =
     let holds = place_holds t (AtUsedId more) kept here in
-    let on_all = subst (λ u. GoesOn u (length (sender_of t).frame) more place turn) (free_is ∙ ap with_freed (turn_is t kept)) (goes_on_from t more free place turn kept on) in
-    subst (λ s. Takes s id notes (with_turn (sender_of t) turn place)) view_is (id_taken (sender_of t) more id place turn notes kept.sender holds.1.0 holds.0 here (id_is ∙ (oldest_is ∙ ap oldest_of (turn_is t kept))) on_all notes_are)
+    let now = turn_is t kept in
+    let kept_length : slice_index t.lengths.items oldest ≡ oldest_length (sender_of t) = ap (slice_index t.lengths.items) (oldest_is ∙ ap oldest_of now) in
+    let freed : free ≡ with_freed (turn_of (sender_of t)) (oldest_length (sender_of t)) = free_is ∙ (ap (λ u. with_freed u (slice_index t.lengths.items oldest)) now ∙ ap (with_freed (turn_of (sender_of t))) kept_length) in
+    let on_all = subst (λ u. GoesOn u t.lengths.items (length (sender_of t).frame) more place turn lengths) freed (goes_on_from t more free place turn lengths kept on) in
+    subst (λ s. Takes s id notes (with_turn (sender_of t) turn lengths place)) view_is
+    (id_taken (sender_of t) more id place turn lengths notes kept.sender (can_go_on t kept holds.1) holds.0 here (id_is ∙ (oldest_is ∙ ap oldest_of now)) on_all notes_are)
 
 -- the sender reads another id
 pub id_refusal : (t : Inside) (old : Sender) (more id oldest : ℕ) (refused : Refused) (notes : List Note) → sender_of t ≡ old → IsKept t → t.place ≡ AtUsedId more → oldest ≡ oldest_of t.slots → ¬ IsUsedId oldest id →

@@ -1,21 +1,12 @@
 -- What a sender does after the write of a word of the frame.
 use Rattle.std.proofs.Common.{◌≡◌, ℕ, zero, suc, ◌+◌, ◌-◌, ◌<◌, List, [], refl, sym, ap, ◌∙◌, subst, arith}
-use Rattle.std.proofs.lemmas.Grind.{common_steps}
 use Rattle.split_ring.specs.declared.steps.Note.{Note}
 use Rattle.frame_slots.specs.declared.slots.Slot as slots
 use Rattle.tx_engine.specs.declared.place.Place.{Place}
 use Rattle.tx_engine.specs.declared.place.Place.TheVariants.{Filling, WritingLow}
 use Rattle.tx_engine.specs.Sender.{Sender, IsSender}
 use Rattle.tx_engine.specs.Stands.{Takes}
-
--- a word that isn't the last one
-fills_on : (tx : Sender) (slot : slots.Slot) (at more value : ℕ) → IsSender tx → tx.place ≡ Filling slot at (suc more) →
-    Takes tx value [] (record tx { place = Filling slot (at + 1) more })
-fills_on tx slot at more value is here = grind (arith, common_steps)
-
--- the last word
-fills_last : (tx : Sender) (slot : slots.Slot) (at value : ℕ) → IsSender tx → tx.place ≡ Filling slot at 0 → Takes tx value [] (record tx { place = WritingLow slot })
-fills_last tx slot at value is here = grind (arith, common_steps)
+use Rattle.tx_engine.proofs.Writing.{fills_on, fills_last}
 
 pub word_written : (tx new : Sender) (slot : slots.Slot) (at more value : ℕ) (place : Place) (notes : List Note) → IsSender tx → tx.place ≡ Filling slot at more →
     (0 < more → place ≡ Filling slot (at + 1) (more - 1)) → (more ≡ 0 → place ≡ WritingLow slot) → new ≡ record tx { place = place } → notes ≡ [] → Takes tx value notes new

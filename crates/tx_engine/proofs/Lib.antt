@@ -1,8 +1,11 @@
 pub mod Counting
+pub mod Flights
 pub mod Frames
 pub mod Accesses
 pub mod Reading
 pub mod Fields
+pub mod Writing
+pub mod Keeping
 pub mod Filling
 pub mod Entering
 pub mod Padding

@@ -1,14 +1,14 @@
 -- Some words of the frame in hand, written at once.
-use Rattle.std.proofs.Common.{◌≡◌, ℕ, zero, suc, ◌+◌, ◌-◌, ◌*◌, ◌%◌, ◌<◌, ◌≤◌, List, [], ◌∷◌, ◌++◌, length, take, drop, refl, sym, ap, ◌∙◌, arith, subst}
+use Rattle.std.proofs.Common.{◌≡◌, ℕ, zero, suc, ◌+◌, ◌-◌, ◌*◌, ◌/◌, ◌%◌, ◌<◌, ◌≤◌, List, [], ◌∷◌, ◌++◌, length, take, drop, refl, sym, ap, ◌∙◌, arith, subst}
 use Rattle.std.proofs.lemmas.Grind.{common_steps}
 use Rattle.std.proofs.lemmas.List.{length-take}
 use Rattle.ivs_base.specs.Numbers.{word_of}
 use Rattle.split_ring.specs.declared.steps.Access.{Access}
 use Rattle.split_ring.specs.declared.steps.Access.TheVariants as access
-use Rattle.split_ring.specs.Layout.{word_place, place_of, Slot, Address, Length, Flags}
+use Rattle.split_ring.specs.Layout.{word_place, Address, Length, Flags}
 use Rattle.call_grammar.specs.Ends.{End}
 use Rattle.call_grammar.specs.Ticks.{Who}
-use Rattle.call_grammar.specs.Offers.{Job, descriptor_of}
+use Rattle.call_grammar.specs.Offers.{Job, start_at, descriptor_of}
 use Rattle.call_grammar.specs.Calls.{job_of}
 use Rattle.call_grammar.specs.Words.{words_for, frame_word, word_bytes}
 use Rattle.call_grammar.specs.Stretches.{Each, WritesOn, place_after}
@@ -21,7 +21,7 @@ use Rattle.tx_engine.specs.Sender.{Sender, IsSender, IsPlace, HasSlot, is_open}
 use Rattle.tx_engine.specs.Reads.{described}
 use Rattle.tx_engine.specs.Stands.{StandsAt, IsAt, TakesOn}
 use Rattle.tx_engine.proofs.Accesses.{at_here}
-use Rattle.tx_engine.proofs.Reading.{takes}
+use Rattle.tx_engine.proofs.Writing.{fills_on, fills_last, writes_low, writes_high, writes_length, writes_flags}
 
 -- the place before word `at`, where so many are to come
 abbrev pub fill_at : slots.Slot → (at count : ℕ) → Place
@@ -38,18 +38,20 @@ placed tx place is holds = record {
   entries = is.entries;
   next = is.next;
   in_flight = is.in_flight;
+  lengths = is.lengths;
+  flight = is.flight;
   place = holds;
 }
 
 fills_one : (tx : Sender) (slot : slots.Slot) (at more value : ℕ) → IsSender tx → HasSlot tx slot → at + more + 1 ≡ words_for (length tx.frame) → tx.place ≡ Filling slot at more →
     TakesOn tx value [] (record tx { place = fill_at slot (at + 1) more })
 fills_one tx slot at zero value is has count here = record {
-  takes = let queue = is.queue in let bounds = is.bounds in takes tx _ (Filling slot at 0) value [] here refl (λ who end place made is. grind (arith, common_steps));
+  takes = fills_last tx slot at value is here;
   opened = refl;
   sender = placed tx (WritingLow slot) is has;
 }
 fills_one tx slot at (suc more) value is has count here = record {
-  takes = let queue = is.queue in let bounds = is.bounds in takes tx _ (Filling slot at (suc more)) value [] here refl (λ who end place made is. grind (arith, common_steps));
+  takes = fills_on tx slot at more value is here;
   opened = refl;
   sender = placed tx (Filling slot (at + 1) more) is (has, omega (arith, count));
 }
@@ -72,11 +74,11 @@ fills tx new slot at (suc more) (value ∷ next ∷ values) is has count here so
 
 -- the writes of the words that are left
 writes : (who : Who) (job : Job) (at more : ℕ) (values : List ℕ) → length values ≤ more →
-    laws.access_at who (place_after who (laws.Filling job at more) values) ≡ access.Write (who.own + word_place who.sizes (Slot (descriptor_of who job.number)) + (at + length values)) (frame_word job.frame (at + length values))
-writes who job at more [] few = ap (λ n. access.Write (who.own + word_place who.sizes (Slot (descriptor_of who job.number)) + n) (frame_word job.frame n)) (omega arith)
+    laws.access_at who (place_after who (laws.Filling job at more) values) ≡ access.Write (who.own + start_at who job / 4 + (at + length values)) (frame_word job.frame (at + length values))
+writes who job at more [] few = ap (λ n. access.Write (who.own + start_at who job / 4 + n) (frame_word job.frame n)) (omega arith)
 writes who job at zero (value ∷ values) few = absurd (omega (arith, few))
 writes who job at (suc more) (value ∷ values) few =
-    writes who job (at + 1) more values (omega (arith, few)) ∙ ap (λ n. access.Write (who.own + word_place who.sizes (Slot (descriptor_of who job.number)) + n) (frame_word job.frame n)) (omega arith)
+    writes who job (at + 1) more values (omega (arith, few)) ∙ ap (λ n. access.Write (who.own + start_at who job / 4 + n) (frame_word job.frame n)) (omega arith)
 
 abbrev word_of_write : Access → ℕ
 word_of_write (access.Write word value) = word
@@ -89,8 +91,8 @@ pub writes_on : (tx : Sender) (who : Who) (end : End) (place : laws.Place) (word
 writes_on tx who end place word value slot at more bytes here whole within spells stands first values few =
     let is : IsAt (Filling slot at more) tx who end place = at_here tx (Filling slot at more) who end place here stands in
     let job = job_of who end tx.frame in
-    let word_is : who.own + word_place who.sizes (Slot (descriptor_of who job.number)) + at ≡ word = ap word_of_write (sym (ap (laws.access_at who) is.0) ∙ first) in
-    let place_is : who.own + word_place who.sizes (Slot (descriptor_of who job.number)) + (at + length values) ≡ word + length values = omega (arith, word_is) in
+    let word_is : who.own + start_at who job / 4 + at ≡ word = ap word_of_write (sym (ap (laws.access_at who) is.0) ∙ first) in
+    let place_is : who.own + start_at who job / 4 + (at + length values) ≡ word + length values = omega (arith, word_is) in
     ap (λ p. laws.access_at who (place_after who p values)) is.0 ∙ writes who job at more values (omega (arith, few, within))
     ∙ ap (λ n. access.Write n (frame_word tx.frame (at + length values))) place_is ∙ ap (access.Write (word + length values)) (sym (spells (length values) (omega (arith, few, whole))))
 
@@ -105,28 +107,28 @@ open_is tx who end place stands = open_seen tx.place tx who end place stands.at
 
 describes_low : (tx : Sender) (slot : slots.Slot) (value : ℕ) → IsSender tx → HasSlot tx slot → tx.place ≡ WritingLow slot → TakesOn tx value [] (record tx { place = WritingHigh slot })
 describes_low tx slot value is has here = record {
-  takes = let queue = is.queue in let bounds = is.bounds in takes tx _ (WritingLow slot) value [] here refl (λ who end place made is. grind (arith, common_steps));
+  takes = writes_low tx slot value is here;
   opened = refl;
   sender = placed tx (WritingHigh slot) is has;
 }
 
 describes_high : (tx : Sender) (slot : slots.Slot) (value : ℕ) → IsSender tx → HasSlot tx slot → tx.place ≡ WritingHigh slot → TakesOn tx value [] (record tx { place = WritingLength slot })
 describes_high tx slot value is has here = record {
-  takes = let queue = is.queue in let bounds = is.bounds in takes tx _ (WritingHigh slot) value [] here refl (λ who end place made is. grind (arith, common_steps));
+  takes = writes_high tx slot value is here;
   opened = refl;
   sender = placed tx (WritingLength slot) is has;
 }
 
 describes_length : (tx : Sender) (slot : slots.Slot) (value : ℕ) → IsSender tx → HasSlot tx slot → tx.place ≡ WritingLength slot → TakesOn tx value [] (record tx { place = WritingFlags slot })
 describes_length tx slot value is has here = record {
-  takes = let queue = is.queue in let bounds = is.bounds in takes tx _ (WritingLength slot) value [] here refl (λ who end place made is. grind (arith, common_steps));
+  takes = writes_length tx slot value is here;
   opened = refl;
   sender = placed tx (WritingFlags slot) is has;
 }
 
 describes_flags : (tx : Sender) (slot : slots.Slot) (value : ℕ) → IsSender tx → HasSlot tx slot → tx.place ≡ WritingFlags slot → TakesOn tx value [] (record tx { place = WritingEntry slot })
 describes_flags tx slot value is has here = record {
-  takes = let queue = is.queue in let bounds = is.bounds in takes tx _ (WritingFlags slot) value [] here refl (λ who end place made is. grind (arith, common_steps));
+  takes = writes_flags tx slot value is here;
   opened = refl;
   sender = placed tx (WritingEntry slot) is has;
 }
@@ -160,7 +162,7 @@ abbrev pub descriptor_bytes : (address bytes : ℕ) → List ℕ
 descriptor_bytes address bytes = word_bytes address ++ (word_bytes 0 ++ (word_bytes bytes ++ word_bytes 0))
 
 described_word : (who : Who) (job : Job) (word address n : ℕ) (values : List ℕ) → address < 4294967296 → length job.frame < 4294967296 → n ≤ 16 → n % 4 ≡ 0 → 4 * length values < n →
-    who.own + word_place who.sizes (Address (descriptor_of who job.number)) ≡ word → address ≡ place_of who.sizes (Slot (descriptor_of who job.number)) →
+    who.own + word_place who.sizes (Address (descriptor_of who job.number)) ≡ word → address ≡ start_at who job →
     laws.access_at who (place_after who (laws.WritingLow job) values) ≡ access.Write (word + length values) (word_of (take 4 (drop (4 * length values) (take n (descriptor_bytes address (length job.frame))))))
 described_word who job word address n [] fits fits_too few whole fit word_is address_is =
     let spelt : word_of (take 4 (drop (4 * length {A = ℕ} []) (take n (descriptor_bytes address (length job.frame))))) ≡ address = ap word_of (front_word (descriptor_bytes address (length job.frame)) n 0 (omega (arith, fit, whole))) ∙ word_again address fits in
@@ -186,7 +188,7 @@ describes_on tx who end place word value slot n here fits fits_too few whole sta
     let is : IsAt (WritingLow slot) tx who end place = at_here tx (WritingLow slot) who end place here stands in
     let job = job_of who end tx.frame in
     let word_is : who.own + word_place who.sizes (Address (descriptor_of who job.number)) ≡ word = ap word_of_write (sym (ap (laws.access_at who) is.0) ∙ first) in
-    let address : slot.address ≡ place_of who.sizes (Slot (descriptor_of who job.number)) = ap (λ (s : slots.Slot). s.address) is.1.1 in
+    let address : slot.address ≡ start_at who job = ap (λ (s : slots.Slot). s.address) is.1.1 in
     let bytes = descriptor_bytes slot.address (length tx.frame) in
     let fit : 4 * length values < n = omega (arith, within, length-take n bytes) in
     ap (λ p. laws.access_at who (place_after who p values)) is.0 ∙ described_word who job word slot.address n values fits fits_too few whole fit word_is address

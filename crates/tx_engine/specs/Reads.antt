@@ -1,19 +1,22 @@
 -- Where an offer goes on after a read, and after some writes of a descriptor's words.
-use Rattle.std.specs.Prelude.{◌≡◌, ℕ, ◌-◌, ◌<◌, ◌==◌, if◌then◌else◌}
-use Rattle.split_ring.specs.Layout.{limit_of}
+use Rattle.std.specs.Prelude.{◌≡◌, ℕ, ◌-◌, ◌<◌, ◌==◌, Bool, true, false, List, slice_set, if◌then◌else◌}
 use Rattle.frame_slots.specs.declared.slots.Slot as slots
-use Rattle.frame_slots.specs.Turns.{Turn, slot_at, with_placed}
+use Rattle.frame_slots.specs.Turns.{Turn, has_room_in, slot_for, with_placed}
 use Rattle.call_grammar.specs.Words.{words_for}
 use Rattle.tx_engine.specs.declared.place.Place.{Place}
-use Rattle.tx_engine.specs.declared.place.Place.TheVariants.{Closed, AtUsedId, Filling, WritingLow, WritingHigh, WritingLength, WritingFlags, WritingEntry}
+use Rattle.tx_engine.specs.declared.place.Place.TheVariants.{Closed, AtUsedId, Filling, WritingLow, WritingHigh, WritingLength, WritingFlags, WritingEntry, AtEvent, Ringing}
 
--- with so many ids to come, an offer of a frame of this length goes on at this place, where its slots are the new ones: at the next id; where there is
--- none, at the first word of the frame in the next slot; and where no slot is left, at the end
-pub record GoesOn (old : Turn) (length ids : ℕ) (place : Place) (new : Turn) : Type 0 where
-  pub reads : 0 < ids → (place ≡ AtUsedId (ids - 1)) × (new ≡ old)
-  pub fills : ids ≡ 0 → old.in_flight < limit_of old.sizes →
-      (place ≡ Filling (slot_at old.sizes old.next) 0 (words_for length - 1)) × (new ≡ with_placed old)
-  pub ends : ids ≡ 0 → old.in_flight ≡ limit_of old.sizes → (place ≡ Closed) × (new ≡ old)
+-- with so many ids to come, an offer of a frame of this length goes on at this place, where its slots and the kept lengths are the new ones: at the
+-- next id; where there is none, at the first word of the frame in its slot, with its length kept; and where it has no room, at the end
+pub record GoesOn (old : Turn) (lengths : List ℕ) (length ids : ℕ) (place : Place) (new : Turn) (kept : List ℕ) : Type 0 where
+  pub reads : 0 < ids → (place ≡ AtUsedId (ids - 1)) × (new ≡ old) × (kept ≡ lengths)
+  pub fills : ids ≡ 0 → has_room_in old length ≡ true →
+      (place ≡ Filling (slot_for old length) 0 (words_for length - 1)) × (new ≡ with_placed old length) × (kept ≡ slice_set lengths old.next length)
+  pub ends : ids ≡ 0 → has_room_in old length ≡ false → (place ≡ Closed) × (new ≡ old) × (kept ≡ lengths)
+
+-- the place after the write of the index: the other's event is read in a link with events
+abbrev pub told : Bool → Place
+told events = if events then AtEvent else Ringing
 
 -- the place after so many writes of a descriptor's words
 abbrev pub described : slots.Slot → ℕ → Place

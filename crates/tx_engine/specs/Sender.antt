@@ -4,13 +4,15 @@ use Rattle.split_ring.specs.declared.steps.Access.{Access}
 use Rattle.split_ring.specs.declared.steps.Access.TheVariants as access
 use Rattle.split_ring.specs.Layout.{Sizes, IsQueue, HasBounds, size_of, limit_of}
 use Rattle.frame_slots.specs.declared.slots.Slot as slots
-use Rattle.frame_slots.specs.Turns.{slot_at}
+use Rattle.frame_slots.specs.Turns.{Turn}
+use Rattle.frame_slots.specs.Rings.{StandsFor}
 use Rattle.call_grammar.specs.Words.{words_for, with_entry}
 use Rattle.tx_engine.specs.declared.place.Place.{Place}
 use Rattle.tx_engine.specs.declared.place.Place.TheVariants.{Closed, AtUsedIndex, AtUsedId, Filling, WritingLow, WritingHigh, WritingLength, WritingFlags, WritingEntry, WritingIndex}
 
 -- the sizes of the queue, the first words of the two sections, and whom it rings by which vector; the frames accepted modulo 65,536, the next
--- descriptor and the frames in flight; the own copy of the entry words; the frame in hand, and its place in the open offer
+-- descriptor and the frames in flight, with their bytes of the ring and, by descriptor, their lengths; the own copy of the entry words; the
+-- frame in hand, and its place in the open offer
 pub record Sender : Type 0 where
   pub sizes : Sizes
   pub own : ℕ
@@ -20,9 +22,26 @@ pub record Sender : Type 0 where
   pub accepted : ℕ
   pub next : ℕ
   pub in_flight : ℕ
+  pub head : ℕ
+  pub tail : ℕ
+  pub left : ℕ
+  pub lengths : List ℕ
   pub entries : List ℕ
   pub frame : List ℕ
   pub place : Place
+
+-- its slots
+abbrev pub turn_of : Sender → Turn
+turn_of tx = record { sizes = tx.sizes; next = tx.next; in_flight = tx.in_flight; head = tx.head; tail = tx.tail; left = tx.left }
+
+-- the slots stand for the frames from `freed` on and below `sent` of a session with these lengths, and the length of each is kept by its descriptor
+pub record KeepsFlight (t : Turn) (lengths : List ℕ) (length_of : ℕ → ℕ) (freed sent : ℕ) : Type 0 where
+  pub stands : StandsFor t length_of freed sent
+  pub kept : (k : ℕ) → freed ≤ k → k < sent → slice_index lengths (k % limit_of t.sizes) ≡ length_of k
+
+-- so it is for some session
+abbrev pub HasFlight : Turn → List ℕ → Type 0
+HasFlight t lengths = (length_of : ℕ → ℕ) × (freed : ℕ) × (sent : ℕ) × KeepsFlight t lengths length_of freed sent
 
 -- an offer is open
 abbrev pub is_open : Place → Bool
@@ -39,9 +58,11 @@ writes_ahead _ = 0
 abbrev pub IsFrame : Sizes → List ℕ → Type 0
 IsFrame sizes frame = (14 ≤ length frame) × (length frame ≤ sizes.mtu + 18)
 
--- the frame in hand has this slot
+-- the frame in hand has this slot: its words end inside the section
 abbrev pub HasSlot : Sender → slots.Slot → Type 0
-HasSlot tx slot = (0 < tx.in_flight) × (slot.descriptor < limit_of tx.sizes) × (slot ≡ slot_at tx.sizes slot.descriptor) × IsFrame tx.sizes tx.frame
+HasSlot tx slot =
+    (0 < tx.in_flight) × (slot.descriptor < limit_of tx.sizes) × (slot.address % 4 ≡ 0) × (slot.address + 4 * words_for (length tx.frame) ≤ tx.sizes.out) ×
+    IsFrame tx.sizes tx.frame
 
 -- what holds at a place of the offer
 abbrev pub IsPlace : Sender → Place → Type 0
@@ -56,7 +77,8 @@ IsPlace tx (WritingEntry slot) = HasSlot tx slot
 IsPlace tx WritingIndex = 0 < tx.in_flight
 IsPlace tx _ = Unit {0}
 
--- both sections end at or before word number 4,194,304, and the entry words are half as many as the entries
+-- both sections end at or before word number 4,194,304, the entry words are half as many as the entries, and a length is kept for each descriptor
+-- that may be in flight
 pub record IsSender (tx : Sender) : Type 0 where
   pub queue : IsQueue tx.sizes
   pub bounds : HasBounds tx.sizes
@@ -65,6 +87,8 @@ pub record IsSender (tx : Sender) : Type 0 where
   pub entries : 2 * length tx.entries ≡ size_of tx.sizes
   pub next : tx.next < limit_of tx.sizes
   pub in_flight : tx.in_flight ≤ limit_of tx.sizes
+  pub lengths : length tx.lengths ≡ limit_of tx.sizes
+  pub flight : HasFlight (turn_of tx) tx.lengths
   pub place : IsPlace tx tx.place
 
 -- the word of the next entry where that names this descriptor, with the own copy of the other half
@@ -90,6 +114,10 @@ fresh_sender sizes own theirs target vector = record {
   accepted = 0;
   next = 0;
   in_flight = 0;
+  head = 0;
+  tail = 0;
+  left = 0;
+  lengths = replicate (limit_of sizes) 0;
   entries = replicate (size_of sizes / 2) 0;
   frame = [];
   place = Closed;

@@ -1,20 +1,20 @@
 -- For which ends of the call grammar a sender stands.
-use Rattle.std.specs.Prelude.{◌≡◌, ℕ, ◌+◌, ◌/◌, ◌%◌, ◌<◌, Bool, true, false, List, [], length, slice_index}
-use Rattle.split_ring.specs.Layout.{size_of, limit_of, word_place, Entry}
+use Rattle.std.specs.Prelude.{◌≡◌, ℕ, ◌+◌, ◌/◌, ◌%◌, ◌<◌, Bool, true, false, List, [], ◌∷◌, ◌++◌, length, slice_index}
+use Rattle.split_ring.specs.Layout.{size_of, word_place, Entry}
 use Rattle.link_handshake.specs.declared.Phase.{Phase}
 use Rattle.link_handshake.specs.declared.Phase.TheVariants.{Ready, Run}
 use Rattle.split_ring.specs.declared.steps.Note.{Note}
 use Rattle.call_grammar.specs.Steps.{marks_of}
 use Rattle.call_grammar.specs.Ends.{End, end_after}
 use Rattle.call_grammar.specs.Ticks.{Who}
-use Rattle.call_grammar.specs.Offers.{descriptor_of}
+use Rattle.call_grammar.specs.Words.{lengths_of}
+use Rattle.call_grammar.specs.Offers.{Job, start_at, descriptor_of}
 use Rattle.call_grammar.specs.Calls.{job_of}
 use Rattle.call_grammar.specs.Places as laws
 use Rattle.frame_slots.specs.declared.slots.Slot as slots
-use Rattle.frame_slots.specs.Turns.{slot_at}
 use Rattle.tx_engine.specs.declared.place.Place.{Place}
 use Rattle.tx_engine.specs.declared.place.Place.TheVariants.{Closed, Refusing, AtUsedIndex, AtUsedId, Filling, WritingLow, WritingHigh, WritingLength, WritingFlags, WritingEntry, WritingIndex, AtEvent, Ringing}
-use Rattle.tx_engine.specs.Sender.{Sender, IsSender, is_open}
+use Rattle.tx_engine.specs.Sender.{Sender, IsSender, turn_of, KeepsFlight, is_open}
 
 -- the sender was made for this peer: its numbers that never change are the peer's
 pub record IsMadeFor (tx : Sender) (who : Who) : Type 0 where
@@ -34,23 +34,25 @@ has_session _ = false
 abbrev pub HasCopy : Sender → Who → End → Type 0
 HasCopy tx who end = (k : ℕ) → k < size_of who.sizes → end.written (who.own + word_place who.sizes (Entry k)) ≡ slice_index tx.entries (k / 2)
 
--- the three numbers are those of an end that accepted as many frames as this one, of which so many are freed
+-- the numbers are those of an end that accepted as many frames as this one, of which so many are freed, and the kept lengths those of its frames
 pub record Counts (tx : Sender) (who : Who) (end : End) (freed : ℕ) : Type 0 where
   pub accepted : tx.accepted ≡ length end.accepted % 65536
-  pub next : tx.next ≡ length end.accepted % limit_of who.sizes
-  pub in_flight : freed + tx.in_flight ≡ length end.accepted
+  pub flight : KeepsFlight (turn_of tx) tx.lengths (lengths_of end.accepted) freed (length end.accepted)
   pub copy : HasCopy tx who end
 
 -- the same where the frame in hand has its slot already: it is in flight, and not accepted yet
 pub record CountsPlaced (tx : Sender) (who : Who) (end : End) : Type 0 where
   pub accepted : tx.accepted ≡ length end.accepted % 65536
-  pub next : tx.next ≡ (length end.accepted + 1) % limit_of who.sizes
-  pub in_flight : end.freed + tx.in_flight ≡ length end.accepted + 1
+  pub flight : KeepsFlight (turn_of tx) tx.lengths (lengths_of (end.accepted ++ tx.frame ∷ [])) end.freed (length end.accepted + 1)
   pub copy : HasCopy tx who end
 
--- that slot
+-- the slot of the frame of a job
+abbrev pub slot_of_job : Who → Job → slots.Slot
+slot_of_job who job = record { descriptor = descriptor_of who job.number; address = start_at who job }
+
+-- the frame in hand has it
 abbrev pub HasPlaced : Sender → Who → End → slots.Slot → Type 0
-HasPlaced tx who end slot = CountsPlaced tx who end × (slot ≡ slot_at who.sizes (descriptor_of who (length end.accepted)))
+HasPlaced tx who end slot = CountsPlaced tx who end × (slot ≡ slot_of_job who (job_of who end tx.frame))
 
 -- its place in the open offer is this one of the end. While it reads ids, the end has freed all that were found, and the sender those
 -- that it read
@@ -67,7 +69,7 @@ IsAt (WritingLength slot) tx who end place = (place ≡ laws.WritingLength (job_
 IsAt (WritingFlags slot) tx who end place = (place ≡ laws.WritingFlags (job_of who end tx.frame)) × HasPlaced tx who end slot
 IsAt (WritingEntry slot) tx who end place = (place ≡ laws.WritingEntry (job_of who end tx.frame)) × HasPlaced tx who end slot
 IsAt WritingIndex tx who end place =
-    (beside : ℕ) × (place ≡ laws.WritingIndex (record { frame = tx.frame; number = length end.accepted; beside = beside })) ×
+    (beside : ℕ) × (place ≡ laws.WritingIndex (record { frame = tx.frame; number = length end.accepted; lengths = lengths_of (end.accepted ++ tx.frame ∷ []); beside = beside })) ×
     CountsPlaced tx who end
 IsAt AtEvent tx who end place =
     (number : ℕ) × (place ≡ laws.AtEvent number) × (number + 1 ≡ length end.accepted) × Counts tx who end end.freed
@@ -84,7 +86,17 @@ pub record Takes (old : Sender) (value : ℕ) (notes : List Note) (new : Sender)
       marks_of old.frame notes ≡ laws.marks_at who place value
   pub stands : (who : Who) (end : End) (place : laws.Place) → StandsAt old who end place →
       StandsAt new who (end_after end (laws.step_at who place value)) (laws.next_place who place value)
-  pub kept : new ≡ record old { accepted = new.accepted; next = new.next; in_flight = new.in_flight; entries = new.entries; place = new.place }
+  pub kept : new ≡ record old {
+    accepted = new.accepted;
+    next = new.next;
+    in_flight = new.in_flight;
+    head = new.head;
+    tail = new.tail;
+    left = new.left;
+    lengths = new.lengths;
+    entries = new.entries;
+    place = new.place;
+  }
 
 -- and the offer is open still
 pub record TakesOn (old : Sender) (value : ℕ) (notes : List Note) (new : Sender) : Type 0 where

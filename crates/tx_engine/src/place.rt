@@ -1,6 +1,7 @@
 //! Where an offer is.
-ghost use Rattle.std.specs.Prelude.{◌≡◌, ◌+◌, ◌-◌, ◌<◌, ◌≤◌};
-ghost use Rattle.tx_engine.specs.Reads.{GoesOn, described};
+ghost use Rattle.std.specs.Prelude.{◌≡◌, ◌+◌, ◌-◌, ◌<◌, ◌≤◌, length};
+ghost use Rattle.split_ring.specs.Layout.{limit_of};
+ghost use Rattle.tx_engine.specs.Reads.{GoesOn, described, told};
 
 use frame_slots::{Slot, Slots};
 
@@ -77,18 +78,33 @@ pub fn describing(slot: Slot, count: u32) -> Place
     }
 }
 
+/// The place after the write of the index, in a link with events or without them.
+pub fn told(events: bool) -> Place
+    ensures { result ≡ told events }
+{
+    if events {
+        Place::AtEvent
+    } else {
+        Place::Ringing
+    }
+}
+
 /// The place after a read with so many ids to come: the next id, else the first word of the frame of so many bytes, which gets a slot,
-/// else the end.
-pub fn offer_after_ids(slots: &mut Slots, length: u32, ids: u32) -> Place
-    requires least { 14 ≤ length }
-    requires most { length ≤ slots.old.sizes.mtu + 18 }
-    ensures { GoesOn slots.old length ids result slots.new }
+/// and whose length is kept by its descriptor, else the end.
+pub fn offer_after_ids(slots: &mut Slots, lengths: &mut [u32], bytes: u32, ids: u32) -> Place
+    requires kept { length lengths.old ≡ limit_of slots.old.sizes }
+    requires least { 14 ≤ bytes }
+    requires most { bytes ≤ slots.old.sizes.mtu + 18 }
+    ensures { GoesOn slots.old lengths.old bytes ids result slots.new lengths.new }
 {
     if ids > 0 {
         return Place::AtUsedId { more: ids - 1 };
     }
-    match slots.place(length) {
-        Some(slot) => filling(slot, 0, length.div_ceil(4)),
+    match slots.place(bytes) {
+        Some(slot) => {
+            lengths[slot.descriptor as usize] = bytes;
+            filling(slot, 0, bytes.div_ceil(4))
+        }
         None => Place::Closed,
     }
 }

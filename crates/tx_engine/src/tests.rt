@@ -10,6 +10,9 @@ use std::alloc::Global;
 use std::process::Abort;
 use std::test::Fail;
 
+/// A frame of the longest length, which takes 320 bytes.
+const LONG: [u8; 274] = [0; 274];
+
 /// A frame of 14 bytes, for everybody.
 const FRAME: [u8; 14] = [
     0xff, 0xff, 0xff, 0xff, 0xff, 0xff, 0x02, 0x00, 0x00, 0x00, 0x00, 0x01, 0x08, 0x00,
@@ -20,6 +23,14 @@ fn example(rt: &impl Abort, alloc: Global) -> Result<Tx, NoMemory>
     ensures { IfOk result (λ tx. tx.sizes.mtu ≡ 256) }
 {
     let queue = Queue::of(16_384, 256).expect(rt, "a queue");
+    Tx::new(alloc, &queue, 1_024, 5_120, 1, 1)
+}
+
+/// The same of a link of version 3, whose data area is a ring of 14,592 bytes.
+fn example_ring(rt: &impl Abort, alloc: Global) -> Result<Tx, NoMemory>
+    ensures { IfOk result (λ tx. tx.sizes.mtu ≡ 256) }
+{
+    let queue = Queue::of_version(3, 16_384, 256).expect(rt, "a queue");
     Tx::new(alloc, &queue, 1_024, 5_120, 1, 1)
 }
 
@@ -50,6 +61,20 @@ fn publishes(rt: &impl Abort, tx: &mut Tx)
         assert!(rt; tx.busy());
         let _ = tx.took(0);
     }
+}
+
+/// Offers a frame that has room, and goes through all the steps, whose reads give 0.
+fn accepts(rt: &impl Abort, tx: &mut Tx, frame: &[u8])
+    requires { IsFrame tx.old.sizes frame.now }
+    ensures { tx.new.sizes ≡ tx.old.sizes }
+{
+    offers(rt, tx, frame);
+    for _ in 0..78 {
+        if tx.busy() {
+            let _ = tx.took(0);
+        }
+    }
+    assert!(rt; !tx.busy());
 }
 
 #[test]
@@ -113,6 +138,37 @@ fn full_ring(rt: HostRuntime) -> Result<(), Fail> {
     takes(&rt, &mut tx, Access::Read(5_425), 0, &[]);
     takes(&rt, &mut tx, Access::Read(5_427), 1, &[]);
     takes(&rt, &mut tx, Access::Write(1_472, 4_294_967_295), 0, &[]);
+    Ok(())
+}
+
+/// After 45 long frames 192 bytes of the ring are left, and after a short one 128. When the first frame comes back, the next long one begins
+/// at its byte.
+#[test]
+fn full_bytes(rt: HostRuntime) -> Result<(), Fail> {
+    let mut tx = example_ring(&rt, rt.alloc())?;
+    for _ in 0..45 {
+        accepts(&rt, &mut tx, &LONG);
+    }
+    offers(&rt, &mut tx, &LONG);
+    let full = [Note::Reclaim(0), Note::Full];
+    takes(&rt, &mut tx, Access::Read(5_424), 0, &full);
+    offers(&rt, &mut tx, &FRAME);
+    takes(&rt, &mut tx, Access::Read(5_424), 0, &[Note::Reclaim(0)]);
+    takes(&rt, &mut tx, Access::Write(5_072, 4_294_967_295), 0, &[]);
+    takes(&rt, &mut tx, Access::Write(5_073, 196_607), 0, &[]);
+    takes(&rt, &mut tx, Access::Write(5_074, 16_777_216), 0, &[]);
+    takes(&rt, &mut tx, Access::Write(5_075, 8), 0, &[]);
+    takes(&rt, &mut tx, Access::Write(1_204, 16_192), 0, &[]);
+    for _ in 0..6 {
+        assert!(rt; tx.busy());
+        let _ = tx.took(0);
+    }
+    assert!(rt; !tx.busy());
+    offers(&rt, &mut tx, &LONG);
+    let one = [Note::Reclaim(1)];
+    takes(&rt, &mut tx, Access::Read(5_424), 65_536, &one);
+    takes(&rt, &mut tx, Access::Read(5_425), 0, &[]);
+    takes(&rt, &mut tx, Access::Write(1_472, 0), 0, &[]);
     Ok(())
 }
 

@@ -13,7 +13,7 @@ ghost use Rattle.link_handshake.specs.declared.Phase.TheVariants.{Run};
 ghost use Rattle.tx_engine.specs.Sender.{IsSender, fresh_sender, is_open, writes_ahead, IsFrame, IsPlace, IsInReach, entry_word_of};
 ghost use Rattle.tx_engine.specs.Stands.{StandsAt, Takes, TakesOn, IsMadeFor, IsFreshSession, ClosedStays};
 
-use crate::place::{Place, describing, filling, offer_after_ids};
+use crate::place::{Place, describing, filling, offer_after_ids, told};
 use frame_slots::{Slot, Slots};
 use ivs_base::{NoMemory, plus, word_of};
 use split_ring::steps::{Access, Note, Notes, WordKind, leaving, left, noted, refusal};
@@ -24,8 +24,8 @@ use std::marker::Model;
 /// The sender of an end: it publishes frames in the end's own section, one access a step.
 ///
 /// It makes no access itself: `next` says which one comes, and `took` is handed what it gave. It keeps the number of accepted frames
-/// modulo 65,536, the descriptors in flight, and a copy of the entry words that it wrote, since two entries share a word. After `new`
-/// no call takes memory.
+/// modulo 65,536, the descriptors in flight with the lengths of their frames, and a copy of the entry words that it wrote, since two entries
+/// share a word. After `new` no call takes memory.
 #[derive(Debug, Drop)]
 pub struct Tx {
     queue: Queue,
@@ -35,6 +35,7 @@ pub struct Tx {
     vector: u32,
     accepted: u16,
     slots: Slots,
+    lengths: Vec<u32>,
     entries: Vec<u32>,
     buffer: Vec<u8>,
     length: u32,
@@ -69,6 +70,7 @@ impl Tx {
         ensures value { IfOk result (λ tx. tx ≡ fresh_sender queue.now own theirs target vector) }
         ensures stands { IfOk result (λ tx. (who : Who) (end : End) → IsMadeFor tx who → IsFreshSession who end → StandsAt tx who end laws.Closed) }
     {
+        let lengths = Vec::from_elem(alloc, 0, queue.limit() as usize)?;
         let entries = Vec::from_elem(alloc, 0, (queue.size() / 2) as usize)?;
         let buffer = Vec::from_elem(alloc, 0, (queue.mtu() + 18) as usize)?;
         Ok(Tx {
@@ -79,6 +81,7 @@ impl Tx {
             vector,
             accepted: 0,
             slots: Slots::new(queue),
+            lengths,
             entries,
             buffer,
             length: 0,
@@ -263,6 +266,7 @@ impl Tx {
     {
         self.accepted = 0;
         self.slots.reset();
+        self.lengths.fill(0);
         self.entries.fill(0);
         self.length = 0;
         self.place = Place::Closed;
@@ -349,11 +353,7 @@ impl Tx {
         ensures { (value : ℕ) → Takes self.old value result.items self.new }
     {
         self.accepted = plus(self.accepted, 1);
-        self.place = if self.queue.has_events() {
-            Place::AtEvent
-        } else {
-            Place::Ringing
-        };
+        self.place = told(self.queue.has_events());
         noted(Note::Accept)
     }
 
@@ -391,7 +391,8 @@ impl Tx {
         match self.queue.check_used(freed, index, in_flight) {
             Ok(count) => {
                 let mut notes = noted(Note::Reclaim(count));
-                self.place = offer_after_ids(&mut self.slots, self.length, count);
+                let bytes = self.length;
+                self.place = offer_after_ids(&mut self.slots, &mut self.lengths, bytes, count);
                 if let Place::Closed = self.place {
                     notes.push(Note::Full);
                 }
@@ -411,9 +412,8 @@ impl Tx {
             return self.refuses(refused);
         }
         let mut notes = Notes::new();
-        // The slots are all of one size, so the frame's length doesn't count.
-        self.slots.free(0);
-        self.place = offer_after_ids(&mut self.slots, self.length, more);
+        self.slots.free(self.lengths[oldest as usize]);
+        self.place = offer_after_ids(&mut self.slots, &mut self.lengths, self.length, more);
         if let Place::Closed = self.place {
             notes.push(Note::Full);
         }

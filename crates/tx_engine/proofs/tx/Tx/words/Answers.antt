@@ -2,9 +2,6 @@ use Rattle.std.proofs.Common.{subst, ◌≡◌, ℕ, ◌+◌, ◌-◌, ◌*◌, 
 use Rattle.std.proofs.lemmas.List.{drop-take}
 use Rattle.ivs_base.specs.Numbers.{word_of}
 use Rattle.call_grammar.specs.Stretches.{WritesOn}
-use Rattle.split_ring.specs.Layout.{place_of, Slot}
-use Rattle.split_ring.proofs.Places.{places_lem}
-use Rattle.frame_slots.specs.declared.slots.Slot as slots
 use Rattle.tx_engine.specs.Sender.{Sender, writes_ahead}
 use Rattle.tx_engine.specs.declared.place.Place.TheVariants.{Filling, WritingLow}
 use Rattle.tx_engine.proofs.Fields.{place_holds, length_is}
@@ -39,12 +36,11 @@ returns-in-WritingLow-clause-writes c = λ who end place word value stands first
     let kept = c.self.invariant in
     let here = ap (λ s. s.place) (sym c.self.view_is) ∙ c.in-WritingLow.is in
     let holds = place_holds t (WritingLow slot) kept c.in-WritingLow.is in
-    let address : slot.address ≡ place_of t.queue (Slot slot.descriptor) = ap (λ (s : slots.Slot). s.address) holds.2 in
-    let inside = (places_lem t.queue kept.sender.queue).inside (Slot slot.descriptor) holds.1 in
+    let inside = holds.3 in
     let section = kept.sender.queue.section in
     let sized : length c.args.self.now.frame ≡ t.length = ap (λ (s : Sender). length s.frame) (sym c.self.view_is) ∙ length_is t kept in
     let few : length c.args.into.now ≤ 16 = omega (arith, c.requires.within, ap writes_ahead here) in
     let into : c.put_descriptor.new.into ≡ take (length c.args.into.now) (descriptor_bytes slot.address (length c.args.self.now.frame)) =
     c.put_descriptor.ensures ∙ ap (λ n. take (length c.args.into.now) (descriptor_bytes slot.address n)) (sym sized) in
     subst (λ b. WritesOn who place word b) (sym into)
-    (describes_on _ who end place word value slot (length c.args.into.now) here (omega (arith, address, inside, section)) (omega (arith, sized, kept.length, kept.sender.queue.mtu_most)) few c.requires.whole stands first)
+    (describes_on _ who end place word value slot (length c.args.into.now) here (omega (arith, inside, section)) (omega (arith, sized, kept.length, kept.sender.queue.mtu_most)) few c.requires.whole stands first)

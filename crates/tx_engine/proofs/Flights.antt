@@ -1,0 +1,113 @@
+-- The slots of a sender, and the lengths that it keeps, as frames are placed and freed.
+use Rattle.std.proofs.Common.{◌≡◌, ℕ, ◌+◌, ◌-◌, ◌*◌, ◌%◌, ◌<◌, ◌≤◌, true, List, length, slice_index, slice_set, set, arith, refl, ap, sym, ◌∙◌, subst, eq-eqb, ne_eqb}
+use Rattle.std.specs.Prelude.{◌==◌, cond}
+use mathlib.Core.Logic.{dite}
+use native.Mathlib.Decide.{ℕ_discrete}
+use Rattle.std.proofs.lemmas.Nat.{mod_below}
+use Rattle.std.proofs.lemmas.List.{get_or-set_same, get_or-set_other}
+use Rattle.split_ring.specs.Layout.{IsQueue, limit_of}
+use Rattle.split_ring.specs.Frames.{start_of}
+use Rattle.split_ring.proofs.Bounds.{bounds}
+use Rattle.split_ring.proofs.Frames.{frames_lem, mod_apart}
+use Rattle.frame_slots.specs.declared.slots.Slot as slots
+use Rattle.frame_slots.specs.Turns.{Turn, has_room_in, slot_for, with_placed, with_freed, oldest_of}
+use Rattle.frame_slots.specs.Rings.{StandsFor, IsOldest}
+use Rattle.frame_slots.proofs.Rings.{turns_lem}
+use Rattle.frame_slots.proofs.Fitting.{few_of}
+use Rattle.call_grammar.specs.Words.{words_for}
+use Rattle.tx_engine.specs.Sender.{KeepsFlight, HasFlight}
+use Rattle.tx_engine.proofs.Counting.{fewer}
+
+-- whatever lengths follow
+pub told_flight : (t : Turn) (lengths : List ℕ) (length_of others : ℕ → ℕ) (freed sent : ℕ) → ((j : ℕ) → j < sent → length_of j ≡ others j) → KeepsFlight t lengths length_of freed sent →
+    KeepsFlight t lengths others freed sent
+told_flight t lengths length_of others freed sent same h = record {
+  stands = turns_lem.told t length_of others freed sent same h.stands;
+  kept = λ k from below. h.kept k from below ∙ same k below;
+}
+
+-- a frame is placed, and its length is kept
+pub placed_flight : (t : Turn) (lengths : List ℕ) (length_of : ℕ → ℕ) (freed sent bytes : ℕ) → IsQueue t.sizes → length lengths ≡ limit_of t.sizes → KeepsFlight t lengths length_of freed sent →
+    length_of sent ≡ bytes → 14 ≤ bytes → bytes ≤ t.sizes.mtu + 18 → has_room_in t bytes ≡ true → KeepsFlight (with_placed t bytes) (slice_set lengths t.next bytes) length_of freed (sent + 1)
+placed_flight t lengths length_of freed sent bytes queue sized h is least most room = record {
+  stands = subst (λ n. StandsFor (with_placed t n) length_of freed (sent + 1)) is
+      (turns_lem.goes_on t length_of freed sent queue h.stands (omega (arith, is, least)) (omega (arith, is, most)) (subst (λ n. has_room_in t n ≡ true) (sym is) room));
+  kept = λ k from below. dite (ℕ_discrete k sent)
+      (λ e. ap (λ j. slice_index (set lengths t.next bytes) (j % limit_of t.sizes)) e ∙
+      (ap (slice_index (set lengths t.next bytes)) (sym h.stands.next) ∙ (get_or-set_same lengths t.next bytes 0 next_below ∙ (sym is ∙ ap length_of (sym e)))))
+      (λ ne. get_or-set_other lengths t.next (k % limit_of t.sizes) bytes 0 (λ same. mod_apart (limit_of t.sizes) k sent some (omega arith) (near k from) (same ∙ h.stands.next)) ∙
+      h.kept k from (omega arith));
+}
+  where
+    some : 0 < limit_of t.sizes
+    some = (bounds t.sizes queue).limit_least
+
+    next_below : t.next < length lengths
+    next_below = let b = mod_below sent (limit_of t.sizes) some in let n = h.stands.next in omega (arith, b, n, sized)
+
+    near : (k : ℕ) → freed ≤ k → sent < k + limit_of t.sizes
+    near k from = let few = few_of t bytes room in let all = h.stands.in_flight in omega (arith, few, all, from)
+
+-- the oldest one is freed
+pub freed_flight : (t : Turn) (lengths : List ℕ) (length_of : ℕ → ℕ) (freed sent bytes : ℕ) → KeepsFlight t lengths length_of freed sent → freed < sent → length_of freed ≡ bytes →
+    KeepsFlight (with_freed t bytes) lengths length_of (freed + 1) sent
+freed_flight t lengths length_of freed sent bytes h some is = record {
+  stands = subst (λ n. StandsFor (with_freed t n) length_of (freed + 1) sent) is (turns_lem.frees t length_of freed sent h.stands some);
+  kept = λ k from below. h.kept k (omega arith) below;
+}
+
+-- the descriptor of the oldest frame, and its length
+pub oldest_of_flight : (t : Turn) (length_of : ℕ → ℕ) (freed sent : ℕ) → StandsFor t length_of freed sent → oldest_of t ≡ freed % limit_of t.sizes
+oldest_of_flight t length_of freed sent h =
+    let all = h.in_flight in let most = h.most in
+    let left : sent - t.in_flight ≡ freed = omega arith in
+    ap (λ n. (n + limit_of t.sizes - t.in_flight) % limit_of t.sizes) h.next ∙ (fewer sent (limit_of t.sizes) t.in_flight (omega arith) most ∙ ap (λ n. n % limit_of t.sizes) left)
+
+pub oldest_kept : (t : Turn) (lengths : List ℕ) (length_of : ℕ → ℕ) (freed sent : ℕ) → KeepsFlight t lengths length_of freed sent → freed < sent → slice_index lengths (oldest_of t) ≡ length_of freed
+oldest_kept t lengths length_of freed sent h some = ap (slice_index lengths) (oldest_of_flight t length_of freed sent h.stands) ∙ h.kept freed (omega arith) some
+
+pub oldest_is_kept : (t : Turn) (lengths : List ℕ) → HasFlight t lengths → 0 < t.in_flight → IsOldest t (slice_index lengths (oldest_of t))
+oldest_is_kept t lengths (length_of, freed, sent, h) some =
+    let all = h.stands.in_flight in
+    (length_of, freed, sent, h.stands, omega (arith, all, some), sym (oldest_kept t lengths length_of freed sent h (omega (arith, all, some))))
+
+pub flight_freed : (t : Turn) (lengths : List ℕ) → HasFlight t lengths → 0 < t.in_flight → HasFlight (with_freed t (slice_index lengths (oldest_of t))) lengths
+flight_freed t lengths (length_of, freed, sent, h) some =
+    let all = h.stands.in_flight in
+    let lt : freed < sent = omega (arith, all, some) in
+    (length_of, freed + 1, sent, freed_flight t lengths length_of freed sent _ h lt (sym (oldest_kept t lengths length_of freed sent h lt)))
+
+-- a session in which the next frame has so many bytes
+abbrev with_next : (length_of : ℕ → ℕ) (sent bytes : ℕ) → ℕ → ℕ
+with_next length_of sent bytes k = cond (k == sent) bytes (length_of k)
+
+next_is : (length_of : ℕ → ℕ) (sent bytes : ℕ) → with_next length_of sent bytes sent ≡ bytes
+next_is length_of sent bytes = ap (λ b. cond b bytes (length_of sent)) (eq-eqb sent sent refl)
+
+before_is : (length_of : ℕ → ℕ) (sent bytes k : ℕ) → k < sent → length_of k ≡ with_next length_of sent bytes k
+before_is length_of sent bytes k lt = sym (ap (λ b. cond b bytes (length_of k)) (ne_eqb k sent (λ e. omega arith)))
+
+pub flight_placed : (t : Turn) (lengths : List ℕ) (bytes : ℕ) → IsQueue t.sizes → length lengths ≡ limit_of t.sizes → HasFlight t lengths → 14 ≤ bytes → bytes ≤ t.sizes.mtu + 18 → has_room_in t bytes ≡ true →
+    HasFlight (with_placed t bytes) (slice_set lengths t.next bytes)
+flight_placed t lengths bytes queue sized (length_of, freed, sent, h) least most room = (
+  with_next length_of sent bytes,
+  freed,
+  sent + 1,
+  placed_flight t lengths (with_next length_of sent bytes) freed sent bytes queue sized
+      (told_flight t lengths length_of (with_next length_of sent bytes) freed sent (λ j lt. before_is length_of sent bytes j lt) h) (next_is length_of sent bytes) least most room,
+)
+
+-- the words of a placed frame stand inside the section
+pub slot_holds : (t : Turn) (lengths : List ℕ) (bytes : ℕ) → IsQueue t.sizes → HasFlight t lengths → 14 ≤ bytes → bytes ≤ t.sizes.mtu + 18 → has_room_in t bytes ≡ true →
+    ((slot_for t bytes).address % 4 ≡ 0) × ((slot_for t bytes).address + 4 * words_for bytes ≤ t.sizes.out)
+slot_holds t lengths bytes queue (length_of, freed, sent, h) least most room =
+    let now = with_next length_of sent bytes in
+    let is = next_is length_of sent bytes in
+    let told = told_flight t lengths length_of now freed sent (λ j lt. before_is length_of sent bytes j lt) h in
+    let place = turns_lem.places t now freed sent queue told.stands (omega (arith, is, least)) (omega (arith, is, most)) (subst (λ n. has_room_in t n ≡ true) (sym is) room) in
+    let address : (slot_for t bytes).address ≡ start_of t.sizes now sent = ap (λ n. (slot_for t n).address) (sym is) ∙ ap (λ (s : slots.Slot). s.address) place in
+    let placed = frames_lem.placed t.sizes now sent queue in
+    let even = placed.even in
+    let holds = placed.holds (omega (arith, is, most)) in
+    let inside = placed.inside (omega (arith, is, most)) in
+    (omega (arith, address, even), omega (arith, address, holds, inside, is))

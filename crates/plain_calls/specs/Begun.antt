@@ -1,5 +1,5 @@
 -- What a call of this crate holds from its beginning, and its place, as a place of the call grammar.
-use Rattle.std.specs.Prelude.{ℕ, ◌≡◌, List, [], ◌+◌, ◌<◌, ◌^◌}
+use Rattle.std.specs.Prelude.{ℕ, ◌≡◌, List, [], ◌∷◌, ◌++◌, length, get_or, ◌+◌, ◌<◌, ◌^◌}
 use Rattle.call_grammar.specs.Offers.{Job}
 use Rattle.call_grammar.specs.Places as laws
 use Rattle.plain_calls.specs.declared.ends.Who.{Who}
@@ -14,9 +14,13 @@ use Rattle.plain_calls.specs.declared.places.Begun.{Begun}
 use Rattle.plain_calls.specs.declared.places.Place.{Place}
 use Rattle.plain_calls.specs.declared.places.Place.TheVariants.{Closed, AtState, Clearing, Setting, Refusing, Downed, AtUsedIndex, AtUsedId, Filling, WritingLow, WritingHigh, WritingLength, WritingFlags, WritingEntry, WritingIndex, AtEvent, RingingOffer, AtAvailIndex, Arming, AtEntry, AtLow, AtHigh, AtLength, AtFlags, AtWord, GivingId, GivingLength, GivingIndex, RingingPoll}
 
+-- the lengths of the session's frames up to the one that is offered, by their numbers
+abbrev pub length_at : Begun → ℕ → ℕ
+length_at begun k = get_or begun.lengths.items k 0
+
 -- what the call is to publish, where it is an offer
 abbrev pub job_of : Begun → Job
-job_of begun = record { frame = begun.frame.items; number = begun.number; beside = begun.beside }
+job_of begun = record { frame = begun.frame.items; number = begun.number; lengths = length_at begun; beside = begun.beside }
 
 abbrev pub place_seen : Begun → Place → laws.Place
 place_seen begun Closed = laws.Closed
@@ -49,6 +53,13 @@ place_seen begun (GivingLength number more) = laws.GivingLength number more
 place_seen begun (GivingIndex number more) = laws.GivingIndex number more
 place_seen begun RingingPoll = laws.RingingPoll
 
+-- an open call of this crate, by what it holds from its beginning and its place; and that place in the call grammar
+abbrev pub Open : Type 0
+Open = Begun × Place
+
+abbrev pub place_of : Open → laws.Place
+place_of call = place_seen call.0 call.1
+
 -- the numbers at a place that count on are so small that no count is too large for 64 bits
 abbrev pub IsSmall : Place → Type 0
 IsSmall (Clearing at more state) = at + more + 1 < 2 ^ 33
@@ -75,6 +86,7 @@ pub record IsBegun (who : Who) (end : End) (call : Call) (begun : Begun) : Type 
   pub handshake : begun.handshake ≡ end.handshake
   pub frame : begun.frame.items ≡ frame_of call
   pub number : begun.number ≡ end.accepted
+  pub lengths : begun.lengths.items ≡ end.lengths.items ++ length (frame_of call) ∷ []
   pub beside : begun.beside ≡ stored end.stores.items (who.own + word_place who.queue (Entry (entry_of (who_seen who) end.accepted)))
   pub freed : begun.freed ≡ end.freed
   pub taken : begun.taken ≡ end.delivered

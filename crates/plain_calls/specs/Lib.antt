@@ -1,5 +1,6 @@
 pub mod Seen
 pub mod Begun
+pub mod Blocks
 pub mod Along
 pub mod Following
 pub mod WorkedCalls

@@ -24,11 +24,12 @@ abbrev pub stored : List Store → ℕ → ℕ
 stored [] word = 0
 stored (store ∷ older) word = if store.word == word then store.value else stored older word
 
--- the end of the grammar stands where this one stands: its frames are counted, its last look found none where this one's did, and its words
--- are those that were stored
+-- the end of the grammar stands where this one stands: its frames are counted and those that it accepted are as long, its last look found none
+-- where this one's did, and its words are those that were stored
 pub record IsSeenAs (seen : End) (end : ends.End) : Type 0 where
   pub handshake : end.handshake ≡ seen.handshake
   pub accepted : length end.accepted ≡ seen.accepted
+  pub lengths : map length end.accepted ≡ seen.lengths.items
   pub freed : end.freed ≡ seen.freed
   pub delivered : length end.delivered ≡ seen.delivered
   pub found_none : end.found_none ≡ seen.found_none

@@ -28,6 +28,10 @@ event_peer_0 = record peer_0 { sizes = record { version = 2; out = 16384; mtu = 
 abbrev pub event_peer_1 : Who
 event_peer_1 = record peer_1 { sizes = record { version = 2; out = 16384; mtu = 256 } }
 
+-- peer 0 of the same link with a ring of bytes, which has 14,592 bytes from byte 1,792 of its section on
+abbrev pub byte_peer_0 : Who
+byte_peer_0 = record peer_0 { sizes = record { version = 3; out = 16384; mtu = 256 } }
+
 -- the frame of 14 bytes
 abbrev pub frame : List ℕ
 frame = 255 ∷ 255 ∷ 255 ∷ 255 ∷ 255 ∷ 255 ∷ 2 ∷ 0 ∷ 0 ∷ 0 ∷ 0 ∷ 1 ∷ 8 ∷ 0 ∷ []
@@ -156,6 +160,25 @@ found_between = r 1280 0 (Look 0 ∷ []) ∷ w 5553 0 [] ∷ (item_read ++ item_
 abbrev pub second_refused : List Step
 second_refused = r 1280 0 (Look 0 ∷ []) ∷ w 5553 0 [] ∷ r 1280 4259840 (refuse AvailIndex 65) ∷ s 0 (Over ∷ []) ∷ []
 
+-- In a ring of bytes: the offer of frame 1, which starts 64 bytes behind frame 0
+abbrev pub behind_published : List Step
+behind_published =
+    r 5424 0 (Reclaim 0 ∷ []) ∷ w 1488 4294967295 [] ∷ w 1489 196607 [] ∷ w 1490 16777216 [] ∷ w 1491 8 [] ∷
+    w 1028 1856 [] ∷ w 1029 0 [] ∷ w 1030 14 [] ∷ w 1031 0 [] ∷ w 1281 65536 [] ∷ w 1280 131072 (Accept frame ∷ []) ∷ r 5553 0 (Over ∷ []) ∷ []
+
+-- the longest frame of the link, which takes 320 bytes: there is room for 45 of them and 192 bytes, so for three frames of 14 bytes, and the
+-- offer of the one after these starts at the first byte once the 45 are returned
+abbrev pub long_frame : List ℕ
+long_frame = replicate 274 0
+
+abbrev pub end_wrapped : End
+end_wrapped = record (end_at Run (replicate 45 long_frame ++ replicate 3 frame)) { freed = 45 }
+
+abbrev pub wrapped : List Step
+wrapped =
+    r 5424 2949120 (Reclaim 0 ∷ []) ∷ w 1472 4294967295 [] ∷ w 1473 196607 [] ∷ w 1474 16777216 [] ∷ w 1475 8 [] ∷
+    w 1216 1792 [] ∷ w 1217 0 [] ∷ w 1218 14 [] ∷ w 1219 0 [] ∷ w 1305 48 [] ∷ w 1280 3211264 (Accept frame ∷ []) ∷ r 5553 0 (Over ∷ []) ∷ []
+
 -- these lists are calls, and the five steps before a reset in the middle of an offer begin one
 pub record RowsAreCalls : Type 0 where
   pub shortest_handshake_init : IsCall peer_0 (end_at Reset []) Tick to_init
@@ -194,6 +217,10 @@ pub record RowsAreCalls : Type 0 where
   pub offer_between_the_looks_refused : IsCall event_peer_1 (end_at Run []) Poll second_refused
   pub armed_poll_stays_quiet : IsCall event_peer_1 end_armed Poll (r 1280 0 (Look 0 ∷ Done ∷ []) ∷ [])
   pub armed_poll_takes : IsCall event_peer_1 end_armed Poll (item_read ++ item_returned)
+  pub bytes_behind : IsCall byte_peer_0 (end_at Run (frame ∷ [])) (Offer frame) behind_published
+  pub bytes_full : IsCall byte_peer_0 (end_at Run (replicate 45 long_frame)) (Offer long_frame) full_offer
+  pub bytes_wrap : IsCall byte_peer_0 end_wrapped (Offer frame) wrapped
+  pub descriptors_full : IsCall byte_peer_0 (end_at Run (replicate 64 frame)) (Offer frame) full_offer
 
 -- The same lists with one line changed
 
@@ -282,4 +309,7 @@ pub record ChangedRowsAreNone : Type 0 where
   pub nothing_published_armed_late : ¬ IsCall event_peer_1 end_taken Poll event_after_the_look
   pub nothing_published_without_events : ¬ IsCall peer_1 end_taken Poll (armed_poll 2)
   pub armed_poll_stays_quiet : ¬ IsCall event_peer_1 end_armed Poll armed_anew
+  pub bytes_behind : ¬ IsCall byte_peer_0 (end_at Run (frame ∷ [])) (Offer frame) (next_published ++ (r 5553 0 (Over ∷ []) ∷ []))
+  pub bytes_full : ¬ IsCall byte_peer_0 (end_at Run (replicate 44 long_frame)) (Offer long_frame) full_offer
+  pub descriptors_full : ¬ IsCall byte_peer_0 (end_at Run (replicate 63 frame)) (Offer frame) full_offer
   pub unarmed_poll_stays_quiet : ¬ IsCall event_peer_1 (end_at Run []) Poll (r 1280 0 (Look 0 ∷ Done ∷ []) ∷ [])

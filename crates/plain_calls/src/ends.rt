@@ -41,6 +41,8 @@ pub struct End {
     pub handshake: Handshake,
     /// How many frames of its session it accepted.
     pub accepted: u32,
+    /// How long each of these is, in order.
+    pub lengths: Vec<u64>,
     /// How many of these were freed.
     pub freed: u32,
     /// How many frames of its session it delivered.

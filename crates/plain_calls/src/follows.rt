@@ -22,6 +22,7 @@ impl End {
         End {
             handshake: Handshake::new(),
             accepted: 0,
+            lengths: Vec::new(alloc),
             freed: 0,
             delivered: 0,
             found_none: false,
@@ -45,6 +46,7 @@ impl End {
         self.handshake.enter(phase_of(state));
         if state == 2 {
             self.accepted = 0;
+            self.lengths.clear();
             self.freed = 0;
             self.delivered = 0;
             self.found_none = false;
@@ -77,14 +79,17 @@ impl End {
     }
 
     /// What a mark counts.
-    fn note(&mut self, mark: &Mark)
+    fn note(&mut self, mark: &Mark) -> Result<(), NoMemory>
         requires { HasRoom self.old (mark_seen mark.now ∷ []) }
-        ensures seen { (seen : ends.End) → IsSeenAs self.old seen → IsSeenAs self.new (noted seen (mark_seen mark.now)) }
-        ensures counts { HasCounted self.old (mark_seen mark.now ∷ []) self.new }
+        ensures seen { OnOk result ((seen : ends.End) → IsSeenAs self.old seen → IsSeenAs self.new (noted seen (mark_seen mark.now))) }
+        ensures counts { OnOk result (HasCounted self.old (mark_seen mark.now ∷ []) self.new) }
     {
         match mark {
             Mark::Reclaim(count) => self.freed += *count as u32,
-            Mark::Accept(_) => self.accepted += 1,
+            Mark::Accept(frame) => {
+                self.lengths.push(frame.bytes().len() as u64)?;
+                self.accepted += 1;
+            }
             Mark::Look(count) => self.found_none = *count == 0,
             Mark::Deliver(_) => self.delivered += 1,
             Mark::Refuse(_) => {
@@ -94,17 +99,19 @@ impl End {
             }
             Mark::Saw(_) | Mark::Full | Mark::Return | Mark::Done | Mark::Down | Mark::Over => {}
         }
+        Ok(())
     }
 
     /// What these marks count.
-    fn note_all(&mut self, marks: &[Mark])
+    fn note_all(&mut self, marks: &[Mark]) -> Result<(), NoMemory>
         requires { HasRoom self.old (marks_seen marks.now) }
-        ensures seen { (seen : ends.End) → IsSeenAs self.old seen → IsSeenAs self.new (noted_all seen (marks_seen marks.now)) }
-        ensures counts { HasCounted self.old (marks_seen marks.now) self.new }
+        ensures seen { OnOk result ((seen : ends.End) → IsSeenAs self.old seen → IsSeenAs self.new (noted_all seen (marks_seen marks.now))) }
+        ensures counts { OnOk result (HasCounted self.old (marks_seen marks.now) self.new) }
     {
         for mark in marks {
-            self.note(mark);
+            self.note(mark)?;
         }
+        Ok(())
     }
 
     /// The end takes a step. NoMemory comes only where memory ran out.
@@ -115,7 +122,7 @@ impl End {
         ensures counts { OnOk result (HasCounted self.old (step_seen step.now).marks self.new) }
     {
         self.change(step.access)?;
-        self.note_all(step.marks.as_slice());
+        self.note_all(step.marks.as_slice())?;
         Ok(())
     }
 }

@@ -7,6 +7,7 @@
 mod calls;
 mod ends;
 mod follows;
+mod frames;
 mod marks;
 mod opens;
 mod places;

@@ -1,6 +1,5 @@
 //! The marks of the step at a place.
 ghost use Rattle.std.specs.Prelude.{◌≡◌, ◌==◌, if◌then◌else◌, ◌+◌, ◌<◌, ◌^◌, IfOk, List, [], ◌∷◌, ◌++◌};
-ghost use Rattle.split_ring.specs.Layout.{limit_of};
 ghost use Rattle.call_grammar.specs.Steps.{Deliver};
 ghost use Rattle.call_grammar.specs.Words.{frame_in};
 ghost use Rattle.call_grammar.specs.Ticks.{tick_marks};
@@ -10,6 +9,7 @@ ghost use Rattle.call_grammar.specs.Places.{marks_at};
 ghost use Rattle.plain_calls.specs.Seen.{who_seen, marks_seen};
 ghost use Rattle.plain_calls.specs.Begun.{job_of, place_seen, IsSmall};
 
+use crate::frames::finds_room;
 use crate::places::{Begun, Place, is_address, is_entry, is_length};
 use crate::words::{
     address_of, asks_for, descriptor_of, entry_half, entry_of, frame_in, published_by,
@@ -55,14 +55,6 @@ fn tick_marks(alloc: Global, value: u32, found: Move) -> Result<Vec<Mark>, NoMem
     }
 }
 
-/// Are as many frames in flight as may be, where so many were freed?
-fn is_full(who: &Who, begun: &Begun, freed: u64) -> bool
-    requires { freed < 2 ^ 34 }
-    ensures { result ≡ begun.now.number == freed + limit_of who.now.queue }
-{
-    u64::from(begun.number) == freed + u64::from(who.queue.limit())
-}
-
 /// The marks of an offer's read of the used index.
 fn used_index_marks(
     alloc: Global,
@@ -78,10 +70,10 @@ fn used_index_marks(
         refuse(alloc, FieldName::UsedIndex, u64::from(value / 65_536))
     } else if found > 0 {
         only(alloc, Mark::Reclaim(found))
-    } else if is_full(who, begun, freed) {
-        both(alloc, Mark::Reclaim(0), Mark::Full)
-    } else {
+    } else if finds_room(who, begun, freed) {
         only(alloc, Mark::Reclaim(0))
+    } else {
+        both(alloc, Mark::Reclaim(0), Mark::Full)
     }
 }
 
@@ -147,7 +139,7 @@ pub fn marks_at(
         Place::AtUsedId { freed, more } => {
             if value != descriptor_of(who, *freed) {
                 refuse(alloc, FieldName::UsedId, u64::from(value))
-            } else if *more == 0 && is_full(who, begun, *freed + 1) {
+            } else if *more == 0 && !finds_room(who, begun, *freed + 1) {
                 only(alloc, Mark::Full)
             } else {
                 Ok(Vec::new(alloc))

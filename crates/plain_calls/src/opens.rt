@@ -1,8 +1,9 @@
-//! An open call: where it is, its next step, and where it goes on. A step costs the same wherever the call is.
+//! An open call: where it is, its next step, and where it goes on. A step costs the same wherever in its call it stands.
 ghost use Rattle.std.specs.Prelude.{◌≡◌, IfOk};
 ghost use Rattle.call_grammar.specs.Ends as ends;
 ghost use Rattle.call_grammar.specs.Places.{Closed, first_place, access_at, step_at, next_place, is_open};
 ghost use Rattle.plain_calls.specs.Seen.{who_seen, call_seen, access_seen, step_seen, IsSeenAs};
+ghost use Rattle.plain_calls.specs.Begun.{place_of};
 
 use crate::calls::given;
 use crate::marks::marks_at;
@@ -21,12 +22,11 @@ pub struct OpenCall {
 }
 
 impl Model for OpenCall {
-    ghost use Rattle.call_grammar.specs.Places as laws;
-    ghost use Rattle.plain_calls.specs.Begun.{place_seen, IsSmall};
+    ghost use Rattle.plain_calls.specs.Begun.{Open, IsSmall};
 
-    ghost Value = { laws.Place };
+    ghost Value = { Open };
 
-    ghost view = { λ call. place_seen call.begun call.place };
+    ghost view = { λ call. (call.begun, call.place) };
 
     ghost invariant = { λ call. IsSmall call.place };
 }
@@ -34,13 +34,14 @@ impl Model for OpenCall {
 impl OpenCall {
     /// No call is open.
     pub fn closed(alloc: Global) -> OpenCall
-        ensures { result ≡ Closed }
+        ensures { place_of result ≡ Closed }
     {
         OpenCall {
             begun: Begun {
                 handshake: Handshake::new(),
                 frame: Vec::new(alloc),
                 number: 0,
+                lengths: Vec::new(alloc),
                 beside: 0,
                 freed: 0,
                 taken: 0,
@@ -52,7 +53,7 @@ impl OpenCall {
 
     /// The call that an end begins, before its first step. NoMemory comes only where memory ran out.
     pub fn open(alloc: Global, who: &Who, end: &End, asked: &Call) -> Result<OpenCall, NoMemory>
-        ensures { IfOk result (λ call. (seen : ends.End) → IsSeenAs end.now seen → call ≡ first_place (who_seen who.now) seen (call_seen asked.now)) }
+        ensures { IfOk result (λ call. (seen : ends.End) → IsSeenAs end.now seen → place_of call ≡ first_place (who_seen who.now) seen (call_seen asked.now)) }
     {
         let begun = begin(alloc, who, end, asked)?;
         let place = first_place(&begun, asked);
@@ -61,21 +62,21 @@ impl OpenCall {
 
     /// Is a call open?
     pub fn is_open(&self) -> bool
-        ensures { result ≡ is_open self.now }
+        ensures { result ≡ is_open (place_of self.now) }
     {
         !matches!(&self.place, Place::Closed)
     }
 
     /// The access of its next step.
     pub fn access(&self, who: &Who) -> Access
-        ensures { access_seen result ≡ access_at (who_seen who.now) self.now }
+        ensures { access_seen result ≡ access_at (who_seen who.now) (place_of self.now) }
     {
         access_at(who, &self.begun, &self.place)
     }
 
     /// Its next step, where a read gives this value. NoMemory comes only where memory ran out.
     pub fn step(&self, alloc: Global, who: &Who, value: u32) -> Result<Step, NoMemory>
-        ensures { IfOk result (λ step. step_seen step ≡ step_at (who_seen who.now) self.now value) }
+        ensures { IfOk result (λ step. step_seen step ≡ step_at (who_seen who.now) (place_of self.now) value) }
     {
         let access = access_at(who, &self.begun, &self.place);
         let marks = marks_at(alloc, who, &self.begun, &self.place, value)?;
@@ -88,7 +89,7 @@ impl OpenCall {
 
     /// The call after that step. NoMemory comes only where memory ran out.
     pub fn after(self, alloc: Global, who: &Who, value: u32) -> Result<OpenCall, NoMemory>
-        ensures { IfOk result (λ next. next ≡ next_place (who_seen who.now) self value) }
+        ensures { IfOk result (λ next. place_of next ≡ next_place (who_seen who.now) (place_of self) value) }
     {
         let OpenCall { begun, place } = self;
         let place = next_place(alloc, who, &begun, place, value)?;

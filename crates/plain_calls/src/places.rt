@@ -10,6 +10,7 @@ ghost use Rattle.call_grammar.specs.Ends as ends;
 ghost use Rattle.plain_calls.specs.Seen.{who_seen, call_seen, access_seen, marks_seen, IsSeenAs};
 ghost use Rattle.plain_calls.specs.Begun.{job_of, place_seen, IsSmall, IsBegun};
 
+use crate::frames::{finds_room, start_at};
 use crate::words::*;
 use crate::{Access, Call, End, Mark, Who};
 use ivs_base::{Frame, NoMemory};
@@ -26,6 +27,8 @@ pub struct Begun {
     pub frame: Vec<u8>,
     /// The number of that frame in the session.
     pub number: u32,
+    /// How long each frame of the session is, that one the last.
+    pub lengths: Vec<u64>,
     /// The word of the own section that holds its entry, as the end wrote it last.
     pub beside: u32,
     /// How many frames were freed.
@@ -148,15 +151,17 @@ pub fn access_at(who: &Who, begun: &Begun, place: &Place) -> Access
             theirs + id_word(queue, entry_of(who, *freed)),
         ),
         Place::Filling { at, .. } => {
-            let slot = slot_start(queue, descriptor_of(who, number)) / 4;
+            let start = start_at(who, begun) / 4;
             Access::Write(
-                own + slot + *at,
+                own + start + *at,
                 u64::from(frame_word(begun.frame.as_slice(), *at)),
             )
         }
         Place::WritingLow => {
-            let i = descriptor_of(who, number);
-            Access::Write(own + address_word(i), slot_start(queue, i))
+            Access::Write(
+                own + address_word(descriptor_of(who, number)),
+                start_at(who, begun),
+            )
         }
         Place::WritingHigh => Access::Write(own + address_word(descriptor_of(who, number)) + 1, 0),
         Place::WritingLength => Access::Write(
@@ -260,10 +265,10 @@ fn ids_place(who: &Who, begun: &Begun, freed: u64, count: u64) -> Place
             freed,
             more: count - 1,
         }
-    } else if u64::from(begun.number) == freed + u64::from(who.queue.limit()) {
-        Place::Closed
-    } else {
+    } else if finds_room(who, begun, freed) {
         fill_place(0, words_for(begun.frame.len() as u64))
+    } else {
+        Place::Closed
     }
 }
 
@@ -537,11 +542,14 @@ pub fn begin(alloc: Global, who: &Who, end: &End, call: &Call) -> Result<Begun, 
         Call::Offer(frame) => frame.bytes().to_vec(alloc)?,
         Call::Tick | Call::Stop | Call::Poll => Vec::new(alloc),
     };
+    let mut lengths = end.lengths.to_vec(alloc)?;
+    lengths.push(frame.len() as u64)?;
     let k = entry_of(who, u64::from(end.accepted));
     Ok(Begun {
         handshake: end.handshake,
         frame,
         number: end.accepted,
+        lengths,
         beside: end.written(u64::from(who.own) + entry_word(&who.queue, k)),
         freed: end.freed,
         taken: end.delivered,

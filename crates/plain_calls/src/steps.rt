@@ -31,7 +31,7 @@ pub enum Mark {
     Saw(u32),
     /// How many used elements an offer found.
     Reclaim(u64),
-    /// As many frames as may be are in flight; the offer is over.
+    /// The frame has no room; the offer is over.
     Full,
     /// The frame is published.
     Accept(Frame),

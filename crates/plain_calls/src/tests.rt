@@ -125,13 +125,14 @@ fn event_who(me: u32) -> Result<Who, Fail> {
     Ok(who)
 }
 
-/// An end in this phase, which accepted so many frames.
+/// An end in this phase, which accepted so many frames. Where frames have slots it doesn't matter how long they are.
 fn end(alloc: Global, phase: Phase, accepted: u32) -> End {
     let mut handshake = Handshake::new();
     handshake.enter(phase);
     End {
         handshake,
         accepted,
+        lengths: Vec::new(alloc),
         freed: 0,
         delivered: 0,
         found_none: false,
@@ -197,6 +198,22 @@ fn check(
         );
     }
     Ok(())
+}
+
+/// The same peer of a link with a ring of bytes, in which a frame may be as long as the ring.
+fn byte_who(me: u32) -> Result<Who, Fail> {
+    let mut who = who(me, 4096)?;
+    who.queue = Queue::of_version(3, 16_384, 14_574)?;
+    Ok(who)
+}
+
+/// An end in RUN, which accepted frames of these lengths and freed so many.
+fn end_of(alloc: Global, lengths: &[u64], freed: u32) -> Result<End, Fail> {
+    let mut end = end(alloc, Phase::Run, 0);
+    end.accepted = small(lengths.len() as u64);
+    end.lengths = lengths.to_vec(alloc)?;
+    end.freed = freed;
+    Ok(end)
 }
 
 /// The lines of an offer's frame, to the descriptor's last word.
@@ -351,6 +368,113 @@ fn event_asked(rt: HostRuntime) -> Result<(), Fail> {
         let steps = steps_of(alloc, others.as_slice())?;
         assert!(rt; !is_call(alloc, &who, &end, &call, steps.as_slice())?);
     }
+    Ok(())
+}
+
+/// The lines of an offer by an end that freed 45 frames: it starts at this byte, by this number; or it is full, where the byte is 0.
+fn offered_at(alloc: Global, start: u32, number: u32) -> Result<Vec<Line>, Fail> {
+    let mut lines: Vec<Line> = Vec::from_slice(alloc, &[('r', 5424, 2_949_120), ('c', 0, 0)])?;
+    if start == 0 {
+        lines.push(('f', 0, 0))?;
+        return Ok(lines);
+    }
+    let word = u64::from(start) / 4;
+    let number = u64::from(number);
+    lines.extend_from_slice(&[
+        ('w', small(1024 + word), 4_294_967_295),
+        ('w', small(1025 + word), 196_607),
+        ('w', small(1026 + word), 16_777_216),
+        ('w', small(1027 + word), 8),
+        ('w', small(1024 + 4 * number), u64::from(start)),
+        ('w', small(1025 + 4 * number), 0),
+        ('w', small(1026 + 4 * number), 14),
+        ('w', small(1027 + 4 * number), 0),
+        (
+            'w',
+            small(1281 + number / 2),
+            if number.is_multiple_of(2) {
+                number
+            } else {
+                65_536 * number
+            },
+        ),
+        ('w', 1280, 65_536 * (number + 1)),
+        ('a', 0, 0),
+        ('r', 5553, 7),
+        ('o', 0, 0),
+    ])?;
+    Ok(lines)
+}
+
+/// An offer of 14 bytes in a ring of bytes, where 45 frames were freed: where it starts after the last frame, and whether it has room. The ring
+/// has 14,592 bytes, which are 228 blocks.
+#[test]
+fn bytes_in_flight(rt: HostRuntime) -> Result<(), Fail> {
+    let alloc = rt.alloc();
+    let who = byte_who(0)?;
+    let call = Call::Offer(frame(alloc, 0)?);
+    let freed: [u64; 45] = [274; 45];
+    // How long the frames in flight are, and where the offered one starts; 0 where it is full.
+    let rows: [(&[u64], u32); 10] = [
+        // behind the 225 blocks of those that were freed
+        (&[], 16_192),
+        (&[14], 16_256),
+        (&[64, 64], 16_320),
+        (&[65], 16_320),
+        // from the first byte on, behind a frame that ends with the ring, and behind one that wouldn't have ended inside it
+        (&[64, 64, 64], 1792),
+        (&[192], 1792),
+        (&[193], 2048),
+        (&[14, 274, 1], 2176),
+        // in the last block before the oldest frame in flight, and where there is none
+        (&[14, 64, 64, 14_336], 16_128),
+        (&[14, 64, 64, 14_400], 0),
+    ];
+    for (flying, start) in &rows {
+        let mut lengths = freed.to_vec(alloc)?;
+        lengths.extend_from_slice(flying)?;
+        let end = end_of(alloc, lengths.as_slice(), 45)?;
+        let lines = offered_at(alloc, *start, end.accepted)?;
+        check(&rt, alloc, &who, &end, &call, lines.as_slice())?;
+    }
+    Ok(())
+}
+
+/// As many frames of 14 bytes are in flight as there are descriptors, and one fewer.
+#[test]
+fn descriptors_in_flight(rt: HostRuntime) -> Result<(), Fail> {
+    let alloc = rt.alloc();
+    let who = byte_who(0)?;
+    let call = Call::Offer(frame(alloc, 0)?);
+    let lengths: [u64; 64] = [14; 64];
+    let full = end_of(alloc, &lengths, 0)?;
+    check(
+        &rt,
+        alloc,
+        &who,
+        &full,
+        &call,
+        &[('r', 5424, 0), ('c', 0, 0), ('f', 0, 0)],
+    )?;
+    let last = end_of(alloc, &lengths[..63], 0)?;
+    let lines: [Line; 15] = [
+        ('r', 5424, 0),
+        ('c', 0, 0),
+        ('w', 2480, 4_294_967_295),
+        ('w', 2481, 196_607),
+        ('w', 2482, 16_777_216),
+        ('w', 2483, 8),
+        ('w', 1276, 5824),
+        ('w', 1277, 0),
+        ('w', 1278, 14),
+        ('w', 1279, 0),
+        ('w', 1312, 4_128_768),
+        ('w', 1280, 4_194_304),
+        ('a', 0, 0),
+        ('r', 5553, 7),
+        ('o', 0, 0),
+    ];
+    check(&rt, alloc, &who, &last, &call, &lines)?;
     Ok(())
 }
 
@@ -553,6 +677,29 @@ fn an_end_follows_its_steps(rt: HostRuntime) -> Result<(), Fail> {
     end.reset();
     assert!(rt; matches!(end.handshake.phase(), Phase::Reset) && end.written(1281) == 6);
     assert!(rt; !OpenCall::closed(alloc).is_open());
+    Ok(())
+}
+
+/// An end keeps how long the frames are that it accepted, until its next session.
+#[test]
+fn an_end_keeps_the_lengths_of_its_session(rt: HostRuntime) -> Result<(), Fail> {
+    let alloc = rt.alloc();
+    let mut end = End::fresh(alloc);
+    let mut step = Step {
+        access: Access::Write(1280, 65_536),
+        value: 0,
+        marks: Vec::new(alloc),
+    };
+    step.marks.push(Mark::Accept(frame(alloc, 0)?))?;
+    end.follow(&step)?;
+    step.marks = Vec::new(alloc);
+    step.marks.push(Mark::Accept(frame(alloc, 1)?))?;
+    end.follow(&step)?;
+    assert!(rt; end.accepted == 2 && end.lengths.as_slice() == [14, 13].as_slice());
+    step.access = Access::State(2);
+    step.marks = Vec::new(alloc);
+    end.follow(&step)?;
+    assert!(rt; end.accepted == 0 && end.lengths.as_slice().is_empty());
     Ok(())
 }
 

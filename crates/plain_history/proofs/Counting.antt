@@ -10,13 +10,13 @@ use Rattle.link_handshake.specs.declared.Move.TheVariants.{Stay, Set, ClearThenS
 use Rattle.link_handshake.specs.Standing.{move_of}
 use Rattle.split_ring.specs.declared.ranges.FieldName.{FieldName}
 use Rattle.split_ring.specs.declared.ranges.FieldName.TheVariants as field_name
-use Rattle.split_ring.specs.Layout.{has_events, size_of, limit_of}
+use Rattle.split_ring.specs.Layout.{has_events, size_of}
 use Rattle.split_ring.specs.Spelling.{high_half, low_half, entry_half}
 use Rattle.call_grammar.specs.Words.{words_for, address_of}
 use Rattle.call_grammar.specs.Steps.{Mark, Reclaim, Full, Accept, Look, Deliver, Return, Done, Down, Over}
 use Rattle.call_grammar.specs.Ends as ends
 use Rattle.call_grammar.specs.Ticks.{tick_marks}
-use Rattle.call_grammar.specs.Offers.{Job, entry_of, full_marks, reclaim_marks, refusal, returned_by, asks_for}
+use Rattle.call_grammar.specs.Offers.{Job, entry_of, finds_room, full_marks, reclaim_marks, refusal, returned_by, asks_for}
 use Rattle.call_grammar.specs.Polls.{is_entry, is_address, is_length, published_by, is_last, look_marks}
 use Rattle.call_grammar.specs.Calls.{Who, Call, Tick, Stop, Offer, Poll, in_run, job_of}
 use Rattle.call_grammar.specs.Places.{Place, Closed, AtState, Clearing, Setting, Refusing, Downed, AtUsedIndex, AtUsedId, Filling, WritingLow, WritingHigh, WritingLength, WritingFlags, WritingEntry, WritingIndex, AtEvent, RingingOffer, AtAvailIndex, Arming, AtEntry, AtLow, AtHigh, AtLength, AtFlags, AtWord, GivingId, GivingLength, GivingIndex, RingingPoll, clear_place, tick_place, fill_place, ids_place, none_place, items_place, words_place, first_place, marks_at, next_place}
@@ -54,11 +54,15 @@ pair_if : (b : Bool) (l m : Mark) → IsShort (l ∷ (if b then m ∷ [] else []
 pair_if true l m = record { few = omega arith }
 pair_if false l m = record { few = omega arith }
 
+pair_unless : (b : Bool) (l m : Mark) → IsShort (l ∷ (if b then [] else m ∷ []))
+pair_unless true l m = record { few = omega arith }
+pair_unless false l m = record { few = omega arith }
+
 short_full : (who : Who) (job : Job) (freed : ℕ) → IsShort (full_marks who job freed)
-short_full who job freed = short_if (job.number == freed + limit_of who.sizes) (Full ∷ []) [] (single Full) none
+short_full who job freed = short_if (finds_room who job freed) [] (Full ∷ []) none (single Full)
 
 short_reclaim : (who : Who) (job : Job) (freed count : ℕ) → IsShort (reclaim_marks who job freed count)
-short_reclaim who job freed count = short_if (count == 0) (Reclaim 0 ∷ full_marks who job freed) (Reclaim count ∷ []) (pair_if (job.number == freed + limit_of who.sizes) (Reclaim 0) Full) (single (Reclaim count))
+short_reclaim who job freed count = short_if (count == 0) (Reclaim 0 ∷ full_marks who job freed) (Reclaim count ∷ []) (pair_unless (finds_room who job freed) (Reclaim 0) Full) (single (Reclaim count))
 
 short_look : (last : Bool) (count : ℕ) → IsShort (look_marks last count)
 short_look last count = short_if (count == 0) _ _ (short_if last _ _ (pair_if true (Look 0) Done) (single _)) (single _)
@@ -128,7 +132,7 @@ deliver_none : (frame : List ℕ) → FreesNone (Deliver frame ∷ [])
 deliver_none frame = record { none = omega arith }
 
 full_none : (who : Who) (job : Job) (freed : ℕ) → FreesNone (full_marks who job freed)
-full_none who job freed = none_if (job.number == freed + limit_of who.sizes) (Full ∷ []) [] (record { none = omega arith }) none_freed
+full_none who job freed = none_if (finds_room who job freed) [] (Full ∷ []) none_freed (record { none = omega arith })
 
 tick_none : (value : ℕ) (m : Move) → FreesNone (tick_marks value m)
 tick_none value Stay = record { none = omega arith }
@@ -202,7 +206,7 @@ fresh_fill most end job at zero = tt
 fresh_fill most end job at (suc more) = tt
 
 fresh_ids : (most : ℕ) (end : End) (who : Who) (job : Job) (freed count : ℕ) → IsFresh most end (ids_place who job freed count)
-fresh_ids most end who job freed zero = fresh_if most end (job.number == freed + limit_of who.sizes) Closed (fill_place job 0 (words_for (length job.frame))) tt (fresh_fill most end job 0 (words_for (length job.frame)))
+fresh_ids most end who job freed zero = fresh_if most end (finds_room who job freed) (fill_place job 0 (words_for (length job.frame))) Closed (fresh_fill most end job 0 (words_for (length job.frame))) tt
 fresh_ids most end who job freed (suc more) = tt
 
 fresh_items : (most : ℕ) (end : End) (number count : ℕ) → IsFresh most end (items_place number count)

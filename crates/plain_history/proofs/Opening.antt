@@ -14,6 +14,7 @@ use Rattle.call_grammar.specs.Places.{Place, Closed, AtState, Clearing, Setting,
 use Rattle.plain_calls.specs.declared.ends.Call.{Call}
 use Rattle.plain_calls.specs.declared.ends.End.{End}
 use Rattle.plain_calls.specs.Seen.{call_seen, IsSeenAs}
+use Rattle.plain_calls.specs.Begun.{Open, place_of}
 use Rattle.plain_calls.specs.Following.{HasCounted}
 use Rattle.lawful_history.specs.Peers as history
 use Rattle.lawful_history.specs.Peers.{with_choice, chosen, opened_by, opened, driver_after, stepped}
@@ -71,14 +72,14 @@ peer_wider who most more s peer wide stands =
       waiting = stands.waiting;
       driver = stands.driver;
       few = record { accepted = omega arith; freed = omega arith; delivered = omega arith };
-      fresh = fresh_wider most more s s.call wide stands.fresh;
+      fresh = fresh_wider most more s (place_of s.call) wide stands.fresh;
       delivered = few_wider most more s.driver wide stands.delivered;
     }
 
 -- a call that is opened
-pub begun : PlacesFollowTrees → (who : Who) (most : ℕ) (s : Peer) (peer : history.Peer) (call : calls.Call) (place : Place) → IsPeer who most s peer → place ≡ first_place who peer.end call →
-    IsPeer who most (record s { call = place }) (record peer { left = tree_of who peer.end call })
-begun follow who most s peer call place stands is = record {
+pub begun : PlacesFollowTrees → (who : Who) (most : ℕ) (s : Peer) (peer : history.Peer) (call : calls.Call) (new : Open) → IsPeer who most s peer → place_of new ≡ first_place who peer.end call →
+    IsPeer who most (record s { call = new }) (record peer { left = tree_of who peer.end call })
+begun follow who most s peer call new stands is = record {
   end = stands.end;
   left = ap (remaining who) is ∙ follow.begins who peer.end call;
   waiting = stands.waiting;
@@ -99,17 +100,17 @@ shut_place Closed shut = refl
 shut_place _ shut = absurd (cc)
 
 -- with no open call nothing is left of one
-pub shut_left : (who : Who) (most : ℕ) (s : Peer) (peer : history.Peer) → IsPeer who most s peer → is_open s.call ≡ false → peer.left ≡ Ended
-shut_left who most s peer stands shut = sym stands.left ∙ ap (remaining who) (shut_place s.call shut)
+pub shut_left : (who : Who) (most : ℕ) (s : Peer) (peer : history.Peer) → IsPeer who most s peer → is_open (place_of s.call) ≡ false → peer.left ≡ Ended
+shut_left who most s peer stands shut = sym stands.left ∙ ap (remaining who) (shut_place (place_of s.call) shut)
 
 -- with no call that waits, the next is chosen
-pub none_waits : (who : Who) (most : ℕ) (s : Peer) (peer : history.Peer) → IsPeer who most s peer → is_open s.call ≡ false → s.waiting.items ≡ [] → opened who peer ≡ chosen who peer peer.driver
+pub none_waits : (who : Who) (most : ℕ) (s : Peer) (peer : history.Peer) → IsPeer who most s peer → is_open (place_of s.call) ≡ false → s.waiting.items ≡ [] → opened who peer ≡ chosen who peer peer.driver
 none_waits who most s peer stands shut empty =
     ap (λ (t : CallTree). opened_by who peer t peer.waiting) (shut_left who most s peer stands shut)
     ∙ ap (λ (w : List calls.Call). opened_by who peer Ended w) (sym stands.waiting ∙ ap (map call_seen) empty)
 
 -- else the oldest is opened
-pub oldest_waits : (who : Who) (most : ℕ) (s : Peer) (peer : history.Peer) (call : Call) (rest : List Call) → IsPeer who most s peer → is_open s.call ≡ false → s.waiting.items ≡ call ∷ rest →
+pub oldest_waits : (who : Who) (most : ℕ) (s : Peer) (peer : history.Peer) (call : Call) (rest : List Call) → IsPeer who most s peer → is_open (place_of s.call) ≡ false → s.waiting.items ≡ call ∷ rest →
     opened who peer ≡ record peer { left = tree_of who peer.end (call_seen call); waiting = map call_seen rest }
 oldest_waits who most s peer call rest stands shut some =
     ap (λ (t : CallTree). opened_by who peer t peer.waiting) (shut_left who most s peer stands shut)
@@ -120,18 +121,18 @@ oldest_is [] call some is = absurd (omega arith)
 oldest_is (x ∷ calls) call some is = ap (λ (c : Call). c ∷ calls) (sym is)
 
 -- a step that is taken
-pub followed : (who : Who) (most : ℕ) (s s' : Peer) (peer : history.Peer) (step : Step) (met : ℕ) (e : End) → IsPeer who most s peer → step ≡ step_at who s.call met → ((seen : ends.End) → IsSeenAs s.end seen → IsSeenAs e (end_after seen step)) →
-    HasCounted s.end step.marks e → s'.end ≡ e → s'.call ≡ next_place who s.call met → s'.waiting ≡ s.waiting → driver_seen s'.driver ≡ driver_after (driver_seen s.driver) step.marks → HasFew (most + length step.marks) s'.driver →
-    IsPeer who (most + 2) s' (stepped peer step (remaining who (next_place who s.call met)))
+pub followed : (who : Who) (most : ℕ) (s s' : Peer) (peer : history.Peer) (step : Step) (met : ℕ) (e : End) → IsPeer who most s peer → step ≡ step_at who (place_of s.call) met → ((seen : ends.End) → IsSeenAs s.end seen → IsSeenAs e (end_after seen step)) →
+    HasCounted s.end step.marks e → s'.end ≡ e → place_of s'.call ≡ next_place who (place_of s.call) met → s'.waiting ≡ s.waiting → driver_seen s'.driver ≡ driver_after (driver_seen s.driver) step.marks → HasFew (most + length step.marks) s'.driver →
+    IsPeer who (most + 2) s' (stepped peer step (remaining who (next_place who (place_of s.call) met)))
 followed who most s s' peer step met e stands is end counts same call waiting driver few =
     let marks = ap (λ (x : Step). x.marks) is in
-    let two : length step.marks ≤ 2 = rw marks (marks_few who s.call met) in
+    let two : length step.marks ≤ 2 = rw marks (marks_few who (place_of s.call) met) in
     record {
       end = subst (λ (x : End). IsSeenAs x (end_after peer.end step)) (sym same) (end peer.end stands.end);
       left = ap (remaining who) call;
       waiting = ap (λ w. map call_seen w.items) waiting ∙ stands.waiting;
       driver = driver ∙ ap (λ (d : history.Driver). driver_after d step.marks) stands.driver;
-      few = subst (λ (x : End). AreFew (most + 2) x) (sym same) (still_few most s.end e who s.call met step.marks marks stands.fresh stands.few counts);
-      fresh = subst (λ (p : Place). IsFresh (most + 2) s'.end p) (sym call) (fresh_next (most + 2) s'.end who s.call met);
+      few = subst (λ (x : End). AreFew (most + 2) x) (sym same) (still_few most s.end e who (place_of s.call) met step.marks marks stands.fresh stands.few counts);
+      fresh = subst (λ (p : Place). IsFresh (most + 2) s'.end p) (sym call) (fresh_next (most + 2) s'.end who (place_of s.call) met);
       delivered = few_wider (most + length step.marks) (most + 2) s'.driver (omega arith) few;
     }

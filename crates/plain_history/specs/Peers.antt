@@ -5,6 +5,7 @@ use Rattle.call_grammar.specs.Calls.{Who}
 use Rattle.call_grammar.specs.Places.{Place, AtUsedIndex, remaining}
 use Rattle.plain_calls.specs.declared.ends.End.{End}
 use Rattle.plain_calls.specs.Seen.{call_seen, IsSeenAs}
+use Rattle.plain_calls.specs.Begun.{place_of}
 use Rattle.lawful_history.specs.Peers as history
 use Rattle.plain_history.specs.declared.peers.Round.{Round}
 use Rattle.plain_history.specs.declared.peers.Round.TheVariants.{Anew, AfterOffer, AfterPoll}
@@ -54,9 +55,9 @@ HasFew most (Storms x) = Unit {0}
 -- the peer of the history stands where this one stands, which counted no further than this
 pub record IsPeer (who : Who) (most : ℕ) (seen : Peer) (peer : history.Peer) : Type 0 where
   pub end : IsSeenAs seen.end peer.end
-  pub left : remaining who seen.call ≡ peer.left
+  pub left : remaining who (place_of seen.call) ≡ peer.left
   pub waiting : map call_seen seen.waiting.items ≡ peer.waiting
   pub driver : driver_seen seen.driver ≡ peer.driver
   pub few : AreFew most seen.end
-  pub fresh : IsFresh most seen.end seen.call
+  pub fresh : IsFresh most seen.end (place_of seen.call)
   pub delivered : HasFew most seen.driver

@@ -43,6 +43,8 @@ mod tests;
 #[cfg(test)]
 mod worked;
 #[cfg(test)]
+mod worked_bytes;
+#[cfg(test)]
 mod worked_events;
 
 /// Reads the lines of an act. False where they don't stand there.

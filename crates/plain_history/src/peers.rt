@@ -5,6 +5,7 @@ ghost use Rattle.call_grammar.specs.Calls as laws;
 ghost use Rattle.call_grammar.specs.Calls.{tree_of};
 ghost use Rattle.call_grammar.specs.Places.{Closed, is_open, step_at, next_place, remaining};
 ghost use Rattle.plain_calls.specs.Seen.{who_seen, call_seen, mark_seen, marks_seen, step_seen};
+ghost use Rattle.plain_calls.specs.Begun.{place_of};
 ghost use Rattle.plain_calls.specs.Following.{IsStorable};
 ghost use Rattle.lawful_history.specs.Peers as history;
 ghost use Rattle.lawful_history.specs.Peers.{asked, automated, stormed, was_reset, at_start, opened, chosen, counted, counted_all, driver_after, stepped};
@@ -292,12 +293,12 @@ impl Peer {
         step: &Step,
         met: u32,
     ) -> Result<(), NoMemory>
-        requires next { step_seen step.now ≡ step_at (who_seen who.now) self.old.call met }
+        requires next { step_seen step.now ≡ step_at (who_seen who.now) (place_of self.old.call) met }
         requires storable { IsStorable (step_seen step.now).access }
         requires few { (most : ℕ) × (peer : history.Peer) × IsPeer (who_seen who.now) most self.old peer × (most + 2 < 2 ^ 32) }
         ensures { let who = who_seen who.now in
             OnOk result ((most : ℕ) (peer : history.Peer) → IsPeer who most self.old peer →
-            IsPeer who (most + 2) self.new (stepped peer (step_seen step.now) (remaining who (next_place who self.old.call met)))) }
+            IsPeer who (most + 2) self.new (stepped peer (step_seen step.now) (remaining who (next_place who (place_of self.old.call) met)))) }
     {
         self.end.follow(step)?;
         self.count(step.marks.as_slice());

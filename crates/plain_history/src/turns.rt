@@ -3,6 +3,7 @@ ghost use Rattle.std.specs.Prelude.{◌≡◌, ℕ, ◌+◌, ◌<◌, ◌≤◌,
 ghost use Rattle.lawful_history.specs.declared.line.Line.TheVariants.{Reset};
 ghost use Rattle.call_grammar.specs.Calls as laws;
 ghost use Rattle.call_grammar.specs.Places.{is_open};
+ghost use Rattle.plain_calls.specs.Begun.{place_of};
 ghost use Rattle.plain_calls.specs.Seen.{who_seen, access_seen};
 ghost use Rattle.lawful_history.specs.Schedule.{event_peer};
 ghost use Rattle.lawful_history.specs.Sides.{world_of, who_of};
@@ -44,7 +45,7 @@ fn read_call(
 ) -> Result<Option<usize>, NoMemory>
     requires there { me < scenario.now.geometry.peers }
     requires fits { (who.now.other < 2 ^ 16) × (who.now.vector < 2 ^ 16) }
-    requires open { is_open peer.old.call ≡ true }
+    requires open { is_open (place_of peer.old.call) ≡ true }
     requires few { (most : ℕ) × (it : history.Peer) × IsPeer (who_seen who.now) most peer.old it × (most + 2 < 2 ^ 32) }
     requires told { (past : List Line) × Reads lines.now past (Some read) × AreTold scenario.now.geometry.peers past }
     ensures { let world = world_of scenario.now in

@@ -3,6 +3,7 @@ use Rattle.std.specs.Prelude.{reverse}
 use Rattle.call_grammar.specs.Calls.{Who}
 use Rattle.call_grammar.specs.Places.{is_open}
 use Rattle.plain_calls.specs.Seen.{who_seen}
+use Rattle.plain_calls.specs.Begun.{place_of}
 use Rattle.lawful_history.specs.Sides.{world_of}
 use Rattle.lawful_history.specs.Entries.{turn_lines}
 use Rattle.lawful_history.specs.Peers.{opened}
@@ -36,7 +37,7 @@ returns c = λ past lost most it reads told has stands.
     let me = c.args.me in
     let who = who_seen c.who_of-who.result in
     let here = c.in_ok-open_next.ensures most it (subst (λ (w : Who). IsPeer w most c.args.peer.now it) (sym c.who_of-who.ensures.who) stands) in
-    let shut : is_open c.open_next.new.self.call ≡ false = search rules in
+    let shut : is_open (place_of c.open_next.new.self.call) ≡ false = search rules in
     let none = shut_left who most c.open_next.new.self (opened who it) here shut in
     let goes = c.read_driver.ensures past lost who most (opened who it) reads told has here in
     subst (λ (w : Who). GoesTo world c.args.lines.now (reverse (turn_lines me (step_by world me (opened w it).driver (opened w it).left past) (step_interrupts world past lost me (step_by world me (opened w it).driver (opened w it).left past))) ++ past) w (most + 2) (moved (opened w it) past) c.read_driver.new.peer c.read_driver.result)

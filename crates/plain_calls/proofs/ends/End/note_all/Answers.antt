@@ -19,6 +19,6 @@ loop-mark-preserved c =
     let more = marks_more marks i mark c.loop-mark-test.true (search rules) in
     record {
       seen = λ seen is. subst (λ (e : ends.End). IsSeenAs c.note.new.self e) (sym (ap (λ (ms : List laws.Mark). noted_all seen ms) more ∙ noted_more seen before (mark_seen mark)))
-          (c.note.ensures.seen (noted_all seen before) (c.loop-mark.invariant.seen seen is));
-      counts = subst (λ (ms : List laws.Mark). HasCounted c.args.self.now ms c.note.new.self) (sym more) (counted_more c.args.self.now c.loop-mark.self c.note.new.self before (mark_seen mark) c.loop-mark.invariant.counts c.note.ensures.counts);
+          (c.in_ok-note.ensures.seen (noted_all seen before) (c.loop-mark.invariant.seen seen is));
+      counts = subst (λ (ms : List laws.Mark). HasCounted c.args.self.now ms c.note.new.self) (sym more) (counted_more c.args.self.now c.loop-mark.self c.note.new.self before (mark_seen mark) c.loop-mark.invariant.counts c.in_ok-note.ensures.counts);
     }

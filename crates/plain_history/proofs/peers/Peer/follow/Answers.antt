@@ -5,7 +5,8 @@ use Rattle.lawful_history.specs.Peers.{driver_after}
 use Rattle.plain_history.specs.Peers.{HasFew, driver_seen}
 use Rattle.std.proofs.lemmas.List.{length-map}
 use Rattle.plain_calls.specs.Seen.{mark_seen}
-use Rattle.call_grammar.specs.Places.{Place, next_place}
+use Rattle.call_grammar.specs.Places.{next_place}
+use Rattle.plain_calls.specs.Begun.{Open, place_of}
 use Rattle.plain_history.proofs.Opening.{followed}
 use Rattle.plain_history.proofs.peers.Peer.follow.Goals as goal
 
@@ -18,6 +19,6 @@ returns c = λ most peer stands.
     let driver : driver_seen c.count.new.self.driver ≡ driver_after (driver_seen s.driver) (marks_seen marks) = c.count.ensures.counted ∙ ap (λ (ms : List Mark). driver_after (driver_seen s.driver) (marks_seen ms)) slice in
     let few : HasFew (most + length (marks_seen marks)) c.count.new.self.driver =
     subst (λ (n : ℕ). HasFew (most + n) c.count.new.self.driver) (ap length slice ∙ sym (length-map marks mark_seen)) (c.count.ensures.few most stands.delivered) in
-    let call : c.in_ok-self.field-0 ≡ next_place who s.call c.args.met = c.in_ok-self.ensures ∙ ap (λ (p : Place). next_place who p c.args.met) (c.replace-call.ensures.value ∙ c.count.ensures.kept.1) in
+    let call : place_of c.in_ok-self.field-0 ≡ next_place who (place_of s.call) c.args.met = c.in_ok-self.ensures ∙ ap (λ (o : Open). next_place who (place_of o) c.args.met) (c.replace-call.ensures.value ∙ c.count.ensures.kept.1) in
     followed who most s (record c.count.new.self { call = c.in_ok-self.field-0 }) peer (step_seen c.args.step.now) c.args.met c.follow.new.self stands c.requires.next c.in_ok-follow.ensures.seen c.in_ok-follow.ensures.counts
     c.count.ensures.kept.0 call c.count.ensures.kept.2 driver few

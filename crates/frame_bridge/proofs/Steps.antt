@@ -12,7 +12,7 @@ use Rattle.call_grammar.specs.Ends.{End, stated, noted, noted_all}
 use Rattle.call_grammar.specs.Words.{words_for, address_of}
 use Rattle.call_grammar.specs.Calls.{Who}
 use Rattle.call_grammar.specs.Ticks.{tick_marks}
-use Rattle.call_grammar.specs.Offers.{Job, descriptor_of, asks_for, full_marks, reclaim_marks, returned_by}
+use Rattle.call_grammar.specs.Offers.{Job, finds_room, descriptor_of, asks_for, full_marks, reclaim_marks, returned_by}
 use Rattle.call_grammar.specs.Polls.{is_entry, is_address, is_length, entry_in, look_marks, published_by}
 use Rattle.call_grammar.specs.Places.{Place, Closed, AtState, Clearing, Setting, Refusing, Downed, AtUsedIndex, AtUsedId, Filling, WritingLow, WritingHigh, WritingLength, WritingFlags, WritingEntry, WritingIndex, AtEvent, RingingOffer, AtAvailIndex, Arming, AtEntry, AtLow, AtHigh, AtLength, AtFlags, AtWord, GivingId, GivingLength, GivingIndex, RingingPoll, clear_place, tick_place, fill_place, ids_place, tell_place, none_place, items_place, words_place, access_at, marks_at, next_place}
 use Rattle.frame_bridge.specs.Links.{left_after, delivered_by}
@@ -46,7 +46,7 @@ tick_silent value (Set state) = refl
 tick_silent value (ClearThenSet state) = refl
 
 full_silent : (who : Who) (job : Job) (freed : ℕ) → accepted_by (full_marks who job freed) ≡ []
-full_silent who job freed = if_silent (job.number == freed + limit_of who.sizes) _ _ refl refl
+full_silent who job freed = if_silent (finds_room who job freed) _ _ refl refl
 
 reclaim_silent : (who : Who) (job : Job) (freed count : ℕ) → accepted_by (reclaim_marks who job freed count) ≡ []
 reclaim_silent who job freed count = if_silent (count == 0) _ _ (full_silent who job freed) refl
@@ -116,8 +116,8 @@ fill_frame job at (suc more) = refl
 ids_goes : (who : Who) (place : Place) (job : Job) (freed count : ℕ) → job_frame place ≡ Some job.frame → is_publishing place ≡ false →
     Goes place (ids_place who job freed count)
 ids_goes who place job freed zero here not_yet =
-    if_goes place (job.number == freed + limit_of who.sizes) Closed (fill_place job 0 (words_for (length job.frame))) (inl refl)
-    (inr (fill_frame job 0 (words_for (length job.frame)) ∙ sym here, not_yet))
+    if_goes place (finds_room who job freed) (fill_place job 0 (words_for (length job.frame))) Closed
+    (inr (fill_frame job 0 (words_for (length job.frame)) ∙ sym here, not_yet)) (inl refl)
 ids_goes who place job freed (suc more) here not_yet = inr (sym here, not_yet)
 
 goes : (who : Who) (place : Place) (value : ℕ) → Goes place (next_place who place value)

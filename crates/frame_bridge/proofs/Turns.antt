@@ -16,7 +16,7 @@ use Rattle.call_grammar.specs.Ends.{end_after}
 use Rattle.call_grammar.specs.Words.{address_of}
 use Rattle.call_grammar.specs.Calls.{Who, in_run}
 use Rattle.call_grammar.specs.Ticks.{tick_marks}
-use Rattle.call_grammar.specs.Offers.{descriptor_of, asks_for, returned_by}
+use Rattle.call_grammar.specs.Offers.{finds_room, descriptor_of, asks_for, returned_by}
 use Rattle.call_grammar.specs.Polls.{is_entry, is_address, is_length, entry_in, published_by}
 use Rattle.call_grammar.specs.Places.{Place, AtState, AtUsedIndex, AtUsedId, AtEvent, AtAvailIndex, AtEntry, AtHigh, AtLength, AtFlags, AtWord, access_at, marks_at, next_place, step_at, is_open}
 use Rattle.call_grammar.specs.Automatic.{Choice, ChoosesTick, ChoosesOffer, ChoosesPoll, IsFinished}
@@ -97,10 +97,10 @@ at_most_one who (AtState handshake) value = nothing (tick_marks value (move_of h
 at_most_one who (AtUsedIndex job freed) value =
     nothing (marks_at who (AtUsedIndex job freed) value)
     (if_none (nat_le (returned_by freed value) (job.number - freed)) _ _
-    (if_none (returned_by freed value == 0) _ _ (if_none (job.number == freed + limit_of who.sizes) _ _ refl refl) refl) refl)
+    (if_none (returned_by freed value == 0) _ _ (if_none (finds_room who job freed) _ _ refl refl) refl) refl)
 at_most_one who (AtUsedId job freed more) value =
     nothing (marks_at who (AtUsedId job freed more) value)
-    (if_none (value == descriptor_of who freed) _ _ (if_none (more == 0) _ _ (if_none (job.number == (freed + 1) + limit_of who.sizes) _ _ refl refl) refl) refl)
+    (if_none (value == descriptor_of who freed) _ _ (if_none (more == 0) _ _ (if_none (finds_room who job (freed + 1)) _ _ refl refl) refl) refl)
 at_most_one who (AtEvent number) value = nothing (marks_at who (AtEvent number) value) (if_none (asks_for (low_half value) number) _ _ refl refl)
 at_most_one who (AtAvailIndex taken last) value =
     nothing (marks_at who (AtAvailIndex taken last) value)

@@ -14,7 +14,7 @@ use Rattle.call_grammar.specs.Ends.{End, stated, noted_all, after_reset, end_aft
 use Rattle.call_grammar.specs.Words.{words_for, address_of, frame_in}
 use Rattle.call_grammar.specs.Ticks.{tick_marks}
 use Rattle.call_grammar.specs.Calls.{Who, Call, Tick, Stop, Offer, Poll, in_run, job_of}
-use Rattle.call_grammar.specs.Offers.{Job, descriptor_of, refusal, full_marks, returned_by, reclaim_marks, asks_for}
+use Rattle.call_grammar.specs.Offers.{Job, finds_room, descriptor_of, refusal, full_marks, returned_by, reclaim_marks, asks_for}
 use Rattle.call_grammar.specs.Polls.{is_entry, is_address, is_length, is_last, entry_in, published_by, look_marks}
 use Rattle.call_grammar.specs.Places.{Place, Closed, AtState, Clearing, Setting, Refusing, Downed, AtUsedIndex, AtUsedId, Filling, WritingLow, WritingHigh, WritingLength, WritingFlags, WritingEntry, WritingIndex, AtEvent, RingingOffer, AtAvailIndex, Arming, AtEntry, AtLow, AtHigh, AtLength, AtFlags, AtWord, GivingId, GivingLength, GivingIndex, RingingPoll, clear_place, tick_place, fill_place, ids_place, items_place, words_place, first_place, access_at, next_place, step_at, is_open}
 use Rattle.ends_pair.specs.Fields.{AvailEvent}
@@ -85,7 +85,7 @@ fill_armed event end job at (suc more) a = a
 
 ids_armed : (who : Who) (event : ℕ) (end : End) (job : Job) (freed count : ℕ) → Asked event end → ArmedIs event end (ids_place who job freed count)
 ids_armed who event end job freed zero a =
-    either (ArmedIs event end) (job.number == freed + limit_of who.sizes) Closed (fill_place job 0 (words_for (length job.frame))) a (fill_armed event end job 0 (words_for (length job.frame)) a)
+    either (ArmedIs event end) (finds_room who job freed) (fill_place job 0 (words_for (length job.frame))) Closed (fill_armed event end job 0 (words_for (length job.frame)) a) a
 ids_armed who event end job freed (suc more) a = a
 
 items_armed : (event : ℕ) (end : End) (number count : ℕ) → end.found_none ≡ false → ArmedIs event end (items_place number count)
@@ -97,7 +97,7 @@ words_armed event end number more entry address bytes read zero found = found
 words_armed event end number more entry address bytes read (suc words) found = found
 
 full_asked : (who : Who) (event : ℕ) (end : End) (job : Job) (freed : ℕ) → Asked event end → Asked event (noted_all end (full_marks who job freed))
-full_asked who event end job freed a = by_marks event end (job.number == freed + limit_of who.sizes) (Full ∷ []) [] a a
+full_asked who event end job freed a = by_marks event end (finds_room who job freed) [] (Full ∷ []) a a
 
 -- A call begins
 

@@ -20,7 +20,7 @@ use Rattle.call_grammar.specs.Ends.{End}
 use Rattle.call_grammar.specs.Words.{words_for, address_of, frame_in}
 use Rattle.call_grammar.specs.Ticks.{tick_marks}
 use Rattle.call_grammar.specs.Calls.{Who}
-use Rattle.call_grammar.specs.Offers.{Job, descriptor_of, entry_of, refusal, returned_by, reclaim_marks, full_marks, asks_for}
+use Rattle.call_grammar.specs.Offers.{Job, finds_room, descriptor_of, entry_of, refusal, returned_by, reclaim_marks, full_marks, asks_for}
 use Rattle.call_grammar.specs.Polls.{Item, is_entry, is_address, is_length, published_by, look_marks}
 use Rattle.call_grammar.specs.Places.{Place, Closed, AtState, Clearing, Setting, Refusing, Downed, AtUsedIndex, AtUsedId, Filling, WritingLow, WritingHigh, WritingLength, WritingFlags, WritingEntry, WritingIndex, AtEvent, RingingOffer, AtAvailIndex, Arming, AtEntry, AtLow, AtHigh, AtLength, AtFlags, AtWord, GivingId, GivingLength, GivingIndex, RingingPoll, access_at, marks_at}
 use Rattle.link_machine.specs.LinkMachine.{Side, Gave, Marked}
@@ -139,7 +139,7 @@ tick_rest world older p value (Set state) = (tt, tt)
 tick_rest world older p value (ClearThenSet state) = (tt, tt)
 
 full_rest : (world : World) (older : List Line) (p : ℕ) (who : Who) (job : Job) (freed : ℕ) → MarksRest world older p (full_marks who job freed)
-full_rest world older p who job freed = by_test world older p (job.number == freed + limit_of who.sizes) (Full ∷ []) [] (λ _. (tt, tt)) (λ _. tt)
+full_rest world older p who job freed = by_test world older p (finds_room who job freed) [] (Full ∷ []) (λ _. tt) (λ _. (tt, tt))
 
 -- the numbers of the lists
 pub accepted_number : (end : End) (place : Place) (side : Side) (now : List (List ℕ)) → SideIs end place side → now ≡ side.accepted → length end.accepted ≡ length now

@@ -16,7 +16,7 @@ use Rattle.call_grammar.specs.Ticks.{tick_marks}
 use Rattle.call_grammar.specs.Ends.{End}
 use Rattle.call_grammar.specs.Words.{words_for, address_of, frame_in}
 use Rattle.call_grammar.specs.Calls.{Who, Call, Tick, Stop, Offer, Poll, in_run, job_of}
-use Rattle.call_grammar.specs.Offers.{Job, descriptor_of, entry_of, refusal, full_marks, returned_by, reclaim_marks, asks_for}
+use Rattle.call_grammar.specs.Offers.{Job, finds_room, descriptor_of, entry_of, refusal, full_marks, returned_by, reclaim_marks, asks_for}
 use Rattle.call_grammar.specs.Polls.{Item, item_entry, item_address, is_entry, is_address, is_length, is_last, published_by, look_marks}
 use Rattle.call_grammar.specs.Places.{Place, Closed, AtState, Clearing, Setting, Refusing, Downed, AtUsedIndex, AtUsedId, Filling, WritingLow, WritingHigh, WritingLength, WritingFlags, WritingEntry, WritingIndex, AtEvent, RingingOffer, AtAvailIndex, Arming, AtEntry, AtLow, AtHigh, AtLength, AtFlags, AtWord, GivingId, GivingLength, GivingIndex, RingingPoll, clear_place, tick_place, fill_place, ids_place, none_place, items_place, words_place, first_place, access_at, marks_at, next_place}
 use Rattle.call_grammar.proofs.OfferLists.{no}
@@ -75,7 +75,7 @@ fill_reads who reads job at zero = tt
 fill_reads who reads job at (suc more) = tt
 
 ids_reads : (who : Who) (job : Job) (freed count : ℕ) → ReadsAre who (ids_place who job freed count) []
-ids_reads who job freed zero = either (λ x. ReadsAre who x []) (job.number == freed + limit_of who.sizes) Closed (fill_place job 0 (words_for (length job.frame))) refl (fill_reads who [] job 0 (words_for (length job.frame)))
+ids_reads who job freed zero = either (λ x. ReadsAre who x []) (finds_room who job freed) (fill_place job 0 (words_for (length job.frame))) Closed (fill_reads who [] job 0 (words_for (length job.frame))) refl
 ids_reads who job freed (suc more) = tt
 
 clear_reads : (who : Who) (at count state : ℕ) → ReadsAre who (clear_place at count state) []
@@ -163,13 +163,13 @@ words_reads : (who : Who) (number more entry address bytes : ℕ) (words : List 
 words_reads who number more entry address bytes words zero reads some is = absurd (omega arith)
 words_reads who number more entry address bytes words (suc left) reads some is = is left
 
--- the marks of an id that passed: full where the limit is in flight, or none
+-- the marks of an id that passed: full where the frame has no room, or none
 ids_marked : (who : Who) (job : Job) (freed more : ℕ) (taken : List Got) → ReadsAre who (ids_place who job freed more) (reads_marked (if more == 0 then full_marks who job freed else []) taken)
-ids_marked who job freed zero taken = by_bool (job.number == freed + limit_of who.sizes)
+ids_marked who job freed zero taken = by_bool (finds_room who job freed)
   where
-    by_bool : (b : Bool) → ReadsAre who (if b then Closed else fill_place job 0 (words_for (length job.frame))) (reads_marked (if b then Full ∷ [] else []) taken)
-    by_bool true = refl
-    by_bool false = fill_reads who taken job 0 (words_for (length job.frame))
+    by_bool : (b : Bool) → ReadsAre who (if b then fill_place job 0 (words_for (length job.frame)) else Closed) (reads_marked (if b then [] else Full ∷ []) taken)
+    by_bool true = fill_reads who taken job 0 (words_for (length job.frame))
+    by_bool false = refl
 ids_marked who job freed (suc more) taken = tt
 
 some_words : (bytes : ℕ) → 14 ≤ bytes → 0 < words_for bytes

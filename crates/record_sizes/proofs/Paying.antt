@@ -12,7 +12,7 @@ use Rattle.split_ring.specs.Spelling.{low_half}
 use Rattle.call_grammar.specs.Steps.{Mark, Full, Look, Deliver, Done}
 use Rattle.call_grammar.specs.Words.{address_of, words_for, word_bytes, frame_in}
 use Rattle.call_grammar.specs.Ticks.{Who, tick_marks}
-use Rattle.call_grammar.specs.Offers.{Job, descriptor_of, full_marks, id_marks, returned_by, reclaim_marks, used_marks, asks_for, event_marks}
+use Rattle.call_grammar.specs.Offers.{Job, finds_room, descriptor_of, full_marks, id_marks, returned_by, reclaim_marks, used_marks, asks_for, event_marks}
 use Rattle.call_grammar.specs.Polls.{is_entry, is_address, is_length, entry_in, entry_marks, address_marks, length_marks, flags_marks, published_by, look_marks, available_marks}
 use Rattle.call_grammar.specs.Places.{Place, Closed, AtState, Clearing, Setting, Refusing, Downed, AtUsedIndex, AtUsedId, Filling, WritingLow, WritingHigh, WritingLength, WritingFlags, WritingEntry, WritingIndex, AtEvent, RingingOffer, AtAvailIndex, Arming, AtEntry, AtLow, AtHigh, AtLength, AtFlags, AtWord, GivingId, GivingLength, GivingIndex, RingingPoll, clear_place, tick_place, fill_place, ids_place, tell_place, none_place, items_place, words_place, access_at, marks_at, next_place}
 use Rattle.call_grammar.proofs.OfferLists.{no}
@@ -64,7 +64,7 @@ tick_price peer value (move.Set state) = omega arith
 tick_price peer value (move.ClearThenSet state) = omega arith
 
 full_price : (peer : ℕ) (who : Who) (job : Job) (freed : ℕ) → marks_price peer (full_marks who job freed) ≤ 16
-full_price peer who job freed = either (marks_price peer) (job.number == freed + limit_of who.sizes) (Full ∷ []) [] 16 (omega arith) (omega arith)
+full_price peer who job freed = either (marks_price peer) (finds_room who job freed) [] (Full ∷ []) 16 (omega arith) (omega arith)
 
 reclaim_price : (peer : ℕ) (who : Who) (job : Job) (freed count : ℕ) → marks_price peer (reclaim_marks who job freed count) ≤ 46
 reclaim_price peer who job freed count = let full = full_price peer who job freed in either (marks_price peer) (count == 0) _ _ 46 (omega arith) (omega arith)
@@ -125,7 +125,7 @@ fill_credit job at (suc more) = omega arith
 
 ids_credit : (who : Who) (job : Job) (freed count : ℕ) → credit (ids_place who job freed count) ≤ 0
 ids_credit who job freed zero =
-    either credit (job.number == freed + limit_of who.sizes) Closed (fill_place job 0 (words_for (length job.frame))) 0 (omega arith) (start_credit job (words_for (length job.frame)) refl)
+    either credit (finds_room who job freed) (fill_place job 0 (words_for (length job.frame))) Closed 0 (start_credit job (words_for (length job.frame)) refl) (omega arith)
 ids_credit who job freed (suc more) = omega arith
 
 tell_credit : (who : Who) (number : ℕ) → credit (tell_place who number) ≤ 0

@@ -231,7 +231,7 @@ adds Version ns frame d can good =
     let at = stands d (row Version ns frame) can in
     let same = the_number Version ns frame (counted (pieces_of Version) ns can.values) can.bytes in
     let g = (rw at at good) in
-    let known = in_range 1 2 [] ns can.values in
+    let known = in_range 1 3 [] ns can.values in
     let itself : max 1 (get_or ns 0 0) ≡ get_or ns 0 0 = omega (arith, known.0) in
     let same_row : row Version (max 1 (get_or ns 0 0) ∷ []) [] ≡ row Version ns frame = ap (λ n. row Version (n ∷ []) []) itself ∙ same in
     record { rows = rw at (ap (λ (r : Row Form). r ∷ []) same_row); good = record { known = (omega (arith, known.0, known.1), omega (arith, known.0, known.1)); honest_none = g.honest_none; acts_none = g.acts_none } }

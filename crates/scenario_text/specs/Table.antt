@@ -23,7 +23,7 @@ page_place = Number 0 4095
 
 -- what stands in the fields of a line of this form
 abbrev pub pieces_of : Form → List Piece
-pieces_of Version = Word (codes "ivshm") ∷ Number 1 2 ∷ []
+pieces_of Version = Word (codes "ivshm") ∷ Number 1 3 ∷ []
 pieces_of Peers = Word (codes "peers") ∷ Number 2 8 ∷ []
 pieces_of Table = Word (codes "table") ∷ u32_number ∷ []
 pieces_of Common = Word (codes "common") ∷ any_number ∷ []

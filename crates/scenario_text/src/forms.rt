@@ -129,7 +129,7 @@ impl Form {
         ensures few { length result.now ≤ 6 }
     {
         match self {
-            Form::Version => &[Slot::Word(b"ivshm"), Slot::Number(1, 2)],
+            Form::Version => &[Slot::Word(b"ivshm"), Slot::Number(1, 3)],
             Form::Peers => &[Slot::Word(b"peers"), Slot::Number(2, 8)],
             Form::Table => &[Slot::Word(b"table"), U32],
             Form::Common => &[Slot::Word(b"common"), ANY],

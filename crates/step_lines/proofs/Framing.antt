@@ -48,9 +48,9 @@ ticks P f value Stay = f.saw_over value
 ticks P f value (Set state) = f.saw value
 ticks P f value (ClearThenSet state) = f.saw value
 
-after_reclaim : (P : List Mark → Type 0) → Frameless P → (b : Bool) → P (Reclaim 0 ∷ (if b then Full ∷ [] else []))
-after_reclaim P f true = f.reclaim_full
-after_reclaim P f false = f.reclaim 0
+after_reclaim : (P : List Mark → Type 0) → Frameless P → (b : Bool) → P (Reclaim 0 ∷ (if b then [] else Full ∷ []))
+after_reclaim P f true = f.reclaim 0
+after_reclaim P f false = f.reclaim_full
 
 -- the marks of a step hold it where those with a frame do
 marks_hold : (P : List Mark → Type 0) → Frameless P → (who : Who) (place : Place) (value : ℕ) → ((job : Job) → place ≡ WritingIndex job → P (Accept job.frame ∷ [])) →
@@ -62,7 +62,7 @@ marks_hold P f who (Setting state) value accepts delivers = f.over
 marks_hold P f who Refusing value accepts delivers = f.over
 marks_hold P f who Downed value accepts delivers = f.down
 marks_hold P f who (AtUsedIndex job freed) value accepts delivers = either P (nat_le (returned_by freed value) _) _ _ (either P (returned_by freed value == 0) _ _ (after_reclaim P f _) (f.reclaim (returned_by freed value))) (f.refused _)
-marks_hold P f who (AtUsedId job freed more) value accepts delivers = either P (value == descriptor_of who freed) _ _ (either P (more == 0) _ _ (either P _ _ _ f.full f.none) f.none) (f.refused _)
+marks_hold P f who (AtUsedId job freed more) value accepts delivers = either P (value == descriptor_of who freed) _ _ (either P (more == 0) _ _ (either P _ _ _ f.none f.full) f.none) (f.refused _)
 marks_hold P f who (Filling job at more) value accepts delivers = f.none
 marks_hold P f who (WritingLow job) value accepts delivers = f.none
 marks_hold P f who (WritingHigh job) value accepts delivers = f.none
@@ -172,7 +172,7 @@ fills job at zero least = least
 fills job at (suc more) least = least
 
 ids : (who : Who) (job : Job) (freed count : ℕ) → 14 ≤ length job.frame → HasFrames (ids_place who job freed count)
-ids who job freed zero least = on _ Closed (fill_place job 0 (words_for (length job.frame))) tt (fills job 0 (words_for (length job.frame)) least)
+ids who job freed zero least = on _ (fill_place job 0 (words_for (length job.frame))) Closed (fills job 0 (words_for (length job.frame)) least) tt
 ids who job freed (suc more) least = least
 
 takes : (number count : ℕ) → HasFrames (items_place number count)

@@ -1,24 +1,22 @@
 -- What `run` promises: the running record of peers in threads of their own, by the accesses that the pass of their words holds.
-use Rattle.std.specs.Prelude.{ℕ, ◌≡◌, false, List, Option, Some, None}
+use Rattle.std.specs.Prelude.{ℕ, ◌≡◌, List, Option, Some, None}
 use Rattle.ivs_base.specs.Ends.{Input, Output, Gave, HasEnded, Took}
 use Rattle.scenario_text.specs.Scenario.{World}
 use Rattle.scenario_text.specs.Spelling.{IsSpelling}
 use Rattle.scenario_text.specs.Running.{not_running}
 use Rattle.record_text.specs.Parts.{Part}
 use Rattle.record_text.specs.RunSpelling.{IsRunSpelling}
-use Rattle.peer_runner.specs.Keys.{is_unbuilt}
 use Rattle.peer_runner.specs.Passes.{IsWhole}
 use Rattle.peer_runner.specs.RunningRecord.{IsRunOf}
 use Rattle.ivshm_cli.specs.declared.runs.Ran.{Ran}
 
--- the bytes spell a scenario in running form whose peers can be run
+-- the bytes spell a scenario in running form
 pub record SpellsRunning (bytes : List ℕ) : Type 0 where
   pub world : World
   pub spelled : IsSpelling world bytes
   pub running : not_running world ≡ None
-  pub built : is_unbuilt world.queue ≡ false
 
--- The bytes spell a scenario in running form whose peers can be run, the words were made for it, the pass is of these words and has all peers,
+-- The bytes spell a scenario in running form, the words were made for it, the pass is of these words and has all peers,
 -- and the text is the running record in which each peer's part is told by the list that the pass has of it
 pub record IsRunBy (ran : Ran) (bytes text : List ℕ) : Type 0 where
   pub spells : SpellsRunning bytes

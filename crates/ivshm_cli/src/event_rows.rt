@@ -7,7 +7,8 @@ use std::process::Abort;
 use std::test::Fail;
 use std::thread::Threads;
 
-const WITH_EVENTS: &str =
+/// The head of a scenario of two honest peers whose link has events.
+pub(crate) const WITH_EVENTS: &str =
     "ivshm 2\npeers 2\ntable 4096\ncommon 0\nout 16384\nmtu 256\nirq msix 2\npeer 0 honest\npeer 1 honest\nbegin\n";
 
 /// After the handshake: an event that isn't asked for, an offer between the two looks of a poll, and a poll that is armed already.

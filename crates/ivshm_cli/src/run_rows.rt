@@ -1,5 +1,7 @@
 //! Running peers through the top call, under gates that hold them beside one another, judged by the record that is written.
 use super::{Ran, Status, ivshm};
+use crate::byte_rows::IN_BYTES;
+use crate::event_rows::WITH_EVENTS;
 use crate::gates::{Counter, Meeting, Near, NearAssembly};
 use crate::rows::{HONEST, HOSTILE};
 use crate::tests::owned;
@@ -64,10 +66,16 @@ fn run<R: Threads + Sync, G: Gate + Sync>(
     Ok(Told { status, text, ran })
 }
 
-/// Two honest peers that choose their calls: each offers so many frames, expects as many as the other has, and takes so many turns at most.
-fn automatic(alloc: Global, frames: [u32; 2], turns: u32) -> Result<String, AllocError> {
+/// Two honest peers that choose their calls, after this head and these acts: each offers so many frames, expects as many as the other has, and takes so
+/// many turns at most.
+fn automatic(
+    alloc: Global,
+    head: &str,
+    frames: [u32; 2],
+    turns: u32,
+) -> Result<String, AllocError> {
     let [first, second] = frames;
-    let mut text = format!(in alloc; "{HONEST}auto 0 {second}\nauto 1 {first}\n")?;
+    let mut text = format!(in alloc; "{head}auto 0 {second}\nauto 1 {first}\n")?;
     for _ in 0..first {
         write!(text, "offer 0 {FRAME}\n")?;
     }
@@ -95,8 +103,15 @@ fn check_delivered<R: Abort>(rt: &R, told: &Told, frames: [u32; 2]) {
 #[test]
 fn near_peers_exchange_frames(rt: HostRuntime) -> Result<(), Fail> {
     let alloc = rt.alloc();
-    for frames in [[1000, 1000], [40, 0]] {
-        let scenario = automatic(alloc, frames, 1_500_000)?;
+    for (head, frames) in [
+        (HONEST, [1000, 1000]),
+        (HONEST, [40, 0]),
+        (WITH_EVENTS, [1000, 1000]),
+        (WITH_EVENTS, [40, 0]),
+        (IN_BYTES, [1000, 1000]),
+        (IN_BYTES, [40, 0]),
+    ] {
+        let scenario = automatic(alloc, head, frames, 1_500_000)?;
         let gate = Near::new(64);
         let told = run(&rt, alloc, scenario.as_str(), &gate)?;
         assert!(rt; !gate.is_spent());
@@ -108,18 +123,20 @@ fn near_peers_exchange_frames(rt: HostRuntime) -> Result<(), Fail> {
 #[test]
 fn peers_run_beside_one_another(rt: HostRuntime) -> Result<(), Fail> {
     let alloc = rt.alloc();
-    let scenario = automatic(alloc, [1000, 1000], 1_500_000)?;
-    let gate = Meeting::new();
-    let told = run(&rt, alloc, scenario.as_str(), &gate)?;
-    assert!(rt; gate.was_passed());
-    check_delivered(&rt, &told, [1000, 1000]);
+    for head in [HONEST, WITH_EVENTS, IN_BYTES] {
+        let scenario = automatic(alloc, head, [1000, 1000], 1_500_000)?;
+        let gate = Meeting::new();
+        let told = run(&rt, alloc, scenario.as_str(), &gate)?;
+        assert!(rt; gate.was_passed());
+        check_delivered(&rt, &told, [1000, 1000]);
+    }
     Ok(())
 }
 
 #[test]
 fn lockstep_through_a_session(rt: HostRuntime) -> Result<(), Fail> {
     let alloc = rt.alloc();
-    let scenario = automatic(alloc, [5, 5], 100_000)?;
+    let scenario = automatic(alloc, HONEST, [5, 5], 100_000)?;
     let gate = Near::new(0);
     let told = run(&rt, alloc, scenario.as_str(), &gate)?;
     assert!(rt; !gate.is_spent());
@@ -130,7 +147,7 @@ fn lockstep_through_a_session(rt: HostRuntime) -> Result<(), Fail> {
 #[test]
 fn a_gate_is_called_before_each_turn(rt: HostRuntime) -> Result<(), Fail> {
     let alloc = rt.alloc();
-    let scenario = automatic(alloc, [3, 0], 100_000)?;
+    let scenario = automatic(alloc, HONEST, [3, 0], 100_000)?;
     let gate = Counter::new();
     let told = run(&rt, alloc, scenario.as_str(), &gate)?;
     assert!(rt; !gate.near.is_spent());
@@ -177,8 +194,6 @@ fn scenarios_that_are_not_run(rt: HostRuntime) -> Result<(), Fail> {
     let alloc = rt.alloc();
     let three =
         "ivshm 1\npeers 3\ntable 4096\ncommon 0\nout 16384\nmtu 256\nirq msix 2\npeer 0 honest\npeer 1 honest\npeer 2 hostile\nbegin\n";
-    let events =
-        "ivshm 2\npeers 2\ntable 4096\ncommon 0\nout 16384\nmtu 256\nirq msix 2\npeer 0 honest\npeer 1 honest\nbegin\n";
     let cases = [
         (HONEST, "tick 0\nturn 0 2\nend\n", "refused 11 NotRunning\n"),
         (
@@ -194,9 +209,8 @@ fn scenarios_that_are_not_run(rt: HostRuntime) -> Result<(), Fail> {
             "auto 0 0\nmmio 1 r 8\nturn 0 1\nend\n",
             "refused 13 NotRunning\n",
         ),
-        (events, "auto 0 0\nturn 0 1\nend\n", "refused 0 Unbuilt\n"),
-        (events, "tick 0\nend\n", "refused 11 NotRunning\n"),
-        (events, "auto 0 0\nturn 0 1\n", "refused 0 NoEnd\n"),
+        (WITH_EVENTS, "tick 0\nend\n", "refused 11 NotRunning\n"),
+        (WITH_EVENTS, "auto 0 0\nturn 0 1\n", "refused 0 NoEnd\n"),
     ];
     for (head, acts, line) in cases {
         let scenario = format!(in alloc; "{head}{acts}")?;

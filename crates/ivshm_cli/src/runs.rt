@@ -1,10 +1,9 @@
 //! Peers in threads of their own, and their running record.
 
-ghost use Rattle.std.specs.Prelude.{◌≡◌, ℕ, false, Option, Some, None, Ok, IfOk, OnOk, IsErrOf};
+ghost use Rattle.std.specs.Prelude.{◌≡◌, ℕ, Option, Some, None, Ok, IfOk, OnOk, IsErrOf};
 ghost use Rattle.scenario_text.specs.Scenario.{World};
 ghost use Rattle.scenario_text.specs.Spelling.{IsSpelling, world_of};
 ghost use Rattle.scenario_text.specs.Running.{not_running as first_break};
-ghost use Rattle.peer_runner.specs.Keys.{is_unbuilt as has_events};
 ghost use Rattle.ivshm_cli.specs.Forms.{IsTextVerdict};
 ghost use Rattle.ivshm_cli.specs.Running.{IsRunBy};
 ghost use Rattle.ivshm_cli.specs.declared.words.Form.{Form};
@@ -12,7 +11,7 @@ ghost use Rattle.ivshm_cli.specs.declared.refusals.Fault.{Fault};
 
 use crate::refusals::Fault;
 use crate::replies::{NoReply, scenario_in};
-use peer_runner::{Gate, Pass, Words, is_unbuilt, run_peers, words_for};
+use peer_runner::{Gate, Pass, Words, run_peers, words_for};
 use record_text::print_run;
 use scenario_text::{Scenario, not_running};
 use std::alloc::Global;
@@ -35,20 +34,16 @@ pub(crate) struct RunReply {
     pub(crate) ran: Ran,
 }
 
-/// The scenario that the bytes spell, in running form, whose peers can be run.
+/// The scenario that the bytes spell, in running form.
 fn running_in(alloc: Global, bytes: &[u8]) -> Result<Scenario, NoReply>
     ensures spelled { IfOk result (λ scenario. IsSpelling (world_of scenario) bytes.now) }
     ensures running { IfOk result (λ scenario. first_break (world_of scenario) ≡ None) }
-    ensures built { IfOk result (λ scenario. has_events scenario.queue ≡ false) }
     ensures accepted { OnOk result (IsTextVerdict Form.Run bytes.now None) }
     ensures refused { (fault : Fault) → IsErrOf result (NoReply.Refused fault) → IsTextVerdict Form.Run bytes.now (Some fault) }
 {
     let scenario = scenario_in(alloc, bytes)?;
     if let Some(line) = not_running(&scenario) {
         return Err(NoReply::Refused(Fault::NotRunning(line)));
-    }
-    if is_unbuilt(&scenario) {
-        return Err(NoReply::Refused(Fault::Unbuilt));
     }
     Ok(scenario)
 }

@@ -3,7 +3,7 @@ use Rattle.std.proofs.Common.{◌≡◌, ℕ, zero, suc, ◌+◌, ◌-◌, ◌<�
 use Rattle.std.specs.Prelude.{◌==◌, nat_le, if◌then◌else◌, Option, Some, None}
 use Rattle.split_ring.specs.declared.ranges.FieldName.{FieldName}
 use Rattle.split_ring.specs.declared.ranges.FieldName.TheVariants as field_name
-use Rattle.split_ring.specs.Layout.{has_events, size_of, limit_of}
+use Rattle.split_ring.specs.Layout.{has_events, size_of}
 use Rattle.split_ring.specs.Spelling.{low_half, high_half}
 use Rattle.link_handshake.specs.declared.Phase.TheVariants.{Reset}
 use Rattle.link_handshake.specs.declared.Move.{Move}
@@ -13,12 +13,12 @@ use Rattle.call_grammar.specs.Steps.{Mark, Reclaim, Full}
 use Rattle.call_grammar.specs.Words.{words_for, address_of}
 use Rattle.call_grammar.specs.Ends.{End, end_after}
 use Rattle.call_grammar.specs.Calls.{Who, Call, Tick, Stop, Offer, Poll, in_run, job_of}
-use Rattle.call_grammar.specs.Offers.{Job, descriptor_of, asks_for, returned_by, refusal, full_marks, reclaim_marks}
+use Rattle.call_grammar.specs.Offers.{Job, finds_room, descriptor_of, asks_for, returned_by, refusal, full_marks, reclaim_marks}
 use Rattle.call_grammar.specs.Polls.{is_entry, is_address, is_length, entry_in, published_by, is_last}
 use Rattle.call_grammar.specs.Places.{Place, step_at, Closed, AtState, Clearing, Refusing, Downed, AtUsedIndex, AtUsedId, Filling, WritingLow, WritingHigh, WritingLength, WritingFlags, WritingEntry, WritingIndex, AtEvent, RingingOffer, AtAvailIndex, Arming, AtEntry, AtLow, AtHigh, AtLength, AtFlags, AtWord, GivingIndex, clear_place, tick_place, fill_place, ids_place, tell_place, none_place, items_place, words_place, first_place, marks_at, next_place}
 use Rattle.ends_pair.specs.Fields.{Field}
 use Rattle.ends_pair.specs.Ground.{Ground, IsGround, section_of, who_of, fields}
-use Rattle.ends_pair.specs.Alone.{frame_at, Spelled, Opened, Alone}
+use Rattle.ends_pair.specs.Alone.{frame_at, start_in, Spelled, Opened, Alone}
 use Rattle.ends_pair.specs.Pair.{freed_at}
 use Rattle.ends_pair.proofs.Fields.{fields_same}
 use Rattle.ends_pair.proofs.Forms.{opened}
@@ -88,7 +88,7 @@ fill_on place job at (suc more) is j e = is ∙ e
 
 ids_on : (place : Place) (who : Who) (job : Job) (freed count : ℕ) → offered_at place ≡ Some job → GoesOn place (ids_place who job freed count)
 unfolding settled_place
-ids_on place who job freed zero is = test_on place (job.number == freed + limit_of who.sizes) Closed (fill_place job 0 (words_for (length job.frame))) (on_none place Closed refl) (fill_on place job 0 (words_for (length job.frame)) is)
+ids_on place who job freed zero is = test_on place (finds_room who job freed) (fill_place job 0 (words_for (length job.frame))) Closed (fill_on place job 0 (words_for (length job.frame)) is) (on_none place Closed refl)
 ids_on place who job freed (suc more) is = λ j e. is ∙ e
 
 pub goes_on : (who : Who) (place : Place) (value : ℕ) → GoesOn place (next_place who place value)
@@ -147,7 +147,7 @@ fill_freed x job at (suc more) = refl
 
 ids_freed : (x : ℕ) (who : Who) (job : Job) (freed count : ℕ) → FreedOn x freed (ids_place who job freed count)
 unfolding settled_place
-ids_freed x who job freed zero = test_freed x freed (job.number == freed + limit_of who.sizes) Closed (fill_place job 0 (words_for (length job.frame))) (inl refl) (inl (fill_freed x job 0 (words_for (length job.frame))))
+ids_freed x who job freed zero = test_freed x freed (finds_room who job freed) (fill_place job 0 (words_for (length job.frame))) Closed (inl (fill_freed x job 0 (words_for (length job.frame)))) (inl refl)
 ids_freed x who job freed (suc more) = inr refl
 
 freed_on : (who : Who) (place : Place) (value x : ℕ) → (freed_at x (settled_place (next_place who place value)) ≡ x) ⊎ Counts place (freed_at x (settled_place (next_place who place value)))
@@ -187,7 +187,7 @@ refusal_accepts field value = refl
 
 full_accepts : (who : Who) (job : Job) (freed : ℕ) → AcceptsNone (full_marks who job freed)
 unfolding accepted_by
-full_accepts who job freed = test_accepts (job.number == freed + limit_of who.sizes) (Full ∷ []) [] refl refl
+full_accepts who job freed = test_accepts (finds_room who job freed) [] (Full ∷ []) refl refl
 
 reclaim_accepts : (who : Who) (job : Job) (freed count : ℕ) → AcceptsNone (reclaim_marks who job freed count)
 unfolding accepted_by
@@ -212,10 +212,10 @@ reads_keep who end place value n c = absurd c
 -- Frames in flight
 
 abbrev pub SpelledFrom : Ground → (ℕ → ℕ) → ℕ → List (List ℕ) → ℕ → Type 0
-SpelledFrom ground memory p accepted from = (k : ℕ) → from ≤ k → k < length accepted → Spelled ground (fields ground memory p) k (frame_at accepted k)
+SpelledFrom ground memory p accepted from = (k : ℕ) → from ≤ k → k < length accepted → Spelled ground (fields ground memory p) k (start_in ground accepted k) (frame_at accepted k)
 
 pub spelled_same : (ground : Ground) (memory after : ℕ → ℕ) (p from : ℕ) (accepted : List (List ℕ)) → IsGround ground → ((j : ℕ) → j < ground.words → after (section_of ground p + j) ≡ memory (section_of ground p + j)) → SpelledFrom ground memory p accepted from → SpelledFrom ground after p accepted from
-spelled_same ground memory after p from accepted is same s k low high = subst (λ (f : Field → ℕ). Spelled ground f k (frame_at accepted k)) (λ i field. sym (fields_same ground memory after p is same field) i) (s k low high)
+spelled_same ground memory after p from accepted is same s k low high = subst (λ (f : Field → ℕ). Spelled ground f k (start_in ground accepted k) (frame_at accepted k)) (λ i field. sym (fields_same ground memory after p is same field) i) (s k low high)
 
 -- those from the ids read on
 counted_from : (ground : Ground) (memory : ℕ → ℕ) (p : ℕ) (end : End) (place : Place) (n : ℕ) → Counts place n → Alone ground memory p end place → SpelledFrom ground memory p end.accepted (freed_at end.freed place) → SpelledFrom ground memory p end.accepted n

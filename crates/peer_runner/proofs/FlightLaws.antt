@@ -1,7 +1,7 @@
 -- The frames in flight of an honest peer, as its section spells them.
 use Rattle.std.proofs.Common.{◌≡◌, ℕ, ◌+◌, ◌%◌, ◌<◌, ◌≤◌, inl, inr, true, List, length, refl, sym, ◌∙◌, subst, arith}
 use Rattle.std.proofs.lemmas.Nat.{mod_below}
-use Rattle.split_ring.specs.Layout.{size_of, limit_of, place_of, word_place, Address, Slot}
+use Rattle.split_ring.specs.Layout.{size_of, limit_of, word_place, Address}
 use Rattle.split_ring.specs.Spelling.{address_at, Spells}
 use Rattle.link_handshake.specs.declared.Phase.{Phase}
 use Rattle.call_grammar.specs.Ends.{End}
@@ -9,7 +9,7 @@ use Rattle.call_grammar.specs.Offers.{Job}
 use Rattle.call_grammar.specs.Places.{Place, AtUsedIndex, AtUsedId}
 use Rattle.ends_pair.specs.Fields.{AddressLow, AddressHigh}
 use Rattle.ends_pair.specs.Ground.{Ground, IsGround, section_of, fields}
-use Rattle.ends_pair.specs.Alone.{frame_at, Spelled, Opened, Alone}
+use Rattle.ends_pair.specs.Alone.{frame_at, start_in, Spelled, Opened, Alone}
 use Rattle.ends_pair.specs.Pair.{freed_at}
 use Rattle.ends_pair.specs.Whole.{SectionSpells}
 use Rattle.ends_pair.proofs.Fields.{numbers, one_test, field_read}
@@ -47,10 +47,10 @@ section_spells : (ground : Ground) (memory : ℕ → ℕ) (p : ℕ) (end : End) 
 section_spells ground memory p end (AtUsedId job freed more) k is o a s low high = spelled_lem.in_flight ground memory p (record end { freed = freed }) (AtUsedIndex job freed) k is (as_counted ground memory p end job freed more a s) o low high
 section_spells ground memory p end place k is o a s low high = spelled_lem.in_flight ground memory p end place k is a o low high
 
-address_is : (ground : Ground) (memory : ℕ → ℕ) (p k : ℕ) (frame : List ℕ) → IsGround ground → Spelled ground (fields ground memory p) k frame → address_at ground.sizes (λ w. memory (section_of ground p + w)) (k % limit_of ground.sizes) ≡ place_of ground.sizes (Slot (k % limit_of ground.sizes))
-address_is ground memory p k frame is s = let d = k % limit_of ground.sizes in let b = numbers ground is in let low : d < limit_of ground.sizes = mod_below k (limit_of ground.sizes) b.limit_least in let few = b.limit_most in
+address_is : (ground : Ground) (memory : ℕ → ℕ) (p k start : ℕ) (frame : List ℕ) → IsGround ground → Spelled ground (fields ground memory p) k start frame → address_at ground.sizes (λ w. memory (section_of ground p + w)) (k % limit_of ground.sizes) ≡ start
+address_is ground memory p k start frame is s = let d = k % limit_of ground.sizes in let b = numbers ground is in let low : d < limit_of ground.sizes = mod_below k (limit_of ground.sizes) b.limit_least in let few = b.limit_most in
     let size : d < size_of ground.sizes = omega arith in let words : ℕ → ℕ = λ w. memory (section_of ground p + w) in
-    let low_is : words (word_place ground.sizes (Address d)) ≡ place_of ground.sizes (Slot d) = field_read ground memory p (AddressLow d) (words (word_place ground.sizes (Address d))) (one_test d (size_of ground.sizes) size) refl ∙ s.low in
+    let low_is : words (word_place ground.sizes (Address d)) ≡ start = field_read ground memory p (AddressLow d) (words (word_place ground.sizes (Address d))) (one_test d (size_of ground.sizes) size) refl ∙ s.low in
     let high_is : words (word_place ground.sizes (Address d) + 1) ≡ 0 = field_read ground memory p (AddressHigh d) (words (word_place ground.sizes (Address d) + 1)) (one_test d (size_of ground.sizes) size) refl ∙ s.high in omega arith
 
 open_session : (phase : Phase) → InSession phase → Opened phase
@@ -66,6 +66,6 @@ module _ (key : Key) (fit : IsFit key) (p : ℕ) (hp : honest_of key p ≡ true)
         most = room_at ground memory p end place a;
         spelled = λ k in' low high. let o = open_session end.handshake.phase in' in
             subst (λ x. Spells key.queue (λ w. memory (x + w)) k (k % limit_of key.queue) (frame_at end.accepted k)) (sym start) (section_spells ground memory p end place k is o a (from o) low high);
-        own_slot = λ k in' low high. let o = open_session end.handshake.phase in' in
-            subst (λ x. address_at key.queue (λ w. memory (x + w)) (k % limit_of key.queue) ≡ place_of key.queue (Slot (k % limit_of key.queue))) (sym start) (address_is ground memory p k (frame_at end.accepted k) is (from o k low high));
+        own_place = λ k in' low high. let o = open_session end.handshake.phase in' in
+            subst (λ x. address_at key.queue (λ w. memory (x + w)) (k % limit_of key.queue) ≡ start_in ground end.accepted k) (sym start) (address_is ground memory p k (start_in ground end.accepted k) (frame_at end.accepted k) is (from o k low high));
       }

@@ -85,8 +85,8 @@ unfolding how_many
 marks_silent p [] = (refl, λ v. refl)
 marks_silent p (m ∷ marks) = let rest = marks_silent p marks in let here = mark_silent p m in (λ i. one_if (here.0 i) + rest.0 i, λ v i. one_if (here.1 v i) + rest.1 v i)
 
-step_silent : (p : ℕ) (a : Access) (value : ℕ) (marks : List Mark) → IsSilent (lines_of p a value marks)
-step_silent p a value marks = silent_if (is_quiet a marks) (access_lines p a value ++ map (mark_line p) marks) (silent_both (access_lines p a value) (map (mark_line p) marks) (access_silent p a value) (marks_silent p marks))
+step_silent : (p : ℕ) (first : Bool) (a : Access) (value : ℕ) (marks : List Mark) → IsSilent (lines_of p first a value marks)
+step_silent p first a value marks = silent_if (is_quiet first a marks) (access_lines p a value ++ map (mark_line p) marks) (silent_both (access_lines p a value) (map (mark_line p) marks) (access_silent p a value) (marks_silent p marks))
 
 -- A look tells the bits that it found
 
@@ -182,7 +182,7 @@ turn_hears p routes (Looks found) = record {
   all = let a : how_many is_interrupt (heard 64 p found) ≡ tally 64 (λ b. bit_at found b) = heard_all 64 p found in
       let b : tally 64 (λ v. weigh {A = Touch} (finds v) (looked found ∷ [])) ≡ tally 64 (λ b. bit_at found b) = tally_same 64 _ _ (λ v lt. seen_look v found) in omega arith;
 }
-turn_hears p routes (Makes step) = silent_hears (told_in p (Makes step)) (acted_in routes (Makes step)) (step_silent p step.access step.value step.marks)
+turn_hears p routes (Makes first step) = silent_hears (told_in p (Makes first step)) (acted_in routes (Makes first step)) (step_silent p first step.access step.value step.marks)
 turn_hears p routes (Clears step found) = silent_hears (told_in p (Clears step found)) (acted_in routes (Clears step found)) (silent_both (access_lines p step.access step.value) (map (mark_line p) (marks_of (Clears step found))) (access_silent p step.access step.value) (marks_silent p (marks_of (Clears step found))))
 turn_hears p routes (Rings step) = silent_hears (told_in p (Rings step)) (acted_in routes (Rings step)) (marks_silent p step.marks)
 
@@ -288,15 +288,15 @@ module _ (routes : List Route) (p target v : ℕ) (intx : Bool) (line_is : (rout
       let most = bell_rings at vector in omega arith
   line_bells access.Nothing value = omega arith
 
-  step_bells : (a : Access) (value : ℕ) (marks : List Mark) → ringing_by a ≤ how_many (is_bell intx target v) (lines_of p a value marks)
+  step_bells : (first : Bool) (a : Access) (value : ℕ) (marks : List Mark) → ringing_by a ≤ how_many (is_bell intx target v) (lines_of p first a value marks)
   unfolding weigh rings
-  step_bells (access.Read word) value marks = omega arith
-  step_bells (access.Write word written) value marks = omega arith
-  step_bells (access.State state) value marks = omega arith
-  step_bells (access.Ring at vector) value marks = let here = line_bells (access.Ring at vector) value in
+  step_bells first (access.Read word) value marks = omega arith
+  step_bells first (access.Write word written) value marks = omega arith
+  step_bells first (access.State state) value marks = omega arith
+  step_bells first (access.Ring at vector) value marks = let here = line_bells (access.Ring at vector) value in
       let both : how_many (is_bell intx target v) (access_lines p (access.Ring at vector) value ++ map (mark_line p) marks) ≡ how_many (is_bell intx target v) (access_lines p (access.Ring at vector) value) + how_many (is_bell intx target v) (map (mark_line p) marks) =
       many_both (is_bell intx target v) (access_lines p (access.Ring at vector) value) (map (mark_line p) marks) in omega arith
-  step_bells access.Nothing value marks = omega arith
+  step_bells first access.Nothing value marks = omega arith
 
   clear_rings : (a : Access) (found : ℕ) → weigh {A = Touch} (rings target v) (cleared_by a found) ≡ 0
   unfolding weigh rings
@@ -311,7 +311,7 @@ module _ (routes : List Route) (p target v : ℕ) (intx : Bool) (line_is : (rout
       weigh (rings target v) (acted_in routes turn) + to_come who storm after ≤ how_many (is_bell intx target v) (told_in p turn) + to_come who storm run
   turn_bells who storm (Looks found) run after took = let none : weigh {A = Touch} (rings target v) (looked found ∷ []) ≡ 0 = weigh_one (rings target v) (looked found) ∙ rings_looked Touch target v found in
       let same : to_come who storm after ≡ to_come who storm run = ap (to_come who storm) took.1 in omega arith
-  turn_bells who storm (Makes step) run after took = let same : to_come who storm after ≡ 0 = ap (to_come who storm) took.2 in let here = step_bells step.access step.value step.marks in let rung = step_rings step.access step.value in omega arith
+  turn_bells who storm (Makes first step) run after took = let same : to_come who storm after ≡ 0 = ap (to_come who storm) took.2 in let here = step_bells first step.access step.value step.marks in let rung = step_rings step.access step.value in omega arith
   turn_bells who storm (Clears step found) run after took = let rung = clear_rings step.access found in let here = line_bells step.access step.value in
       let both : how_many (is_bell intx target v) (access_lines p step.access step.value ++ map (mark_line p) (marks_of (Clears step found))) ≡ how_many (is_bell intx target v) (access_lines p step.access step.value) + how_many (is_bell intx target v) (map (mark_line p) (marks_of (Clears step found))) =
       many_both (is_bell intx target v) (access_lines p step.access step.value) (map (mark_line p) (marks_of (Clears step found))) in
@@ -320,7 +320,7 @@ module _ (routes : List Route) (p target v : ℕ) (intx : Bool) (line_is : (rout
       same : access_by who storm run.peer.driver run.peer ≡ step.access
       same = sym (takes_by who storm run.peer.driver run.peer took.0 step took.1.takes)
 
-      held : (b : Bool) → to_come who storm (if b then record { peer = run.peer; looked = false; ringing = true } else comes_to took.0) ≤ ringing_by step.access
+      held : (b : Bool) → to_come who storm (if b then record { peer = run.peer; looks = 0; ringing = true } else comes_to took.0) ≤ ringing_by step.access
       held true = let e : ringing_by (access_by who storm run.peer.driver run.peer) ≡ ringing_by step.access = ap ringing_by same in omega arith
       held false = omega arith
   turn_bells who storm (Rings step) run after took = let same : to_come who storm after ≡ 0 = ap (to_come who storm) took.2 in let rung = step_rings step.access step.value in

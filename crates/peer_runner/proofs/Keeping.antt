@@ -11,7 +11,7 @@ use Rattle.ends_pair.specs.Ground.{Ground, who_of, IsGivenTo}
 use Rattle.ends_pair.specs.Steps.{IsUntouched, Meets, Leaves}
 use Rattle.peer_runner.specs.declared.key.Key.{Key}
 use Rattle.peer_runner.specs.Keys.{who_in, ground_of, honest_of}
-use Rattle.peer_runner.specs.Standings.{Taken, Stance, begun, moved, settled_place, settled, begun_if, after_access, accepted_by, delivered_by, standing, Begins, IsNext}
+use Rattle.peer_runner.specs.Standings.{Taken, Wake, Stance, begun, moved, settled_place, settled, begun_if, after_access, accepted_by, delivered_by, standing, Begins, IsNext}
 use Rattle.peer_runner.proofs.Reaches.{OnlyComes, Reached}
 use Rattle.peer_runner.proofs.Reaches as reaches
 use Rattle.peer_runner.proofs.Standings.{put, put_here, put_else, standing_snoc, stand_honest, stand_hostile, Grows}
@@ -39,18 +39,18 @@ module _ (ground : Ground) (honest : ℕ → Bool) (st : ℕ → Stance) (p : �
       reaches.steps memory after (put st p s) (put st p next) p value k p2 hp (subst (λ (x : Stance). is_open x.place ≡ true) e goes) (subst (λ (x : Stance). Meets memory (access_at who x.place) value) e meets)
       (subst (λ (x : Stance). Leaves p memory (access_at who x.place) after) e leaves) (subst (λ (x : Stance). OnlyComes (put st p s) (put st p next) p (moved who x value)) e (only s next))
 
-  abbrev at : End → Place → List (List ℕ) → List (List ℕ) → Stance
-  at end place one other = record { end = end; place = place; accepted = one; delivered = other }
+  abbrev at : End → Place → List (List ℕ) → List (List ℕ) → Wake → Stance
+  at end place one other wake = record { end = end; place = place; accepted = one; delivered = other; wake = wake }
 
-  settle_at : (memory : ℕ → ℕ) (end : End) (place : Place) (one other : List (List ℕ)) → R memory (at end place one other) → R memory (at end (settled_place place) one other)
+  settle_at : (memory : ℕ → ℕ) (end : End) (place : Place) (one other : List (List ℕ)) (wake : Wake) → R memory (at end place one other wake) → R memory (at end (settled_place place) one other wake)
   unfolding settled_place accepted_by delivered_by
-  settle_at memory end RingingOffer one other k = subst (λ l. R memory (at end Closed l other)) (append-nil one) (subst (λ l. R memory (at end Closed (one ++ []) l)) (append-nil other) (step_from memory memory (at end RingingOffer one other) 0 refl tt refl k))
-  settle_at memory end RingingPoll one other k = subst (λ l. R memory (at end Closed l other)) (append-nil one) (subst (λ l. R memory (at end Closed (one ++ []) l)) (append-nil other) (step_from memory memory (at end RingingPoll one other) 0 refl tt refl k))
-  settle_at memory end Downed one other k = subst (λ l. R memory (at end Closed l other)) (append-nil one) (subst (λ l. R memory (at end Closed (one ++ []) l)) (append-nil other) (step_from memory memory (at end Downed one other) 0 refl tt refl k))
-  settle_at memory end place one other k = k
+  settle_at memory end RingingOffer one other wake k = subst (λ l. R memory (at end Closed l other wake)) (append-nil one) (subst (λ l. R memory (at end Closed (one ++ []) l wake)) (append-nil other) (step_from memory memory (at end RingingOffer one other wake) 0 refl tt refl k))
+  settle_at memory end RingingPoll one other wake k = subst (λ l. R memory (at end Closed l other wake)) (append-nil one) (subst (λ l. R memory (at end Closed (one ++ []) l wake)) (append-nil other) (step_from memory memory (at end RingingPoll one other wake) 0 refl tt refl k))
+  settle_at memory end Downed one other wake k = subst (λ l. R memory (at end Closed l other wake)) (append-nil one) (subst (λ l. R memory (at end Closed (one ++ []) l wake)) (append-nil other) (step_from memory memory (at end Downed one other wake) 0 refl tt refl k))
+  settle_at memory end place one other wake k = k
 
   settle : (memory : ℕ → ℕ) (s : Stance) → R memory s → R memory (settled s)
-  settle memory s k = settle_at memory s.end s.place s.accepted s.delivered k
+  settle memory s k = settle_at memory s.end s.place s.accepted s.delivered s.wake k
 
   -- an honest end begins its call, takes the step of its place, and rings at once where it comes to a doorbell
   pub on_goes : (memory after : ℕ → ℕ) (s : Stance) (t : Taken) → Begins ground s t.begins → is_open (begun_if (who_of ground p) s t.begins).place ≡ true →

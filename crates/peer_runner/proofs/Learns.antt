@@ -17,7 +17,7 @@ use Rattle.ends_pair.specs.Whole.{HonestEndsAgree}
 use Rattle.pair_sessions.specs.Once.{CalmRunsDeliver}
 use Rattle.peer_runner.specs.declared.key.Key.{Key}
 use Rattle.peer_runner.specs.declared.view.View.{View}
-use Rattle.peer_runner.specs.Keys.{IsFit}
+use Rattle.peer_runner.specs.Keys.{ground_of, honest_of, IsFit}
 use Rattle.peer_runner.specs.Standings.{Taken, standing}
 use Rattle.peer_runner.specs.Made as made
 use Rattle.peer_runner.specs.Actions.{Action, accesses_in}
@@ -33,6 +33,8 @@ use Rattle.peer_runner.proofs.Seats.{put_back}
 use Rattle.peer_runner.proofs.Reaching.{are_told}
 use Rattle.peer_runner.proofs.Keys.{is_ground}
 use Rattle.peer_runner.proofs.Making.{reached_by}
+use Rattle.peer_runner.proofs.Woken.{never_missed}
+use Rattle.std.specs.Prelude.{Contains}
 
 at_only : {A : Type 0} (a x : A) (i : ℕ) → get_elem? (a ∷ []) i ≡ some x → (i ≡ 0) × (a ≡ x)
 at_only a x zero e = (refl, some-injective _ _ e)
@@ -164,6 +166,9 @@ told_at : RunsKeepWhole → CalmRunsDeliver → HonestEndsAgree → (key : Key) 
 told_at whole calm agree key seat acc words id from lists fit f m start all = let two = fit.shape.two_peers in
     let same : (p : ℕ) → p < key.geometry.peers → list_of lists p ≡ acc p = λ p lt. tells_all key.geometry.peers seat acc id lists (subst (λ k. Fits key.geometry.peers seat acc id (view k lists)) start f) p (omega arith) in record {
       pair = λ a b. same_two key (accesses_by acc) (accesses_by (list_of lists)) (λ p p2. ap accesses_in (same p (omega arith))) (are_told whole calm agree key (region key words) (accesses_by acc) (is_ground key fit) a b (reached_by key fit _ _ m.made));
+      woken = λ ev a b p number p2 asked. let one = same p (omega arith) in let other = same (1 - p) (omega arith) in
+          subst (λ l. ¬ Contains (standing key (1 - p) (accesses_in l)).wake.missed number) (sym other)
+          (never_missed (ground_of key) (is_ground key fit) ev (honest_of key) a b (region key words) (λ q. standing key q (accesses_by acc q)) (reached_by key fit _ _ m.made) p number p2 (sym (ap (λ l. (standing key p (accesses_in l)).wake.asked) one) ∙ asked));
       rung = same_rung key acc (list_of lists) same (are_rung key (λ w. get_or words w 0) acc m.interrupts);
     }
 

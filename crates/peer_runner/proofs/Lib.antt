@@ -12,9 +12,12 @@ pub mod Touching
 pub mod Seats
 pub mod Ranges
 pub mod Reaching
+pub mod Woken
 pub mod Making
+pub mod Waking
 pub mod Learns
 pub mod Turning
+pub mod Telling
 pub mod Runs
 pub mod Looking
 pub mod Storming

@@ -1,6 +1,7 @@
 -- Looks between the turns of an automatic peer.
-use Rattle.std.proofs.Common.{◌≡◌, ℕ, Bool, true, false, List, refl, sym, ◌∙◌}
-use Rattle.std.specs.Prelude.{◌&&◌, not}
+use Rattle.std.proofs.Common.{◌≡◌, ℕ, ◌≤◌, Bool, true, false, List, refl, sym, ap, ◌∙◌, arith}
+use Rattle.std.specs.Prelude.{◌&&◌, nat_lt, if◌then◌else◌}
+use Rattle.std.proofs.lemmas.Bool.{le-ltb}
 use Rattle.call_grammar.specs.Calls.{Who}
 use Rattle.call_grammar.specs.Places.{Place, RingingOffer, RingingPoll, access_at, is_open}
 use Rattle.link_endpoint.specs.Engine.{Engine}
@@ -9,20 +10,25 @@ use Rattle.peer_runner.specs.declared.key.Key.{Key}
 use Rattle.peer_runner.specs.Standings.{Taken}
 use Rattle.peer_runner.specs.Actions.{Action}
 use Rattle.peer_runner.specs.Keys.{who_in}
-use Rattle.peer_runner.specs.Runners.{Runner, MayRingBy, looks_now, Stands}
+use Rattle.peer_runner.specs.Turns.{sleeps}
+use Rattle.peer_runner.specs.Runners.{Runner, MayRingBy, due_of, looks_now, Stands}
 use Rattle.peer_runner.proofs.Keys.{clash}
 
-pub looks_at : (own mine : Route) (busy open_now looked before result : Bool) → result ≡ looks_now own busy looked → own ≡ mine → busy ≡ open_now → before ≡ looked → looks_now mine open_now before ≡ result
-looks_at own mine busy open_now looked before result is same opens was = sym (is ∙ (λ i. looks_now (same i) (opens i) (sym was i)))
+pub looks_at : (own mine : Route) (due dues looks before : ℕ) (result : Bool) → result ≡ looks_now own due looks → own ≡ mine → due ≡ dues → before ≡ looks → looks_now mine dues before ≡ result
+looks_at own mine due dues looks before result is same now was = sym (is ∙ (λ i. looks_now (same i) (now i) (sym was i)))
 
-pub looks_shut : (own : Route) (busy looked : Bool) → looks_now own busy looked ≡ true → busy ≡ false
-looks_shut own busy looked is = both own.enabled looked busy is
+-- no look is due where a call is open
+pub looks_shut : (who : Who) (own : Route) (r : Runner) → looks_now own (due_of who r) r.looks ≡ true → is_open r.place ≡ false
+looks_shut who own r is = by (is_open r.place) refl
   where
-    both : (a b c : Bool) → (a && (not b && not c)) ≡ true → c ≡ false
-    both true false false e = refl
-    both true false true e = absurd (cc)
-    both true true c e = absurd (cc)
-    both false b c e = absurd (cc)
+    never : (a b : Bool) → b ≡ false → (a && b) ≡ false
+    never true b e = e
+    never false b e = refl
+
+    by : (b : Bool) → is_open r.place ≡ b → is_open r.place ≡ false
+    by true e = let none : due_of who r ≡ 0 = ap (λ (b : Bool). if b then 0 else if sleeps who r.end r.auto then 64 else 1) e in
+        absurd (clash (sym (never own.enabled (nat_lt r.looks 0) (le-ltb r.looks 0 (omega arith))) ∙ (ap (λ n. looks_now own n r.looks) (sym none) ∙ is)))
+    by false e = e
 
 rings_open : (routes : List Route) (who : Who) (place : Place) (list : List (Action Taken)) → MayRingBy routes (access_at who place) list → is_open place ≡ true
 rings_open routes who RingingOffer list may = refl

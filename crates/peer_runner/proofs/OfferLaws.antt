@@ -3,13 +3,17 @@ use Rattle.std.proofs.Common.{◌≡◌, ℕ, zero, suc, ◌+◌, ◌*◌, ◌/�
 use Rattle.std.specs.Prelude.{Option, Some, None, Contains}
 use Rattle.std.proofs.lemmas.List.Elements.{Contains-append_cases}
 use Rattle.split_ring.specs.declared.steps.Access.{Access}
-use Rattle.split_ring.specs.Layout.{limit_of}
+use Rattle.split_ring.specs.Layout.{Sizes, IsQueue, limit_of}
+use Rattle.split_ring.specs.Frames.{start_of, takes_of, AreApart}
+use Rattle.split_ring.proofs.Frames.{frames_lem}
+use Rattle.call_grammar.specs.Words.{lengths_of}
+use Rattle.call_grammar.proofs.Lengths.{last_length}
 use Rattle.call_grammar.specs.Ends.{End}
 use Rattle.call_grammar.specs.Calls.{Who, Call}
 use Rattle.call_grammar.specs.Offers.{Job}
 use Rattle.call_grammar.specs.Places.{Place, AtUsedIndex, AtUsedId, Filling, WritingLow, WritingHigh, WritingLength, WritingFlags, WritingEntry, WritingIndex, fill_place, tell_place, access_at, next_place}
 use Rattle.ends_pair.specs.Ground.{Ground, who_of}
-use Rattle.ends_pair.specs.Alone.{Alone}
+use Rattle.ends_pair.specs.Alone.{HasRoom, Alone}
 use Rattle.ends_pair.specs.Pair.{freed_at}
 use Rattle.ends_pair.proofs.Fields.{numbers, ring_apart}
 use Rattle.peer_runner.specs.declared.key.Key.{Key}
@@ -37,22 +41,35 @@ number_is ground memory p end (WritingEntry j) job a e = let same : j ≡ job = 
 number_is ground memory p end (WritingIndex j) job a e = let same : j ≡ job = cc in ap (λ (x : Job). x.number) (sym same) ∙ a.holds.1
 number_is ground memory p end place job a e = absurd (none_some job e)
 
+-- and its lengths are those of the session
+lengths_are : (ground : Ground) (memory : ℕ → ℕ) (p : ℕ) (end : End) (place : Place) (job : Job) → Alone ground memory p end place → offered_at place ≡ Some job → job.lengths ≡ lengths_of (end.accepted ++ job.frame ∷ [])
+lengths_are ground memory p end (AtUsedIndex j freed) job a e = let same : j ≡ job = cc in subst (λ (x : Job). x.lengths ≡ lengths_of (end.accepted ++ x.frame ∷ [])) same a.holds.1.lengths
+lengths_are ground memory p end (AtUsedId j freed more) job a e = let same : j ≡ job = cc in subst (λ (x : Job). x.lengths ≡ lengths_of (end.accepted ++ x.frame ∷ [])) same a.holds.1.lengths
+lengths_are ground memory p end (Filling j at more) job a e = let same : j ≡ job = cc in subst (λ (x : Job). x.lengths ≡ lengths_of (end.accepted ++ x.frame ∷ [])) same a.holds.1.next.lengths
+lengths_are ground memory p end (WritingLow j) job a e = let same : j ≡ job = cc in subst (λ (x : Job). x.lengths ≡ lengths_of (end.accepted ++ x.frame ∷ [])) same a.holds.1.next.lengths
+lengths_are ground memory p end (WritingHigh j) job a e = let same : j ≡ job = cc in subst (λ (x : Job). x.lengths ≡ lengths_of (end.accepted ++ x.frame ∷ [])) same a.holds.1.next.lengths
+lengths_are ground memory p end (WritingLength j) job a e = let same : j ≡ job = cc in subst (λ (x : Job). x.lengths ≡ lengths_of (end.accepted ++ x.frame ∷ [])) same a.holds.1.next.lengths
+lengths_are ground memory p end (WritingFlags j) job a e = let same : j ≡ job = cc in subst (λ (x : Job). x.lengths ≡ lengths_of (end.accepted ++ x.frame ∷ [])) same a.holds.1.next.lengths
+lengths_are ground memory p end (WritingEntry j) job a e = let same : j ≡ job = cc in subst (λ (x : Job). x.lengths ≡ lengths_of (end.accepted ++ x.frame ∷ [])) same a.holds.1.next.lengths
+lengths_are ground memory p end (WritingIndex j) job a e = let same : j ≡ job = cc in subst (λ (x : Job). x.lengths ≡ lengths_of (end.accepted ++ x.frame ∷ [])) same a.holds.2
+lengths_are ground memory p end place job a e = absurd (none_some job e)
+
 -- it still reads the used ring, or has room for its frame
 abbrev IsReading : Place → Type 0
 IsReading (AtUsedIndex job freed) = Unit {0}
 IsReading (AtUsedId job freed more) = Unit {0}
 IsReading place = ⊥
 
-room_is : (ground : Ground) (memory : ℕ → ℕ) (p : ℕ) (end : End) (place : Place) (job : Job) → Alone ground memory p end place → offered_at place ≡ Some job → IsReading place ⊎ (length end.accepted < freed_at end.freed place + limit_of ground.sizes)
+room_is : (ground : Ground) (memory : ℕ → ℕ) (p : ℕ) (end : End) (place : Place) (job : Job) → Alone ground memory p end place → offered_at place ≡ Some job → IsReading place ⊎ HasRoom ground job (freed_at end.freed place)
 room_is ground memory p end (AtUsedIndex j freed) job a e = inl tt
 room_is ground memory p end (AtUsedId j freed more) job a e = inl tt
-room_is ground memory p end (Filling j at more) job a e = let n = a.holds.1.next.number in let r = a.holds.1.room in inr (omega arith)
-room_is ground memory p end (WritingLow j) job a e = let n = a.holds.1.next.number in let r = a.holds.1.room in inr (omega arith)
-room_is ground memory p end (WritingHigh j) job a e = let n = a.holds.1.next.number in let r = a.holds.1.room in inr (omega arith)
-room_is ground memory p end (WritingLength j) job a e = let n = a.holds.1.next.number in let r = a.holds.1.room in inr (omega arith)
-room_is ground memory p end (WritingFlags j) job a e = let n = a.holds.1.next.number in let r = a.holds.1.room in inr (omega arith)
-room_is ground memory p end (WritingEntry j) job a e = let n = a.holds.1.next.number in let r = a.holds.1.room in inr (omega arith)
-room_is ground memory p end (WritingIndex j) job a e = let n = a.holds.1 in let r = a.holds.2 in inr (omega arith)
+room_is ground memory p end (Filling j at more) job a e = let same : j ≡ job = cc in inr (subst (λ (x : Job). HasRoom ground x end.freed) same a.holds.1.room)
+room_is ground memory p end (WritingLow j) job a e = let same : j ≡ job = cc in inr (subst (λ (x : Job). HasRoom ground x end.freed) same a.holds.1.room)
+room_is ground memory p end (WritingHigh j) job a e = let same : j ≡ job = cc in inr (subst (λ (x : Job). HasRoom ground x end.freed) same a.holds.1.room)
+room_is ground memory p end (WritingLength j) job a e = let same : j ≡ job = cc in inr (subst (λ (x : Job). HasRoom ground x end.freed) same a.holds.1.room)
+room_is ground memory p end (WritingFlags j) job a e = let same : j ≡ job = cc in inr (subst (λ (x : Job). HasRoom ground x end.freed) same a.holds.1.room)
+room_is ground memory p end (WritingEntry j) job a e = let same : j ≡ job = cc in inr (subst (λ (x : Job). HasRoom ground x end.freed) same a.holds.1.room)
+room_is ground memory p end (WritingIndex j) job a e = let same : j ≡ job = cc in inr (subst (λ (x : Job). HasRoom ground x end.freed) same a.holds.3)
 room_is ground memory p end place job a e = absurd (none_some job e)
 
 fill_reads : (job : Job) (at count : ℕ) → IsReading (settled_place (fill_place job at count)) → ⊥
@@ -91,33 +108,38 @@ one_in : (word w : ℕ) → Contains (word ∷ []) w → w ≡ word
 one_in word w (zero, lt, e) = sym e
 one_in word w (suc k, lt, e) = absurd (omega arith)
 
-slot_fits : (bytes mtu at : ℕ) → 14 ≤ bytes → bytes ≤ mtu + 18 → at < (bytes + 3) / 4 → at < (18 + mtu + 63) / 64 * 64 / 4
-slot_fits bytes mtu at some most lt = omega arith
+-- the length of its frame, by its number
+long_is : (accepted : List (List ℕ)) (job : Job) → job.number ≡ length accepted → job.lengths ≡ lengths_of (accepted ++ job.frame ∷ []) → job.lengths job.number ≡ length job.frame
+long_is accepted job number lengths = ap (λ (l : ℕ → ℕ). l job.number) lengths ∙ (ap (lengths_of (accepted ++ job.frame ∷ [])) number ∙ last_length accepted job.frame)
+
+-- its words are among the bytes that it takes
+word_fits : (sizes : Sizes) (job : Job) (at : ℕ) → IsQueue sizes → job.lengths job.number ≡ length job.frame → length job.frame ≤ sizes.mtu + 18 → at < (length job.frame + 3) / 4 → at < takes_of sizes (length job.frame) / 4
+word_fits sizes job at queue long most lt = let placed = frames_lem.placed sizes job.lengths job.number queue in let holds = subst (λ n. n ≤ sizes.mtu + 18 → 4 * ((n + 3) / 4) ≤ takes_of sizes n) long placed.holds in let h = holds most in omega arith
 
 module _ (key : Key) (fit : IsFit key) (p : ℕ) (hp : honest_of key p ≡ true) where
   -- the store of an offer, whose frame isn't accepted by it
   stored_at : (memory : ℕ → ℕ) (end : End) (place : Place) (value : ℕ) (job : Job) (w : ℕ) → Alone (ground_of key) memory p end place → offered_at (settled_place (next_place (who_of (ground_of key) p) place value)) ≡ Some job →
-      Contains (words_of (access_at (who_of (ground_of key) p) place)) w → IsOfFrame key p job.number w
+      Contains (words_of (access_at (who_of (ground_of key) p) place)) w → IsOfFrame key p job w
   unfolding settled_place
   stored_at memory end (AtUsedIndex j freed) value job w a e c = absurd (none_in w c)
   stored_at memory end (AtUsedId j freed more) value job w a e c = absurd (none_in w c)
   stored_at memory end (Filling j at more) value job w a e c = let is = one_in _ w c in let start = same_section key p (honest_below key p hp) in let going = goes_on (who_of (ground_of key) p) (Filling j at more) value job e in let same : j ≡ job = cc in
-      let n = ap (λ (x : Job). x.number) same in let f = a.holds.1.next.frame in let sum = a.holds.2 in let fits = slot_fits (length j.frame) key.queue.mtu at f.least f.most (omega arith) in
-      subst (λ k. IsOfFrame key p k w) n (inl (omega arith, omega arith))
-  stored_at memory end (WritingLow j) value job w a e c = let is = one_in _ w c in let start = same_section key p (honest_below key p hp) in let same : j ≡ job = cc in let n = ap (λ (x : Job). x.number) same in subst (λ k. IsOfFrame key p k w) n (inr (inl (omega arith, omega arith)))
-  stored_at memory end (WritingHigh j) value job w a e c = let is = one_in _ w c in let start = same_section key p (honest_below key p hp) in let same : j ≡ job = cc in let n = ap (λ (x : Job). x.number) same in subst (λ k. IsOfFrame key p k w) n (inr (inl (omega arith, omega arith)))
-  stored_at memory end (WritingLength j) value job w a e c = let is = one_in _ w c in let start = same_section key p (honest_below key p hp) in let same : j ≡ job = cc in let n = ap (λ (x : Job). x.number) same in subst (λ k. IsOfFrame key p k w) n (inr (inl (omega arith, omega arith)))
-  stored_at memory end (WritingFlags j) value job w a e c = let is = one_in _ w c in let start = same_section key p (honest_below key p hp) in let same : j ≡ job = cc in let n = ap (λ (x : Job). x.number) same in subst (λ k. IsOfFrame key p k w) n (inr (inl (omega arith, omega arith)))
-  stored_at memory end (WritingEntry j) value job w a e c = let is = one_in _ w c in let start = same_section key p (honest_below key p hp) in let same : j ≡ job = cc in let n = ap (λ (x : Job). x.number) same in subst (λ k. IsOfFrame key p k w) n (inr (inr (omega arith)))
+      let f = a.holds.1.next.frame in let sum = a.holds.2 in let fits = word_fits key.queue j at fit.queue (long_is end.accepted j a.holds.1.next.number a.holds.1.next.lengths) f.most (omega arith) in
+      subst (λ (x : Job). IsOfFrame key p x w) same (inl (omega arith, omega arith))
+  stored_at memory end (WritingLow j) value job w a e c = let is = one_in _ w c in let start = same_section key p (honest_below key p hp) in let same : j ≡ job = cc in subst (λ (x : Job). IsOfFrame key p x w) same (inr (inl (omega arith, omega arith)))
+  stored_at memory end (WritingHigh j) value job w a e c = let is = one_in _ w c in let start = same_section key p (honest_below key p hp) in let same : j ≡ job = cc in subst (λ (x : Job). IsOfFrame key p x w) same (inr (inl (omega arith, omega arith)))
+  stored_at memory end (WritingLength j) value job w a e c = let is = one_in _ w c in let start = same_section key p (honest_below key p hp) in let same : j ≡ job = cc in subst (λ (x : Job). IsOfFrame key p x w) same (inr (inl (omega arith, omega arith)))
+  stored_at memory end (WritingFlags j) value job w a e c = let is = one_in _ w c in let start = same_section key p (honest_below key p hp) in let same : j ≡ job = cc in subst (λ (x : Job). IsOfFrame key p x w) same (inr (inl (omega arith, omega arith)))
+  stored_at memory end (WritingEntry j) value job w a e c = let is = one_in _ w c in let start = same_section key p (honest_below key p hp) in let same : j ≡ job = cc in subst (λ (x : Job). IsOfFrame key p x w) same (inr (inr (omega arith)))
   stored_at memory end (WritingIndex j) value job w a e c = absurd (none_some job (sym (tell_none (who_of (ground_of key) p) j.number) ∙ e))
   stored_at memory end place value job w a e c = absurd (none_some job (goes_on (who_of (ground_of key) p) place value job e))
 
   abbrev Stored : List Taken → Type 0
-  Stored l = (job : Job) → offered_at (standing key p l).place ≡ Some job → ((w : ℕ) → Contains (call_writes l) w → IsOfFrame key p job.number w) × (IsReading (standing key p l).place → call_writes l ≡ [])
+  Stored l = (job : Job) → offered_at (standing key p l).place ≡ Some job → ((w : ℕ) → Contains (call_writes l) w → IsOfFrame key p job w) × (IsReading (standing key p l).place → call_writes l ≡ [])
 
   -- what it had stored as it came to the place of the access
   abbrev Had : List ℕ → Place → Job → Type 0
-  Had writes place job = ((w : ℕ) → Contains writes w → IsOfFrame key p job.number w) × (IsReading place → writes ≡ [])
+  Had writes place job = ((w : ℕ) → Contains writes w → IsOfFrame key p job w) × (IsReading place → writes ≡ [])
 
   before : (s : Stance) (call : Option Call) (writes : List ℕ) (job : Job) → (offered_at s.place ≡ Some job → Had writes s.place job) → offered_at (begun_if (who_of (ground_of key) p) s call).place ≡ Some job →
       Had (unless_begun writes call) (begun_if (who_of (ground_of key) p) s call).place job
@@ -140,10 +162,15 @@ module _ (key : Key) (fit : IsFit key) (p : ℕ) (hp : honest_of key p ≡ true)
 
   pub offers_lem : (memory : ℕ → ℕ) (acc : ℕ → List Taken) → Made key memory acc → OpenOfferStores key memory acc p
   offers_lem memory acc m job e = let ground = ground_of key in let end = end_by key acc p in let place = place_by key acc p in let a = alone_at key fit memory acc m p hp in let st = stored_is memory acc m job e in
-      let number = number_is ground memory p end place job a e in record {
+      let number = number_is ground memory p end place job a e in let lengths = lengths_are ground memory p end place job a e in let is = is_ground key fit in record {
         number = number;
+        lengths = lengths;
         stores = st.0;
         free = λ k some low high same. ⊎_elim (λ r. some (st.1 r))
-            (λ room. let b = numbers ground (is_ground key fit) in ring_apart (limit_of key.queue) k (length end.accepted) b.limit_least high (omega arith) (ap (λ n. n % limit_of key.queue) (sym number) ∙ sym same))
+            (λ room. let few = frames_lem.few key.queue job.lengths (freed_at end.freed place) job.number room in let b = numbers ground is in ring_apart (limit_of key.queue) k (length end.accepted) b.limit_least high (omega arith) (ap (λ n. n % limit_of key.queue) (sym number) ∙ sym same))
+            (room_is ground memory p end place job a e);
+        apart = λ k some low high. ⊎_elim (λ r. absurd (some (st.1 r)))
+            (λ room. subst (λ n. AreApart (start_of key.queue job.lengths k) (takes_of key.queue (job.lengths k)) (start_of key.queue job.lengths job.number) (takes_of key.queue n)) (long_is end.accepted job number lengths)
+            (frames_lem.apart key.queue job.lengths (freed_at end.freed place) job.number k fit.queue room low (omega arith)))
             (room_is ground memory p end place job a e);
       }

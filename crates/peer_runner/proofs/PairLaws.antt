@@ -27,12 +27,13 @@ use Rattle.peer_runner.specs.Keys.{ground_of, honest_of, IsFit}
 use Rattle.peer_runner.specs.Standings.{Taken, Stance, begun_if, standing, Begins}
 use Rattle.peer_runner.specs.Made.{Made}
 use Rattle.peer_runner.specs.ListSays.{opens, sessions_opened}
-use Rattle.peer_runner.specs.RunningLaws.{end_by, place_by, InSession, NeverRefuses, OtherOpensNone, OneSession, WhereEitherAttends, PairKeeps, HeldIsAsSent}
+use Rattle.peer_runner.specs.RunningLaws.{end_by, place_by, InSession, NeverRefuses, OtherOpensNone, OneSession, WhereEitherAttends, PairKeeps, AskedIsRung, HeldIsAsSent}
 use Rattle.peer_runner.proofs.Standings.{standing_none}
 use Rattle.peer_runner.proofs.Keys.{same_section, is_ground}
 use Rattle.peer_runner.proofs.FlightLaws.{freed_below, flight_lem}
 use Rattle.peer_runner.proofs.HeldLaws.{as_sent}
 use Rattle.peer_runner.proofs.Making.{reached_by}
+use Rattle.peer_runner.proofs.Woken.{never_missed}
 use Rattle.peer_runner.proofs.Reaching.{reached_calm, are_listed}
 use Rattle.peer_runner.proofs.Along.{whole_at, alone_at, phase_left, place_before, phase_after, along}
 
@@ -180,3 +181,7 @@ module _ (key : Key) (fit : IsFit key) (a : honest_of key 0 ≡ true) (b : hones
       let pair = pair_at memory acc m in as_sent ground memory p end place (fields ground memory (1 - q)) (end_by key acc q).accepted (end_by key acc q).returned (alone_at key fit memory acc m p (both p p2))
       (λ run. subst (λ x. Polls ground (fields ground memory (1 - q)) (end_by key acc q).accepted (place_by key acc x)) back (pair.link q o2 (inr (subst (λ x. Attends (end_by key acc x) (place_by key acc x)) (sym back) (inl run)))).polls)
       (λ run. (pair.link p p2 (inl (inl run))).returns)
+
+-- what one asks for, the other doesn't miss
+pub woken_lem : (key : Key) → IsFit key → honest_of key 0 ≡ true → honest_of key 1 ≡ true → (memory : ℕ → ℕ) (acc : ℕ → List Taken) → Made key memory acc → (p : ℕ) → p < 2 → AskedIsRung key memory acc p
+woken_lem key fit a b memory acc m p p2 = λ ev number asked. never_missed (ground_of key) (is_ground key fit) ev (honest_of key) a b memory (λ q. standing key q (acc q)) (reached_by key fit memory acc m) p number p2 asked

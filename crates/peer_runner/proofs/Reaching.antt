@@ -38,7 +38,7 @@ both_honest honest a b zero q2 = a
 both_honest honest a b (suc zero) q2 = b
 both_honest honest a b (suc (suc q)) q2 = absurd (omega arith)
 
-comes : (st next : ℕ → Stance) (p : ℕ) (s : Stance) → OnlyComes st next p s → ends.OnlyComes (ends_of st) (ends_of next) (places_of st) (places_of next) p s.end s.place
+pub comes : (st next : ℕ → Stance) (p : ℕ) (s : Stance) → OnlyComes st next p s → ends.OnlyComes (ends_of st) (ends_of next) (places_of st) (places_of next) p s.end s.place
 comes st next p s only = record {
   end_is = ap (λ (x : Stance). x.end) only.here;
   place_is = ap (λ (x : Stance). x.place) only.here;

@@ -1,6 +1,7 @@
 -- What peers did in threads is a run of their scenario.
 use Rattle.std.proofs.Common.{◌≡◌, ◌≢◌, ℕ, zero, suc, ◌+◌, ◌-◌, ◌<◌, ◌≤◌, ◌==◌, Bool, true, false, ◌||◌, All, List, [], ◌∷◌, ◌++◌, length, map, refl, sym, ap, ◌∙◌, subst, arith, append-nil, eq-eqb, ne_eqb, get_or, take}
-use Rattle.std.specs.Prelude.{if◌then◌else◌, filter}
+use Rattle.std.specs.Prelude.{if◌then◌else◌, filter, Contains}
+use Rattle.split_ring.specs.Layout.{has_events}
 use Rattle.std.specs.List.{list_any, range_with_len, AllByRecursion}
 use Rattle.std.proofs.lemmas.List.{map-append}
 use Rattle.std.proofs.lemmas.List.Folds.{list_any-append}
@@ -33,14 +34,14 @@ use Rattle.peer_runner.specs.Actions.{Action, accesses_in}
 use Rattle.peer_runner.specs.Standings.{Taken, accepted_once, delivered_once, accepted_by, delivered_by, outset, standing}
 use Rattle.doorbell_irq.specs.Routes.{is_intx}
 use Rattle.peer_runner.specs.Interrupts.{weigh, tally, one_if, rings, finds, AreRung}
-use Rattle.peer_runner.specs.Rules.{accesses_by, list_of, AreTold, TellsAll, Told}
+use Rattle.peer_runner.specs.Rules.{accesses_by, list_of, AreTold, NoneIsMissed, TellsAll, Told}
 use Rattle.peer_runner.specs.Passes.{held, lower_pass, join_passes, shown, actions_of}
 use Rattle.doorbell_irq.specs.declared.route.Route.{Route}
 use Rattle.std.specs.Int.{bit_at}
 use Rattle.peer_runner.specs.Ways.{AreRoutesOf}
 use Rattle.peer_runner.specs.Turns.{Turn, Looks, Makes, Clears, Rings, Running, comes_to, TakesStep, TakesTurn, TakesTurns, is_set, heard_bit, heard, finds_nothing, is_quiet, lines_of, marks_of, told_in, told_of}
 use Rattle.peer_runner.specs.OwnRecord.{IsToldBy, start_of, turns_of, IsOwnRecord}
-use Rattle.peer_runner.specs.RunningRecord.{lines_if, lines_by, accepted_on, delivered_on, accepted_in, delivered_in, refuses, how_many, is_interrupt, is_interrupt_by, is_bell, bells_in, AreHeard, ArePaired, IsRunOf}
+use Rattle.peer_runner.specs.RunningRecord.{Telling, untold, telling_in, AreWoken, lines_if, lines_by, accepted_on, delivered_on, accepted_in, delivered_in, refuses, how_many, is_interrupt, is_interrupt_by, is_bell, bells_in, AreHeard, ArePaired, IsRunOf}
 use Rattle.peer_runner.specs.Runners.{marks_in}
 use Rattle.peer_runner.specs.Drives.{storm_in, Did, HasRun, RanIf, RanOne, RanAll}
 use Rattle.peer_runner.proofs.Standings.{standing_none}
@@ -48,6 +49,7 @@ use Rattle.peer_runner.proofs.Actions.{accesses_none}
 use Rattle.peer_runner.proofs.Keys.{clash}
 use Rattle.peer_runner.proofs.Weights.{weigh_none, tally_zero, tally_first}
 use Rattle.peer_runner.proofs.Hearing.{many_none, Tells, turns_tell}
+use Rattle.peer_runner.proofs.Telling.{tells_none, quiet_none}
 
 -- Own records
 
@@ -121,20 +123,6 @@ idle_at world key from (list ∷ lists) traces zero ran off = let e : from + 0 �
 idle_at world key from (list ∷ lists) traces (suc k) ran off = let e : from + suc k ≡ suc from + k = omega arith in idle_at world key (suc from) lists ran.1 k ran.4 (ap (has_turn world.acts) (sym e) ∙ off)
 
 -- Lines and marks
-
-nothing_none : (marks : List Mark) → finds_nothing marks ≡ true → (accepted_by marks ≡ []) × (delivered_by marks ≡ [])
-unfolding accepted_by delivered_by
-nothing_none (mark.Saw value ∷ mark.Over ∷ []) is = (refl, refl)
-nothing_none (mark.Look zero ∷ mark.Done ∷ []) is = (refl, refl)
-nothing_none (mark.Reclaim zero ∷ mark.Full ∷ []) is = (refl, refl)
-nothing_none marks is = absurd (cc)
-
-quiet_none : (a : Access) (marks : List Mark) → is_quiet a marks ≡ true → (accepted_by marks ≡ []) × (delivered_by marks ≡ [])
-quiet_none (access.Read word) marks is = nothing_none marks is
-quiet_none (access.Write word written) marks is = absurd (clash is)
-quiet_none (access.State state) marks is = absurd (clash is)
-quiet_none (access.Ring target vector) marks is = absurd (clash is)
-quiet_none access.Nothing marks is = absurd (clash is)
 
 access_none : (p : ℕ) (a : Access) (value : ℕ) → (accepted_in (access_lines p a value) ≡ []) × (delivered_in (access_lines p a value) ≡ [])
 unfolding accepted_in delivered_in
@@ -222,21 +210,21 @@ marked_frames p a value marks = let none = access_none p a value in (
   delivered_both (access_lines p a value) (map (mark_line p) marks) ∙ (ap (λ l. l ++ delivered_in (map (mark_line p) marks)) none.1 ∙ marks_delivered p marks),
 )
 
-step_frames : (p : ℕ) (step : Step) → Frames (lines_of p step.access step.value step.marks) step.marks
-step_frames p step = by (is_quiet step.access step.marks) refl
+step_frames : (p : ℕ) (first : Bool) (step : Step) → Frames (lines_of p first step.access step.value step.marks) step.marks
+step_frames p first step = by (is_quiet first step.access step.marks) refl
   where
     all : List Line
     all = access_lines p step.access step.value ++ map (mark_line p) step.marks
 
-    by : (b : Bool) → is_quiet step.access step.marks ≡ b → (accepted_in (lines_of p step.access step.value step.marks) ≡ accepted_by step.marks) × (delivered_in (lines_of p step.access step.value step.marks) ≡ delivered_by step.marks)
-    by true is = let none = quiet_none step.access step.marks is in let told : lines_of p step.access step.value step.marks ≡ [] = ap (λ (b : Bool). if b then [] else all) is in
+    by : (b : Bool) → is_quiet first step.access step.marks ≡ b → (accepted_in (lines_of p first step.access step.value step.marks) ≡ accepted_by step.marks) × (delivered_in (lines_of p first step.access step.value step.marks) ≡ delivered_by step.marks)
+    by true is = let none = quiet_none first step.access step.marks is in let told : lines_of p first step.access step.value step.marks ≡ [] = ap (λ (b : Bool). if b then [] else all) is in
         (ap accepted_in told ∙ (accepted_empty ∙ sym none.0), ap delivered_in told ∙ (delivered_empty ∙ sym none.1))
-    by false is = let all_are = marked_frames p step.access step.value step.marks in let told : lines_of p step.access step.value step.marks ≡ all = ap (λ (b : Bool). if b then [] else all) is in
+    by false is = let all_are = marked_frames p step.access step.value step.marks in let told : lines_of p first step.access step.value step.marks ≡ all = ap (λ (b : Bool). if b then [] else all) is in
         (ap accepted_in told ∙ all_are.0, ap delivered_in told ∙ all_are.1)
 
 turn_frames : (p : ℕ) (turn : Turn) → Frames (told_in p turn) (marks_of turn)
 turn_frames p (Looks found) = let none = heard_frames 64 p found in (none.0 ∙ sym none_by.0, none.1 ∙ sym none_by.1)
-turn_frames p (Makes step) = step_frames p step
+turn_frames p (Makes first step) = step_frames p first step
 turn_frames p (Clears step found) = marked_frames p step.access step.value (marks_of (Clears step found))
 turn_frames p (Rings step) = (marks_accepted p step.marks, marks_delivered p step.marks)
 
@@ -294,8 +282,8 @@ access_refuses p access.Nothing value = refl
 marked_refuses : (p : ℕ) (a : Access) (value : ℕ) (marks : List Mark) → list_any refused_on marks ≡ false → list_any refuses (access_lines p a value ++ map (mark_line p) marks) ≡ false
 marked_refuses p a value marks none = list_any-append refuses (access_lines p a value) (map (mark_line p) marks) ∙ (λ i. (access_refuses p a value i || (refused_lines p marks ∙ none) i))
 
-step_refuses : (p : ℕ) (step : Step) → list_any refused_on step.marks ≡ false → list_any refuses (lines_of p step.access step.value step.marks) ≡ false
-step_refuses p step none = by (is_quiet step.access step.marks)
+step_refuses : (p : ℕ) (first : Bool) (step : Step) → list_any refused_on step.marks ≡ false → list_any refuses (lines_of p first step.access step.value step.marks) ≡ false
+step_refuses p first step none = by (is_quiet first step.access step.marks)
   where
     by : (b : Bool) → list_any refuses (if b then [] else access_lines p step.access step.value ++ map (mark_line p) step.marks) ≡ false
     by true = refl
@@ -339,16 +327,16 @@ step_clear who storm quiet (Chooses auto) peer after step turn is = let clear = 
 
 turn_clear : (who : Who) (storm : ℕ → Step) → ((x : ℕ) → (storm x).marks ≡ []) → (routes : List Route) (p : ℕ) (turn : Turn) (run after : Running) → TakesTurn who storm routes run turn after → IsClear after.peer → IsClear run.peer × (list_any refuses (told_in p turn) ≡ false)
 turn_clear who storm quiet routes p (Looks found) run after took is = (subst (λ (r : Running). IsClear r.peer) took.1 is, heard_refuses 64 p found)
-turn_clear who storm quiet routes p (Makes step) run after took is = let here = step_clear who storm quiet run.peer.driver run.peer took.0 step took.1.takes (subst (λ (r : Running). IsClear r.peer) took.2 is) in (here.0, step_refuses p step here.1)
+turn_clear who storm quiet routes p (Makes first step) run after took is = let here = step_clear who storm quiet run.peer.driver run.peer took.0 step took.1.takes (subst (λ (r : Running). IsClear r.peer) took.2 is) in (here.0, step_refuses p first step here.1)
 turn_clear who storm quiet routes p (Clears step found) run after took is = by (is_set found) refl
   where
     told : Bool → List Line
     told b = access_lines p step.access step.value ++ map (mark_line p) (if b then [] else step.marks)
 
     by : (b : Bool) → is_set found ≡ b → (run.peer.end.handshake.mark ≡ false) × (list_any refuses (access_lines p step.access step.value ++ map (mark_line p) (if is_set found then [] else step.marks)) ≡ false)
-    by true set = let was : after ≡ record { peer = run.peer; looked = false; ringing = true } = took.2 ∙ ap (λ (b : Bool). if b then record { peer = run.peer; looked = false; ringing = true } else comes_to took.0) set in
+    by true set = let was : after ≡ record { peer = run.peer; looks = 0; ringing = true } = took.2 ∙ ap (λ (b : Bool). if b then record { peer = run.peer; looks = 0; ringing = true } else comes_to took.0) set in
         (subst (λ (r : Running). IsClear r.peer) was is, ap (λ b. list_any refuses (told b)) set ∙ marked_refuses p step.access step.value [] refl)
-    by false set = let was : after ≡ comes_to took.0 = took.2 ∙ ap (λ (b : Bool). if b then record { peer = run.peer; looked = false; ringing = true } else comes_to took.0) set in
+    by false set = let was : after ≡ comes_to took.0 = took.2 ∙ ap (λ (b : Bool). if b then record { peer = run.peer; looks = 0; ringing = true } else comes_to took.0) set in
         let here = step_clear who storm quiet run.peer.driver run.peer took.0 step took.1.takes (subst (λ (r : Running). IsClear r.peer) was is) in
         (here.0, ap (λ b. list_any refuses (told b)) set ∙ marked_refuses p step.access step.value step.marks here.1)
 turn_clear who storm quiet routes p (Rings step) run after took is = let here = step_clear who storm quiet run.peer.driver run.peer took.0 step took.1.takes (subst (λ (r : Running). IsClear r.peer) took.2 is) in (here.0, refused_lines p step.marks ∙ here.1)
@@ -385,6 +373,8 @@ record Says (key : Key) (p : ℕ) (list : List (Action Taken)) (lines : List Lin
   accepted : accepted_in lines ≡ (standing key p (accesses_in list)).accepted
   delivered : delivered_in lines ≡ (standing key p (accesses_in list)).delivered
   refused : (standing key p (accesses_in list)).end.handshake.mark ≡ false → list_any refuses lines ≡ false
+  asked : (telling_in lines).asked ≡ (standing key p (accesses_in list)).wake.asked
+  missed : (telling_in lines).missed ≡ (standing key p (accesses_in list)).wake.missed
 
 one_lines : (world : World) (key : Key) (p q : ℕ) (list : List (Action Taken)) (mine : List OwnTrace) (b : Bool) → RanIf b world key q list mine → q ≢ p → lines_by (map part_of mine) p ≡ []
 one_lines world key p q list mine true r ne = ap (λ ts. lines_by (map part_of ts) p) r.1 ∙ lines_beside (part_of r.0) p (λ e. ne (sym r.4.1.peer ∙ e))
@@ -396,11 +386,15 @@ own_says world key p list mine true honest r = let t : OwnTrace = r.0 in let did
       accepted = ap accepted_in lines ∙ (frames.0 ∙ sym left.accepted);
       delivered = ap delivered_in lines ∙ (frames.1 ∙ sym left.delivered);
       refused = λ e. ap (list_any refuses) lines ∙ (turns_clear (who_in key p) (storm_in key p) (λ x. refl) r.2 p did.turns (comes_to (start_of world.acts p)) did.after did.takes (ap (λ (x : End). x.handshake.mark) (sym left.end) ∙ e)).1;
+      asked = ap (λ ls. (telling_in ls).asked) lines ∙ sym left.asked;
+      missed = ap (λ ls. (telling_in ls).missed) lines ∙ sym left.missed;
     }
 own_says world key p list mine false honest r = let lines : lines_by (map part_of mine) p ≡ [] = ap (λ ts. lines_by (map part_of ts) p) r.1 ∙ lines_none p in let at : standing key p (accesses_in list) ≡ outset = ap (λ l. standing key p (accesses_in l)) r.0 ∙ (ap (standing key p) accesses_none ∙ standing_none key p) in record {
   accepted = ap accepted_in lines ∙ (accepted_empty ∙ sym (ap (λ s. s.accepted) at));
   delivered = ap delivered_in lines ∙ (delivered_empty ∙ sym (ap (λ s. s.delivered) at));
   refused = λ e. ap (list_any refuses) lines;
+  asked = ap (λ ls. (telling_in ls).asked) lines ∙ (ap (λ (t : Telling). t.asked) (tells_none untold) ∙ sym (ap (λ s. s.wake.asked) at));
+  missed = ap (λ ls. (telling_in ls).missed) lines ∙ (ap (λ (t : Telling). t.missed) (tells_none untold) ∙ sym (ap (λ s. s.wake.missed) at));
 }
 
 -- peers from one on have no lines of an earlier one
@@ -428,6 +422,10 @@ both_honest key a b zero lt = a
 both_honest key a b (suc zero) lt = b
 both_honest key a b (suc (suc p)) lt = absurd (omega arith)
 
+says_of : (world : World) (key : Key) (lists : List (List (Action Taken))) (traces : List OwnTrace) → 2 ≤ length lists → honest_of key 0 ≡ true → honest_of key 1 ≡ true → RanAll world key 0 lists traces →
+    (p : ℕ) → p < 2 → Says key p (list_of lists p) (lines_by (map part_of traces) p)
+says_of world key lists traces two a b ran p p2 = let e : 0 + p ≡ p = omega arith in subst (λ q. Says key q (get_or lists p []) (lines_by (map part_of traces) q)) e (says_at world key 0 p lists traces (omega arith) (ap (honest_of key) e ∙ both_honest key a b p p2) ran)
+
 pairs : (world : World) (key : Key) (lists : List (List (Action Taken))) (traces : List OwnTrace) → 2 ≤ length lists → honest_of key 0 ≡ true → honest_of key 1 ≡ true → RanAll world key 0 lists traces → AreTold key (accesses_by (list_of lists)) → ArePaired (map part_of traces)
 pairs world key lists traces two a b ran told = record {
   deliver = λ p p2. let q2 : 1 - p < 2 = omega arith in let d = told.deliver p p2 in (d.0, (says (1 - p) q2).accepted ∙ (d.1 ∙ ap (λ l. l ++ d.0) (sym (says p p2).delivered)));
@@ -435,7 +433,11 @@ pairs world key lists traces two a b ran told = record {
 }
   where
     says : (p : ℕ) → p < 2 → Says key p (list_of lists p) (lines_by (map part_of traces) p)
-    says p p2 = let e : 0 + p ≡ p = omega arith in subst (λ q. Says key q (get_or lists p []) (lines_by (map part_of traces) q)) e (says_at world key 0 p lists traces (omega arith) (ap (honest_of key) e ∙ both_honest key a b p p2) ran)
+    says = says_of world key lists traces two a b ran
+
+wakes : (world : World) (key : Key) (lists : List (List (Action Taken))) (traces : List OwnTrace) → 2 ≤ length lists → honest_of key 0 ≡ true → honest_of key 1 ≡ true → RanAll world key 0 lists traces → NoneIsMissed key (accesses_by (list_of lists)) → AreWoken (map part_of traces)
+wakes world key lists traces two a b ran none p number p2 asked = let says = says_of world key lists traces two a b ran in
+    subst (λ l. ¬ Contains l number) (sym (says (1 - p) (omega arith)).missed) (none p number p2 (sym (says p p2).asked ∙ asked))
 
 -- Interrupts that came
 
@@ -525,6 +527,7 @@ is_run world key h lists traces parts made two size here is ran told = record {
   idle = λ p off. ap shown (ap (λ l. get_or l p []) here ∙ idle_at world key 0 lists traces p ran (let e : 0 + p ≡ p = omega arith in ap (has_turn world.acts) e ∙ off));
   heard = subst (AreHeard world) (sym is) (are_heard world key lists traces made size ran told.rung);
   paired = λ one other. subst ArePaired (sym is) (pairs world key lists traces two (made.honest 0 ∙ one) (made.honest 1 ∙ other) ran (told.pair (made.honest 0 ∙ one) (made.honest 1 ∙ other)));
+  woken = λ ev one other. let a = made.honest 0 ∙ one in let b = made.honest 1 ∙ other in subst AreWoken (sym is) (wakes world key lists traces two a b ran (told.woken (ap has_events made.queue ∙ ev) a b));
 }
 
 -- the lists of the pass at the end

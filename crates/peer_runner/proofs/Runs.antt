@@ -1,6 +1,6 @@
 -- A run of turns of an automatic peer.
 use Rattle.std.proofs.Common.{◌≡◌, ℕ, zero, suc, ◌+◌, Bool, true, false, List, [], ◌∷◌, ◌++◌, length, refl, sym, ap, ◌∙◌, subst, arith, append-nil, append_assoc, eq-eqb}
-use Rattle.std.specs.Prelude.{Option, Some, None, ◌&&◌, ◌==◌, not, if◌then◌else◌, map, min, Result, Ok, Err, IsErr, IfOk}
+use Rattle.std.specs.Prelude.{Option, Some, None, ◌&&◌, ◌==◌, not, nat_lt, if◌then◌else◌, map, min, Result, Ok, Err, IsErr, IfOk}
 use Rattle.std.specs.List.{list_all, flat_map}
 use Rattle.std.proofs.lemmas.List.{map-append}
 use Rattle.std.proofs.lemmas.Grind.{flat_map-append}
@@ -35,7 +35,7 @@ use Rattle.step_lines.proofs.Framing.{marks_frames}
 use Rattle.peer_runner.specs.declared.key.Key.{Key}
 use Rattle.peer_runner.specs.Held.{Held}
 use Rattle.peer_runner.specs.Keys.{who_in}
-use Rattle.peer_runner.specs.Standings.{Taken, touch_of, Stance, standing, accepted_by, delivered_by}
+use Rattle.peer_runner.specs.Standings.{Taken, touch_of, at_rest, Stance, standing, accepted_by, delivered_by}
 use Rattle.peer_runner.specs.Actions.{Action, looked, seen_by}
 use Rattle.peer_runner.specs.Passes.{shown, held}
 use Rattle.doorbell_irq.specs.declared.route.Route.{Route}
@@ -44,13 +44,15 @@ use Rattle.peer_runner.specs.declared.ways.Way.TheVariants.{Silent, Direct, Guar
 use Rattle.peer_runner.specs.declared.ways.Done.{Done}
 use Rattle.peer_runner.specs.declared.ways.Done.TheVariants.{Stepped, Cleared, Rung}
 use Rattle.peer_runner.specs.Ways.{route_to, way_to, is_guarded, way_in, rung_by}
-use Rattle.peer_runner.specs.Turns.{Turn, Looks, Clears, Running, comes_to, TakesStep, is_choosing, looks_next, is_set, cleared_to, TakesTurn, TakesTurns, is_end, has_ended, is_finished, acted_by, cleared_by, acted_in, actions_in, heard_bit, heard, is_quiet, lines_of, marks_of, told_in, told_of}
-use Rattle.peer_runner.specs.Runners.{Runner, beginning, peer_of, running_of, chosen, round_on, call_chosen, finishes, has_finished, place_for, place_in, Matches, tells_end, taken_of, value_done, done_of, turn_of, IsDone, holds_on, looks_now, looked_on, held_on, stepped_on, turned, marks_in, Stands, IsThere}
+use Rattle.peer_runner.specs.Turns.{Turn, Looks, Clears, Running, comes_to, TakesStep, sleeps, looks_due, looks_next, is_set, cleared_to, TakesTurn, TakesTurns, is_end, has_ended, is_finished, acted_by, cleared_by, acted_in, actions_in, heard_bit, heard, is_quiet, lines_of, marks_of, told_in, told_of}
+use Rattle.peer_runner.specs.Runners.{Runner, beginning, peer_of, running_of, chosen, round_on, call_chosen, finishes, has_finished, place_for, place_in, Matches, tells_end, taken_of, value_done, done_of, turn_of, IsDone, holds_on, due_of, looks_now, looked_on, is_first, held_on, stepped_on, turned, marks_in, Stands, IsThere}
 use Rattle.peer_runner.specs.Drives.{storm_in, automatic, MayBeAuto, Did}
 use Rattle.peer_runner.proofs.Standings.{standing_none}
 use Rattle.peer_runner.proofs.Actions.{accesses_none}
 use Rattle.peer_runner.proofs.Keys.{clash}
+use Rattle.peer_runner.specs.RunningRecord.{untold, tells_all, telling_in}
 use Rattle.peer_runner.proofs.Turning.{shut, settled_closed}
+use Rattle.peer_runner.proofs.Telling.{tells_none, tells_both, Told, told_first, looked_told, turned_told}
 
 -- One turn more
 
@@ -154,17 +156,17 @@ marks_if : (me : ℕ) (b : Bool) (marks : List Mark) → AreOwn me (map (mark_li
 marks_if me true marks own = refl
 marks_if me false marks own = own
 
-step_own : (me : ℕ) (step : Step) → HaveFrames (map (mark_line me) step.marks) → AreOwn me (lines_of me step.access step.value step.marks)
-step_own me step has = go (is_quiet step.access step.marks)
+step_own : (me : ℕ) (first : Bool) (step : Step) → HaveFrames (map (mark_line me) step.marks) → AreOwn me (lines_of me first step.access step.value step.marks)
+step_own me first step has = go (is_quiet first step.access step.marks)
   where
     go : (b : Bool) → AreOwn me (if b then [] else access_lines me step.access step.value ++ map (mark_line me) step.marks)
     go true = refl
     go false = all_append (is_own me) (access_lines me step.access step.value) (map (mark_line me) step.marks) (access_own me step.access step.value) (marks_own me step.marks has)
 
-pub turn_own : (me : ℕ) (step : Step) (done : Done) → HaveFrames (map (mark_line me) step.marks) → AreOwn me (told_in me (turn_of step done))
-turn_own me step (Stepped value) has = step_own me step has
-turn_own me step (Cleared found) has = all_append (is_own me) (access_lines me step.access step.value) (map (mark_line me) (marks_of (Clears step found))) (access_own me step.access step.value) (marks_if me (is_set found) step.marks (marks_own me step.marks has))
-turn_own me step Rung has = marks_own me step.marks has
+pub turn_own : (me : ℕ) (first : Bool) (step : Step) (done : Done) → HaveFrames (map (mark_line me) step.marks) → AreOwn me (told_in me (turn_of first step done))
+turn_own me first step (Stepped value) has = step_own me first step has
+turn_own me first step (Cleared found) has = all_append (is_own me) (access_lines me step.access step.value) (map (mark_line me) (marks_of (Clears step found))) (access_own me step.access step.value) (marks_if me (is_set found) step.marks (marks_own me step.marks has))
+turn_own me first step Rung has = marks_own me step.marks has
 
 pub look_own : (me found : ℕ) → AreOwn me (told_in me (Looks found))
 look_own me found = heard_own 64 me found
@@ -224,31 +226,41 @@ step_takes follow routes who storm r done goes = let value = value_done done in 
   ap (λ (x : Peer). stepped x (step_at who place value) left) (sym opens.0),
 )
 
--- a look comes next where the code says so
-choosing_tree : (tree : CallTree) (auto : Auto) → is_choosing tree (Chooses auto) ≡ has_ended tree
-choosing_tree Ended auto = refl
-choosing_tree (Does a marks rest) auto = refl
-choosing_tree (Reads word marks rest) auto = refl
-
-choosing_place : PlacesFollowTrees → (who : Who) (r : Runner) → is_choosing (remaining who r.place) (Chooses r.auto) ≡ not (is_open r.place)
-choosing_place follow who r = by (is_open r.place) refl
+-- no call is open of the own record where none is
+first_place_is : PlacesFollowTrees → (who : Who) (r : Runner) → has_ended (remaining who r.place) ≡ is_first r
+first_place_is follow who r = by (is_open r.place) refl
   where
-    by : (b : Bool) → is_open r.place ≡ b → is_choosing (remaining who r.place) (Chooses r.auto) ≡ not (is_open r.place)
-    by true is = choosing_tree (remaining who r.place) r.auto ∙ ((goes_on (remaining who r.place) _ _ who (peer_of who r) (follow.comes who r.place 0 is)).1 ∙ sym (ap not is))
-    by false is = ap (λ (p : Place). is_choosing (remaining who p) (Chooses r.auto)) (shut r.place is) ∙ sym (ap not is)
+    by : (b : Bool) → is_open r.place ≡ b → has_ended (remaining who r.place) ≡ not (is_open r.place)
+    by true is = (goes_on (remaining who r.place) _ _ who (peer_of who r) (follow.comes who r.place 0 is)).1 ∙ sym (ap not is)
+    by false is = ap (λ (p : Place). has_ended (remaining who p)) (shut r.place is) ∙ sym (ap not is)
 
-pub looks_same : PlacesFollowTrees → (who : Who) (own : Route) (r : Runner) → looks_next own (running_of who r) ≡ looks_now own (is_open r.place) r.looked
-looks_same follow who own r = ap (λ (b : Bool). own.enabled && (not r.looked && b)) (choosing_place follow who r)
+-- a look comes next where the code says so
+due_tree : (who : Who) (end : End) (tree : CallTree) (auto : Auto) → looks_due who end tree (Chooses auto) ≡ (if has_ended tree then (if sleeps who end auto then 64 else 1) else 0)
+due_tree who end Ended auto = refl
+due_tree who end (Does a marks rest) auto = refl
+due_tree who end (Reads word marks rest) auto = refl
+
+due_flip : (b : Bool) (n : ℕ) → (if not b then n else 0) ≡ (if b then 0 else n)
+due_flip true n = refl
+due_flip false n = refl
+
+due_place : PlacesFollowTrees → (who : Who) (r : Runner) → looks_due who r.end (remaining who r.place) (Chooses r.auto) ≡ due_of who r
+due_place follow who r = due_tree who r.end (remaining who r.place) r.auto ∙ (ap (λ (b : Bool). if b then (if sleeps who r.end r.auto then 64 else 1) else 0) (first_place_is follow who r)
+    ∙ due_flip (is_open r.place) (if sleeps who r.end r.auto then 64 else 1))
+
+pub looks_same : PlacesFollowTrees → (who : Who) (own : Route) (r : Runner) → looks_next who own (running_of who r) ≡ looks_now own (due_of who r) r.looks
+looks_same follow who own r = ap (λ (n : ℕ). own.enabled && nat_lt r.looks n) (due_place follow who r)
 
 cleared_same : (routes : List Route) (who : Who) (r : Runner) (found : ℕ) → running_of who (turned routes who r (Cleared found)) ≡ cleared_to found (peer_of who r) (peer_of who (stepped_on routes who r (Cleared found)))
-cleared_same routes who r found = elim (is_set found) as (λ b. running_of who (if b then held_on routes who r (Cleared found) else stepped_on routes who r (Cleared found)) ≡ (if b then record { peer = peer_of who r; looked = false; ringing = true } else comes_to (peer_of who (stepped_on routes who r (Cleared found))))) [ true ↦ refl | false ↦ refl ]
+cleared_same routes who r found = elim (is_set found) as (λ b. running_of who (if b then held_on routes who r (Cleared found) else stepped_on routes who r (Cleared found)) ≡ (if b then record { peer = peer_of who r; looks = 0; ringing = true } else comes_to (peer_of who (stepped_on routes who r (Cleared found))))) [ true ↦ refl | false ↦ refl ]
 
-pub turn_takes : PlacesFollowTrees → (routes : List Route) (who : Who) (storm : ℕ → Step) (r : Runner) (done : Done) → has_finished r ≡ false → looks_now (route_to routes who.me) (is_open r.place) r.looked ≡ false →
-    IsDone r.ringing (is_guarded (way_in routes (access_at who (place_in who r)))) done → TakesTurn who storm routes (running_of who r) (turn_of (step_at who (place_in who r) (value_done done)) done) (running_of who (turned routes who r done))
+pub turn_takes : PlacesFollowTrees → (routes : List Route) (who : Who) (storm : ℕ → Step) (r : Runner) (done : Done) → has_finished r ≡ false → looks_now (route_to routes who.me) (due_of who r) r.looks ≡ false →
+    IsDone r.ringing (is_guarded (way_in routes (access_at who (place_in who r)))) done → TakesTurn who storm routes (running_of who r) (turn_of (is_first r) (step_at who (place_in who r) (value_done done)) done) (running_of who (turned routes who r done))
 turn_takes follow routes who storm r (Stepped value) goes first is = (
   peer_of who (stepped_on routes who r (Stepped value)),
   record { first = looks_same follow who (route_to routes who.me) r ∙ first; rings = is.0; guards = is.1; takes = step_takes follow routes who storm r (Stepped value) goes },
   refl,
+  sym (first_place_is follow who r),
 )
 turn_takes follow routes who storm r (Cleared found) goes first is = (
   peer_of who (stepped_on routes who r (Cleared found)),
@@ -281,39 +293,41 @@ cleared_shown (access.State state) found = refl
 cleared_shown (access.Ring target vector) found = refl
 cleared_shown access.Nothing found = refl
 
-done_actions : (routes : List Route) (call : Option Call) (a : Access) (done : Done) (marks : List Mark) → shown (done_of routes call a done) ≡ acted_in routes (turn_of (mark.step_of a (value_done done) marks) done)
-done_actions routes call a (Stepped value) marks = step_actions routes call a value
-done_actions routes call a (Cleared found) marks = cleared_shown a found
-done_actions routes call a Rung marks = step_actions routes call a 0
+done_actions : (routes : List Route) (call : Option Call) (first : Bool) (a : Access) (done : Done) (marks : List Mark) → shown (done_of routes call a done) ≡ acted_in routes (turn_of first (mark.step_of a (value_done done) marks) done)
+done_actions routes call first a (Stepped value) marks = step_actions routes call a value
+done_actions routes call first a (Cleared found) marks = cleared_shown a found
+done_actions routes call first a Rung marks = step_actions routes call a 0
 
 pub shown_on : (routes : List Route) (list acts : List (Action Taken)) (turns : List Turn) (turn : Turn) → shown acts ≡ acted_in routes turn → shown list ≡ actions_in routes turns → shown (list ++ acts) ≡ actions_in routes (turns ++ turn ∷ [])
 shown_on routes list acts turns turn is made = map-append (seen_by touch_of) list acts ∙ ((λ i. made i ++ is i) ∙ sym (actions_snoc routes turns turn))
 
-pub actions_on : (routes : List Route) (list : List (Action Taken)) (turns : List Turn) (call : Option Call) (a : Access) (done : Done) (marks : List Mark) → shown list ≡ actions_in routes turns →
-    shown (list ++ done_of routes call a done) ≡ actions_in routes (turns ++ turn_of (mark.step_of a (value_done done) marks) done ∷ [])
-actions_on routes list turns call a done marks made = shown_on routes list (done_of routes call a done) turns _ (done_actions routes call a done marks) made
+pub actions_on : (routes : List Route) (list : List (Action Taken)) (turns : List Turn) (call : Option Call) (first : Bool) (a : Access) (done : Done) (marks : List Mark) → shown list ≡ actions_in routes turns →
+    shown (list ++ done_of routes call a done) ≡ actions_in routes (turns ++ turn_of first (mark.step_of a (value_done done) marks) done ∷ [])
+actions_on routes list turns call first a done marks made = shown_on routes list (done_of routes call a done) turns _ (done_actions routes call first a done marks) made
 
 -- what holds of the turns so far
 pub record Far (key : Key) (me : ℕ) (routes : List Route) (plan : Plan) (r : Runner) : Type 0 where
   pub takes : TakesTurns (who_in key me) (storm_in key me) routes (comes_to (automatic plan)) r.turns (running_of (who_in key me) r)
   pub made : shown r.actions ≡ actions_in routes r.turns
   pub own : AreOwn me (told_of me r.turns)
+  pub told : Told r (telling_in (told_of me r.turns))
 
 pub far_first : (key : Key) (me : ℕ) (routes : List Route) (plan : Plan) → Far key me routes plan (beginning plan.frames plan.expected)
-far_first key me routes plan = record { takes = takes_none (who_in key me) (storm_in key me) routes (comes_to (automatic plan)); made = sym (actions_none routes); own = subst (AreOwn me) (sym (told_none me)) refl }
+far_first key me routes plan = record { takes = takes_none (who_in key me) (storm_in key me) routes (comes_to (automatic plan)); made = sym (actions_none routes); own = subst (AreOwn me) (sym (told_none me)) refl; told = subst (λ ls. Told (beginning plan.frames plan.expected) (telling_in ls)) (sym (told_none me)) (subst (Told (beginning plan.frames plan.expected)) (sym (tells_none untold)) (told_first plan.frames plan.expected)) }
 
 -- one turn more
 turned_far : (key : Key) (me : ℕ) (routes : List Route) (plan : Plan) (r next : Runner) (acts : List (Action Taken)) (turn : Turn) → next.actions ≡ r.actions ++ acts → next.turns ≡ r.turns ++ turn ∷ [] → shown acts ≡ acted_in routes turn → AreOwn me (told_in me turn) →
-    TakesTurn (who_in key me) (storm_in key me) routes (running_of (who_in key me) r) turn (running_of (who_in key me) next) → Far key me routes plan r → Far key me routes plan next
-turned_far key me routes plan r next acts turn list turns is own takes far = record {
+    Told next (tells_all (telling_in (told_of me r.turns)) (told_in me turn)) → TakesTurn (who_in key me) (storm_in key me) routes (running_of (who_in key me) r) turn (running_of (who_in key me) next) → Far key me routes plan r → Far key me routes plan next
+turned_far key me routes plan r next acts turn list turns is own told takes far = record {
   takes = subst (λ (ts : List Turn). TakesTurns (who_in key me) (storm_in key me) routes (comes_to (automatic plan)) ts (running_of (who_in key me) next)) (sym turns)
       (takes_snoc (who_in key me) (storm_in key me) routes r.turns turn (comes_to (automatic plan)) (running_of (who_in key me) r) (running_of (who_in key me) next) far.takes takes);
   made = ap shown list ∙ (shown_on routes r.actions acts r.turns turn is far.made ∙ ap (actions_in routes) (sym turns));
   own = subst (AreOwn me) (sym (ap (told_of me) turns ∙ told_snoc me r.turns turn)) (all_append (is_own me) (told_of me r.turns) (told_in me turn) far.own own);
+  told = subst (λ ls. Told next (telling_in ls)) (sym (ap (told_of me) turns ∙ told_snoc me r.turns turn)) (subst (Told next) (sym (tells_both untold (told_of me r.turns) (told_in me turn))) told);
 }
 
-pub turned_turns : (routes : List Route) (who : Who) (r : Runner) (done : Done) → (turned routes who r done).turns ≡ r.turns ++ turn_of (step_at who (place_in who r) (value_done done)) done ∷ []
-turned_turns routes who r done = elim (holds_on done) as (λ b. (if b then held_on routes who r done else stepped_on routes who r done).turns ≡ r.turns ++ turn_of (step_at who (place_in who r) (value_done done)) done ∷ []) [ true ↦ refl | false ↦ refl ]
+pub turned_turns : (routes : List Route) (who : Who) (r : Runner) (done : Done) → (turned routes who r done).turns ≡ r.turns ++ turn_of (is_first r) (step_at who (place_in who r) (value_done done)) done ∷ []
+turned_turns routes who r done = elim (holds_on done) as (λ b. (if b then held_on routes who r done else stepped_on routes who r done).turns ≡ r.turns ++ turn_of (is_first r) (step_at who (place_in who r) (value_done done)) done ∷ []) [ true ↦ refl | false ↦ refl ]
 
 turned_actions : (routes : List Route) (who : Who) (r : Runner) (done : Done) → (turned routes who r done).actions ≡ r.actions ++ done_of routes (call_chosen (chosen r)) (access_at who (place_in who r)) done
 turned_actions routes who r done = elim (holds_on done) as (λ b. (if b then held_on routes who r done else stepped_on routes who r done).actions ≡ r.actions ++ done_of routes (call_chosen (chosen r)) (access_at who (place_in who r)) done) [ true ↦ refl | false ↦ refl ]
@@ -321,18 +335,18 @@ turned_actions routes who r done = elim (holds_on done) as (λ b. (if b then hel
 pub turned_rings : (routes : List Route) (who : Who) (r : Runner) (done : Done) → (turned routes who r done).ringing ≡ holds_on done
 turned_rings routes who r done = elim (holds_on done) as (λ b. (if b then held_on routes who r done else stepped_on routes who r done).ringing ≡ b) [ true ↦ refl | false ↦ refl ]
 
-pub turned_looked : (routes : List Route) (who : Who) (r : Runner) (done : Done) → (turned routes who r done).looked ≡ false
-turned_looked routes who r done = elim (holds_on done) as (λ b. (if b then held_on routes who r done else stepped_on routes who r done).looked ≡ false) [ true ↦ refl | false ↦ refl ]
+pub turned_looked : (routes : List Route) (who : Who) (r : Runner) (done : Done) → (turned routes who r done).looks ≡ 0
+turned_looked routes who r done = elim (holds_on done) as (λ b. (if b then held_on routes who r done else stepped_on routes who r done).looks ≡ 0) [ true ↦ refl | false ↦ refl ]
 
-pub far_on : PlacesFollowTrees → (key : Key) (me : ℕ) (routes : List Route) (plan : Plan) (r : Runner) (done : Done) → has_finished r ≡ false → looks_now (route_to routes me) (is_open r.place) r.looked ≡ false →
+pub far_on : PlacesFollowTrees → (key : Key) (me : ℕ) (routes : List Route) (plan : Plan) (r : Runner) (done : Done) → has_finished r ≡ false → looks_now (route_to routes me) (due_of (who_in key me) r) r.looks ≡ false →
     IsDone r.ringing (is_guarded (way_in routes (access_at (who_in key me) (place_in (who_in key me) r)))) done → HasFrames (place_in (who_in key me) r) → Far key me routes plan r → Far key me routes plan (turned routes (who_in key me) r done)
 far_on follow key me routes plan r done goes first is bytes far = let who = who_in key me in let place = place_in who r in let step = step_at who place (value_done done) in
-    turned_far key me routes plan r (turned routes who r done) (done_of routes (call_chosen (chosen r)) (access_at who place) done) (turn_of step done) (turned_actions routes who r done) (turned_turns routes who r done)
-    (done_actions routes (call_chosen (chosen r)) (access_at who place) done (marks_at who place (value_done done))) (turn_own me step done (marks_frames me who place (value_done done) bytes)) (turn_takes follow routes who (storm_in key me) r done goes first is) far
+    turned_far key me routes plan r (turned routes who r done) (done_of routes (call_chosen (chosen r)) (access_at who place) done) (turn_of (is_first r) step done) (turned_actions routes who r done) (turned_turns routes who r done)
+    (done_actions routes (call_chosen (chosen r)) (is_first r) (access_at who place) done (marks_at who place (value_done done))) (turn_own me (is_first r) step done (marks_frames me who place (value_done done) bytes)) (turned_told routes who r done (telling_in (told_of me r.turns)) far.told is) (turn_takes follow routes who (storm_in key me) r done goes first is) far
 
-pub far_look : PlacesFollowTrees → (key : Key) (me : ℕ) (routes : List Route) (plan : Plan) (r : Runner) (found : ℕ) → looks_now (route_to routes me) (is_open r.place) r.looked ≡ true → Far key me routes plan r → Far key me routes plan (looked_on r found)
+pub far_look : PlacesFollowTrees → (key : Key) (me : ℕ) (routes : List Route) (plan : Plan) (r : Runner) (found : ℕ) → looks_now (route_to routes me) (due_of (who_in key me) r) r.looks ≡ true → Far key me routes plan r → Far key me routes plan (looked_on r found)
 far_look follow key me routes plan r found looks far = let who = who_in key me in
-    turned_far key me routes plan r (looked_on r found) (looked found ∷ []) (Looks found) refl refl refl (look_own me found) (looks_same follow who (route_to routes me) r ∙ looks, refl) far
+    turned_far key me routes plan r (looked_on r found) (looked found ∷ []) (Looks found) refl refl refl (look_own me found) (looked_told me found r (telling_in (told_of me r.turns)) far.told) (looks_same follow who (route_to routes me) r ∙ looks, refl) far
 
 -- The end
 
@@ -374,7 +388,7 @@ pub there_first : (key : Key) (me : ℕ) (routes : List Route) (pass : Held) (pl
 there_first key me routes pass plan end from lists may = record {
   stands = record {
     stands = may.stands;
-    standing = ap (standing key me) accesses_none ∙ (standing_none key me ∙ (λ i. record { end = fresh; place = sym settled_closed i; accepted = sym (ap accepted_by no_marks ∙ none_accepted) i; delivered = sym (ap delivered_by no_marks ∙ none_delivered) i }));
+    standing = ap (standing key me) accesses_none ∙ (standing_none key me ∙ (λ i. record { end = fresh; place = sym settled_closed i; accepted = sym (ap accepted_by no_marks ∙ none_accepted) i; delivered = sym (ap delivered_by no_marks ∙ none_delivered) i; wake = at_rest }));
     bytes = tt;
     frames = may.frames;
     rings = λ e. absurd (clash e);
@@ -400,7 +414,7 @@ did key me routes plan r end far stands = record {
   after = running_of (who_in key me) r;
   takes = far.takes;
   made = far.made;
-  left = λ honest. record { end = ap (λ (s : Stance). s.end) stands.standing; accepted = ap (λ (s : Stance). s.accepted) stands.standing; delivered = ap (λ (s : Stance). s.delivered) stands.standing };
+  left = λ honest. record { end = ap (λ (s : Stance). s.end) stands.standing; accepted = ap (λ (s : Stance). s.accepted) stands.standing; delivered = ap (λ (s : Stance). s.delivered) stands.standing; asked = ap (λ (s : Stance). s.wake.asked) stands.standing ∙ sym far.told.asked; missed = ap (λ (s : Stance). s.wake.missed) stands.standing ∙ sym far.told.missed };
 }
 
 -- an error says nothing of an answer

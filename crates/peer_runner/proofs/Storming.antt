@@ -1,9 +1,10 @@
 -- A run of a storm.
 use Rattle.std.proofs.Common.{◌≡◌, ℕ, Bool, true, false, List, [], ◌∷◌, ◌++◌, refl, sym, ap, ◌∙◌, subst}
-use Rattle.std.specs.Prelude.{None, ◌&&◌, not, if◌then◌else◌, map}
+use Rattle.std.specs.Prelude.{None, ◌&&◌, nat_lt, if◌then◌else◌, map}
 use Rattle.split_ring.specs.declared.steps.Access.{Access}
 use Rattle.split_ring.specs.declared.steps.Access.TheVariants as access
 use Rattle.call_grammar.specs.Steps.{Step, step_of}
+use Rattle.call_grammar.specs.Calls.{Who}
 use Rattle.lawful_history.specs.Entries.{access_lines, mark_line}
 use Rattle.lawful_history.specs.Storm.{storm_after}
 use Rattle.record_text.specs.OwnLines.{is_own, AreOwn}
@@ -28,14 +29,14 @@ use Rattle.peer_runner.proofs.Turning.{made_held, done_one}
 use Rattle.peer_runner.proofs.Runs.{takes_none, takes_snoc, actions_none, actions_on, told_none, told_snoc, all_append, turn_own}
 
 -- a step that was drawn tells its access and nothing else, and its ring nothing
-plain_lines : (p : ℕ) (a : Access) → lines_of p a 0 [] ≡ access_lines p a 0
+plain_lines : (p : ℕ) (a : Access) → lines_of p true a 0 [] ≡ access_lines p a 0
 plain_lines p (access.Read word) = refl
 plain_lines p (access.Write word written) = refl
 plain_lines p (access.State state) = refl
 plain_lines p (access.Ring target vector) = refl
 plain_lines p access.Nothing = refl
 
-done_lines_of : (p : ℕ) (a : Access) (done : Done) → told_in p (turn_of (step_of a 0 []) done) ≡ drawn_lines p a done
+done_lines_of : (p : ℕ) (a : Access) (done : Done) → told_in p (turn_of true (step_of a 0 []) done) ≡ drawn_lines p a done
 done_lines_of p (access.Read word) (Stepped value) = plain_lines p (access.Read word)
 done_lines_of p (access.Write word written) (Stepped value) = plain_lines p (access.Write word written)
 done_lines_of p (access.State state) (Stepped value) = plain_lines p (access.State state)
@@ -48,8 +49,8 @@ done_lines_of p (access.Ring target vector) (Cleared found) = elim (is_set found
 done_lines_of p access.Nothing (Cleared found) = elim (is_set found) as (λ b. access_lines p access.Nothing 0 ++ map (mark_line p) (if b then [] else []) ≡ access_lines p access.Nothing 0) [ true ↦ refl | false ↦ refl ]
 done_lines_of p a Rung = refl
 
-pub drawn_told : (p : ℕ) (step : Step) (a : Access) (done : Done) → step ≡ step_of a 0 [] → drawn_lines p a done ≡ told_in p (turn_of step done)
-drawn_told p step a done is = sym (ap (λ (s : Step). told_in p (turn_of s done)) is ∙ done_lines_of p a done)
+pub drawn_told : (p : ℕ) (step : Step) (a : Access) (done : Done) → step ≡ step_of a 0 [] → drawn_lines p a done ≡ told_in p (turn_of true step done)
+drawn_told p step a done is = sym (ap (λ (s : Step). told_in p (turn_of true s done)) is ∙ done_lines_of p a done)
 
 pub drawn_access : (step : Step) (a : Access) → step ≡ step_of a 0 [] → step.access ≡ a
 drawn_access step a is = ap (λ (s : Step). s.access) is
@@ -63,21 +64,21 @@ storm_after_turn storm ahead new done gone is = is ∙ by (holds_on done)
     by false = gone
 
 -- no look comes before a step of a storm
-quiet_first : (own : Route) (x : ℕ) (ringing : Bool) → looks_next own (record { peer = storming x; looked = false; ringing = ringing }) ≡ false
-quiet_first own x ringing = elim own.enabled as (λ b. (b && (not false && false)) ≡ false) [ true ↦ refl | false ↦ refl ]
+quiet_first : (who : Who) (own : Route) (x : ℕ) (ringing : Bool) → looks_next who own (record { peer = storming x; looks = 0; ringing = ringing }) ≡ false
+quiet_first who own x ringing = elim own.enabled as (λ b. (b && nat_lt 0 0) ≡ false) [ true ↦ refl | false ↦ refl ]
 
 -- a storm between two turns
 abbrev pub blowing : ℕ → Bool → Running
-blowing x ringing = record { peer = storming x; looked = false; ringing = ringing }
+blowing x ringing = record { peer = storming x; looks = 0; ringing = ringing }
 
 cleared_blows : (x found : ℕ) → blowing (storm_on x (Cleared found)) (is_set found) ≡ cleared_to found (storming x) (storming (storm_after x))
-cleared_blows x found = elim (is_set found) as (λ b. blowing (if b then x else storm_after x) b ≡ (if b then record { peer = storming x; looked = false; ringing = true } else comes_to (storming (storm_after x)))) [ true ↦ refl | false ↦ refl ]
+cleared_blows x found = elim (is_set found) as (λ b. blowing (if b then x else storm_after x) b ≡ (if b then record { peer = storming x; looks = 0; ringing = true } else comes_to (storming (storm_after x)))) [ true ↦ refl | false ↦ refl ]
 
 storm_takes : (key : Key) (routes : List Route) (p x : ℕ) (ringing : Bool) (done : Done) → IsDone ringing (is_guarded (way_in routes (storm_in key p x).access)) done →
-    TakesTurn (who_in key p) (storm_in key p) routes (blowing x ringing) (turn_of (storm_in key p x) done) (blowing (storm_on x done) (holds_on done))
-storm_takes key routes p x ringing (Stepped value) is = (storming (storm_after x), record { first = quiet_first (route_to routes p) x ringing; rings = is.0; guards = is.1; takes = (refl, refl) }, refl)
-storm_takes key routes p x ringing (Cleared found) is = (storming (storm_after x), record { first = quiet_first (route_to routes p) x ringing; rings = is.0; guards = is.1; takes = (refl, refl) }, cleared_blows x found)
-storm_takes key routes p x ringing Rung is = (storming (storm_after x), record { first = quiet_first (route_to routes p) x ringing; rings = is.0; guards = is.1; takes = (refl, refl) }, refl)
+    TakesTurn (who_in key p) (storm_in key p) routes (blowing x ringing) (turn_of true (storm_in key p x) done) (blowing (storm_on x done) (holds_on done))
+storm_takes key routes p x ringing (Stepped value) is = (storming (storm_after x), record { first = quiet_first (who_in key p) (route_to routes p) x ringing; rings = is.0; guards = is.1; takes = (refl, refl) }, refl, refl)
+storm_takes key routes p x ringing (Cleared found) is = (storming (storm_after x), record { first = quiet_first (who_in key p) (route_to routes p) x ringing; rings = is.0; guards = is.1; takes = (refl, refl) }, cleared_blows x found)
+storm_takes key routes p x ringing Rung is = (storming (storm_after x), record { first = quiet_first (who_in key p) (route_to routes p) x ringing; rings = is.0; guards = is.1; takes = (refl, refl) }, refl)
 
 -- what holds of the turns so far, from the seed on
 pub record Blown (key : Key) (routes : List Route) (p seed at : ℕ) (ringing : Bool) (list : List (Action Taken)) (turns : List Turn) : Type 0 where
@@ -99,11 +100,11 @@ storm_stays x done held = ap (λ (b : Bool). if b then x else storm_after x) hel
 
 pub blown_on : (key : Key) (routes : List Route) (p seed at : ℕ) (ringing : Bool) (done : Done) (list : List (Action Taken)) (turns : List Turn) → IsDone ringing (is_guarded (way_in routes (storm_in key p at).access)) done → value_done done ≡ 0 →
     (holds_on done ≡ true → MayRingBy routes (storm_in key p at).access (list ++ done_of routes None (storm_in key p at).access done)) → Blown key routes p seed at ringing list turns →
-    Blown key routes p seed (storm_on at done) (holds_on done) (list ++ done_of routes None (storm_in key p at).access done) (turns ++ turn_of (storm_in key p at) done ∷ [])
+    Blown key routes p seed (storm_on at done) (holds_on done) (list ++ done_of routes None (storm_in key p at).access done) (turns ++ turn_of true (storm_in key p at) done ∷ [])
 blown_on key routes p seed at ringing done list turns is zero may b = let step = storm_in key p at in record {
-  takes = takes_snoc (who_in key p) (storm_in key p) routes turns (turn_of step done) (comes_to (storming seed)) (blowing at ringing) (blowing (storm_on at done) (holds_on done)) b.takes (storm_takes key routes p at ringing done is);
-  made = actions_on routes list turns None step.access done [] b.made ∙ ap (λ n. actions_in routes (turns ++ turn_of (step_of step.access n []) done ∷ [])) zero;
-  own = subst (AreOwn p) (sym (told_snoc p turns (turn_of step done))) (all_append (is_own p) (told_of p turns) (told_in p (turn_of step done)) b.own (turn_own p step done refl));
+  takes = takes_snoc (who_in key p) (storm_in key p) routes turns (turn_of true step done) (comes_to (storming seed)) (blowing at ringing) (blowing (storm_on at done) (holds_on done)) b.takes (storm_takes key routes p at ringing done is);
+  made = actions_on routes list turns None true step.access done [] b.made ∙ ap (λ n. actions_in routes (turns ++ turn_of true (step_of step.access n []) done ∷ [])) zero;
+  own = subst (AreOwn p) (sym (told_snoc p turns (turn_of true step done))) (all_append (is_own p) (told_of p turns) (told_in p (turn_of true step done)) b.own (turn_own p true step done refl));
   rings = λ held. subst (λ x. MayRingBy routes (storm_in key p x).access (list ++ done_of routes None step.access done)) (sym (storm_stays at done held)) (may held);
 }
 
@@ -122,7 +123,7 @@ blown_rings key routes p q seed at ringing list turns pass old same was b is =
 -- one turn more, by the pass
 pub blown_next : (key : Key) (routes : List Route) (p q seed at : ℕ) (ringing : Bool) (done : Done) (list : List (Action Taken)) (turns : List Turn) (pass new : Held) → q ≡ p → IsDone ringing (is_guarded (way_in routes (storm_in key q at).access)) done → value_done done ≡ 0 →
     (holds_on done ≡ true → MayRingBy routes (storm_in key q at).access (front new.lists)) → new ≡ held pass.table_id p ((list ++ done_of routes None (storm_in key p at).access done) ∷ []) → Blown key routes p seed at ringing list turns →
-    Blown key routes p seed (storm_on at done) (holds_on done) (list ++ done_of routes None (storm_in key p at).access done) (turns ++ turn_of (storm_in key p at) done ∷ [])
+    Blown key routes p seed (storm_on at done) (holds_on done) (list ++ done_of routes None (storm_in key p at).access done) (turns ++ turn_of true (storm_in key p at) done ∷ [])
 blown_next key routes p q seed at ringing done list turns pass new same is zero may now b = blown_on key routes p seed at ringing done list turns
     (subst (λ k. IsDone ringing (is_guarded (way_in routes (storm_in key k at).access)) done) same is) zero
     (λ held. subst (λ (h : Held). MayRingBy routes (storm_in key p at).access (front h.lists)) now (subst (λ k. MayRingBy routes (storm_in key k at).access (front new.lists)) same (may held))) b

@@ -1,6 +1,6 @@
 -- A turn of an automatic peer.
 use Rattle.std.proofs.Common.{◌≡◌, ℕ, zero, suc, ◌+◌, ◌<◌, ◌≤◌, inl, inr, All, Bool, true, false, List, [], ◌∷◌, ◌++◌, length, refl, sym, ap, ◌∙◌, subst, arith, append-nil, append_assoc}
-use Rattle.std.specs.Prelude.{Option, Some, None, drop, map, if◌then◌else◌}
+use Rattle.std.specs.Prelude.{Option, Some, None, is_some, not, drop, map, if◌then◌else◌}
 use Rattle.std.proofs.lemmas.Grind.{flat_map-append}
 use Rattle.std.proofs.lemmas.List.Elements.{recursion_from_All, All-from_recursion}
 use Rattle.split_ring.specs.declared.steps.Access.{Access}
@@ -16,7 +16,7 @@ use Rattle.call_grammar.specs.Automatic as automatic
 use Rattle.call_grammar.specs.Reach.{InReach}
 use Rattle.call_grammar.specs.Polls.{is_last}
 use Rattle.call_grammar.specs.Places.{Place, Closed, Downed, RingingOffer, RingingPoll, AtUsedIndex, AtAvailIndex, first_place, access_at, next_place, step_at, marks_at, is_open}
-use Rattle.link_endpoint.specs.Engine.{Engine, offered, delivered}
+use Rattle.link_endpoint.specs.Engine.{Engine, is_busy, offered, delivered}
 use Rattle.link_endpoint.specs.Stands.{StandsAt, Takes, marks_between}
 use Rattle.link_endpoint.specs.Plan.{Plan, IsChoice}
 use Rattle.link_endpoint.specs.declared.auto.Choice.{Choice}
@@ -31,7 +31,7 @@ use Rattle.step_lines.proofs.Marks.{busy_next, marks_now}
 use Rattle.peer_runner.specs.declared.key.Key.{Key}
 use Rattle.peer_runner.specs.Held.{Held}
 use Rattle.peer_runner.specs.Keys.{who_in, ground_of, honest_of, IsFit}
-use Rattle.peer_runner.specs.Standings.{Taken, taken, Stance, begun_if, moved, settled_place, settled, after_access, accepted_once, delivered_once, accepted_by, delivered_by, standing, Begins, IsNext}
+use Rattle.peer_runner.specs.Standings.{Taken, taken, Wake, wake_after, Stance, begun_if, moved, settled_place, settled, after_access, accepted_once, delivered_once, accepted_by, delivered_by, standing, Begins, IsNext}
 use Rattle.peer_runner.specs.Actions.{Action, accessed, looked, accesses_in}
 use Rattle.peer_runner.specs.Passes.{added, held}
 use Rattle.doorbell_irq.specs.declared.route.Route.{Route}
@@ -42,7 +42,7 @@ use Rattle.peer_runner.specs.declared.ways.Done.TheVariants.{Stepped, Cleared, R
 use Rattle.peer_runner.specs.Ways.{way_to, is_guarded, way_in, rung_by}
 use Rattle.peer_runner.specs.Rules.{front}
 use Rattle.peer_runner.specs.Turns.{Turn, Looks, Makes, is_end, is_quiet, lines_of, cleared_by, marks_of, told_in}
-use Rattle.peer_runner.specs.Runners.{Runner, IsFrame, chosen, round_on, call_chosen, finishes, has_finished, place_for, place_in, Matches, call_of, call_told, IsBegun, IsBegunIf, touches, taken_of, MayMake, made, value_done, done_of, turn_of, done_lines, IsDone, holds_on, MayRingBy, looked_on, held_on, stepped_on, turned, told_on, marks_in, stance_of, Stands, IsThere, Turns}
+use Rattle.peer_runner.specs.Runners.{Runner, IsFrame, chosen, round_on, call_chosen, finishes, has_finished, place_for, place_in, Matches, call_of, call_told, IsBegun, IsBegunIf, touches, taken_of, MayMake, made, value_done, done_of, turn_of, done_lines, IsDone, holds_on, MayRingBy, Closes, looked_on, is_first, held_on, woken_on, stepped_on, turned, told_on, marks_in, stance_of, Stands, IsThere, Turns}
 use Rattle.peer_runner.proofs.Standings.{standing_snoc, stand_honest}
 use Rattle.peer_runner.proofs.Actions.{accesses_none, accesses_both, accesses_snoc}
 use Rattle.peer_runner.proofs.Keys.{clash, section_ends}
@@ -92,13 +92,14 @@ pub record Untouching (who : Who) (end : End) (place : Place) (value : ℕ) : Ty
   pub settles : settled_place place ≡ Closed
   pub accepts : accepted_by (marks_at who place value) ≡ []
   pub delivers : delivered_by (marks_at who place value) ≡ []
+  pub wakes : (accepted delivered : ℕ) (wake : Wake) → wake_after accepted delivered wake (access_at who place) (marks_at who place value) ≡ wake
 
 untouching : (who : Who) (end : End) (place : Place) (value : ℕ) → is_open place ≡ true → touches (access_at who place) ≡ false → Untouching who end place value
 unfolding settled_place accepted_by delivered_by
 untouching who end Closed value is still = absurd (cc)
-untouching who end Downed value is still = record { end_is = refl; next = refl; settles = refl; accepts = refl; delivers = refl }
-untouching who end RingingOffer value is still = record { end_is = refl; next = refl; settles = refl; accepts = refl; delivers = refl }
-untouching who end RingingPoll value is still = record { end_is = refl; next = refl; settles = refl; accepts = refl; delivers = refl }
+untouching who end Downed value is still = record { end_is = refl; next = refl; settles = refl; accepts = refl; delivers = refl; wakes = λ accepted delivered wake. refl }
+untouching who end RingingOffer value is still = record { end_is = refl; next = refl; settles = refl; accepts = refl; delivers = refl; wakes = λ accepted delivered wake. refl }
+untouching who end RingingPoll value is still = record { end_is = refl; next = refl; settles = refl; accepts = refl; delivers = refl; wakes = λ accepted delivered wake. refl }
 untouching who end place value is still = absurd (cc)
 
 pub settled_closed : settled_place Closed ≡ Closed
@@ -266,7 +267,7 @@ touch_done routes ringing a (Stepped value) touch is = refl
 touch_done routes ringing a (Cleared found) touch is = absurd (clash (sym (guarded_still routes a is.1) ∙ touch))
 touch_done routes ringing a Rung touch is = absurd (clash (sym (guarded_still routes a is.1) ∙ touch))
 
-held_guards : (ringing guarded : Bool) (done : Done) → IsDone ringing guarded done → holds_on done ≡ true → guarded ≡ true
+pub held_guards : (ringing guarded : Bool) (done : Done) → IsDone ringing guarded done → holds_on done ≡ true → guarded ≡ true
 held_guards ringing guarded (Stepped value) is held = absurd (clash held)
 held_guards ringing guarded (Cleared found) is held = is.1
 held_guards ringing guarded Rung is held = absurd (clash held)
@@ -289,15 +290,15 @@ marks_snoc [] turn = append-nil (marks_of turn)
 marks_snoc (t ∷ turns) turn = ap (λ ms. marks_of t ++ ms) (marks_snoc turns turn) ∙ sym (append_assoc (marks_of t) (marks_in turns) (marks_of turn))
 
 -- the marks of a step stand at its end
-turn_marks : (step : Step) (done : Done) → holds_on done ≡ false → marks_of (turn_of step done) ≡ step.marks
-turn_marks step (Stepped value) is = refl
-turn_marks step (Cleared found) is = ap (λ (b : Bool). if b then [] else step.marks) is
-turn_marks step Rung is = refl
+turn_marks : (first : Bool) (step : Step) (done : Done) → holds_on done ≡ false → marks_of (turn_of first step done) ≡ step.marks
+turn_marks first step (Stepped value) is = refl
+turn_marks first step (Cleared found) is = ap (λ (b : Bool). if b then [] else step.marks) is
+turn_marks first step Rung is = refl
 
-held_marks : (step : Step) (done : Done) → holds_on done ≡ true → marks_of (turn_of step done) ≡ []
-held_marks step (Stepped value) is = absurd (clash is)
-held_marks step (Cleared found) is = ap (λ (b : Bool). if b then [] else step.marks) is
-held_marks step Rung is = absurd (clash is)
+held_marks : (first : Bool) (step : Step) (done : Done) → holds_on done ≡ true → marks_of (turn_of first step done) ≡ []
+held_marks first step (Stepped value) is = absurd (clash is)
+held_marks first step (Cleared found) is = ap (λ (b : Bool). if b then [] else step.marks) is
+held_marks first step Rung is = absurd (clash is)
 
 pub accepted_append : (marks more : List Mark) → accepted_by (marks ++ more) ≡ accepted_by marks ++ accepted_by more
 unfolding accepted_by
@@ -311,27 +312,27 @@ abbrev value_in : Who → Runner → Done → Step
 value_in who r done = step_at who (place_in who r) (value_done done)
 
 marks_on : (routes : List Route) (who : Who) (r : Runner) (done : Done) → holds_on done ≡ false → marks_in (stepped_on routes who r done).turns ≡ marks_in r.turns ++ marks_at who (place_in who r) (value_done done)
-marks_on routes who r done goes = marks_snoc r.turns (turn_of (value_in who r done) done) ∙ ap (λ ms. marks_in r.turns ++ ms) (turn_marks (value_in who r done) done goes)
+marks_on routes who r done goes = marks_snoc r.turns (turn_of (is_first r) (value_in who r done) done) ∙ ap (λ ms. marks_in r.turns ++ ms) (turn_marks (is_first r) (value_in who r done) done goes)
 
-accepted_on : (routes : List Route) (who : Who) (r : Runner) (done : Done) → holds_on done ≡ false → (stance_of (stepped_on routes who r done)).accepted ≡ (stance_of r).accepted ++ accepted_by (marks_at who (place_in who r) (value_done done))
+pub accepted_on : (routes : List Route) (who : Who) (r : Runner) (done : Done) → holds_on done ≡ false → (stance_of (stepped_on routes who r done)).accepted ≡ (stance_of r).accepted ++ accepted_by (marks_at who (place_in who r) (value_done done))
 accepted_on routes who r done goes = ap accepted_by (marks_on routes who r done goes) ∙ accepted_append (marks_in r.turns) (marks_at who (place_in who r) (value_done done))
 
-delivered_on : (routes : List Route) (who : Who) (r : Runner) (done : Done) → holds_on done ≡ false → (stance_of (stepped_on routes who r done)).delivered ≡ (stance_of r).delivered ++ delivered_by (marks_at who (place_in who r) (value_done done))
+pub delivered_on : (routes : List Route) (who : Who) (r : Runner) (done : Done) → holds_on done ≡ false → (stance_of (stepped_on routes who r done)).delivered ≡ (stance_of r).delivered ++ delivered_by (marks_at who (place_in who r) (value_done done))
 delivered_on routes who r done goes = ap delivered_by (marks_on routes who r done goes) ∙ delivered_append (marks_in r.turns) (marks_at who (place_in who r) (value_done done))
 
-abbrev at : End → Place → List (List ℕ) → List (List ℕ) → Stance
-at end place one other = record { end = end; place = place; accepted = one; delivered = other }
+abbrev at : End → Place → List (List ℕ) → List (List ℕ) → Wake → Stance
+at end place one other wake = record { end = end; place = place; accepted = one; delivered = other; wake = wake }
 
 -- the stance after the turn
-begun_at : (who : Who) (r : Runner) (call : Option Call) (place : Place) → (begun_if who (stance_of r) call).place ≡ place → begun_if who (stance_of r) call ≡ at r.end place (stance_of r).accepted (stance_of r).delivered
-begun_at who r None place is = ap (λ (p : Place). at r.end p (stance_of r).accepted (stance_of r).delivered) is
-begun_at who r (Some call) place is = ap (λ (p : Place). at r.end p (stance_of r).accepted (stance_of r).delivered) is
+begun_at : (who : Who) (r : Runner) (call : Option Call) (place : Place) → (begun_if who (stance_of r) call).place ≡ place → begun_if who (stance_of r) call ≡ at r.end place (stance_of r).accepted (stance_of r).delivered r.wake
+begun_at who r None place is = ap (λ (p : Place). at r.end p (stance_of r).accepted (stance_of r).delivered r.wake) is
+begun_at who r (Some call) place is = ap (λ (p : Place). at r.end p (stance_of r).accepted (stance_of r).delivered r.wake) is
 
 after_touch : (routes : List Route) (who : Who) (r : Runner) (value : ℕ) → touches (access_at who (place_in who r)) ≡ true →
     after_access who (stance_of r) (taken (call_chosen (chosen r)) (access_at who (place_in who r)) value) ≡ stance_of (stepped_on routes who r (Stepped value))
 after_touch routes who r value touch = let place = place_in who r in let here = begun_at who r (call_chosen (chosen r)) place (settled_same who r touch) in
     ap (λ (s : Stance). settled (moved who s value)) here ∙
-    (λ i. at (end_after r.end (step_at who place value)) (settled_place (next_place who place value)) (sym (accepted_on routes who r (Stepped value) refl) i) (sym (delivered_on routes who r (Stepped value) refl) i))
+    (λ i. at (end_after r.end (step_at who place value)) (settled_place (next_place who place value)) (sym (accepted_on routes who r (Stepped value) refl) i) (sym (delivered_on routes who r (Stepped value) refl) i) (woken_on who r (Stepped value)))
 
 -- an access to the region leads the peer where the turn does
 stands_touched : (key : Key) (me : ℕ) (routes : List Route) (value : ℕ) (r : Runner) → honest_of key me ≡ true → touches (access_at (who_in key me) (place_in (who_in key me) r)) ≡ true → standing key me (accesses_in r.actions) ≡ stance_of r →
@@ -356,17 +357,21 @@ stands_stepped key me routes ringing done r hp opens is goes stands = let who = 
     let other : (stance_of r).delivered ≡ (stance_of (stepped_on routes who r done)).delivered = sym (delivered_on routes who r done goes ∙ (ap (λ l. (stance_of r).delivered ++ l) u.delivers ∙ append-nil (stance_of r).delivered)) in
     let spot : settled_place r.place ≡ settled_place (next_place who place (value_done done)) = settled_before who r (is_open r.place) refl u.settles ∙ sym (ap settled_place u.next ∙ settled_closed) in
     stays_standing key me r (done_of routes call a done) (not_touched routes call a done f) stands
-    ∙ (λ i. at (sym u.end_is i) (spot i) (one i) (other i)))
+    ∙ (λ i. at (sym u.end_is i) (spot i) (one i) (other i) (sym (u.wakes (length (stance_of r).accepted) (length (stance_of r).delivered) r.wake) i)))
+
+-- a turn that is held has no marks
+pub held_same : (routes : List Route) (who : Who) (r : Runner) (done : Done) → holds_on done ≡ true → marks_in r.turns ≡ marks_in (held_on routes who r done).turns
+held_same routes who r done held = sym (marks_snoc r.turns (turn_of (is_first r) (value_in who r done) done) ∙ (ap (λ ms. marks_in r.turns ++ ms) (held_marks (is_first r) (value_in who r done) done held) ∙ append-nil (marks_in r.turns)))
 
 stands_held : (key : Key) (me : ℕ) (routes : List Route) (done : Done) (r : Runner) → touches (access_at (who_in key me) (place_in (who_in key me) r)) ≡ false → holds_on done ≡ true → standing key me (accesses_in r.actions) ≡ stance_of r →
     standing key me (accesses_in (held_on routes (who_in key me) r done).actions) ≡ stance_of (held_on routes (who_in key me) r done)
 stands_held key me routes done r still held stands = let who = who_in key me in let a = access_at who (place_in who r) in let call = call_chosen (chosen r) in
-    let same : marks_in r.turns ≡ marks_in (held_on routes who r done).turns = sym (marks_snoc r.turns (turn_of (value_in who r done) done) ∙ (ap (λ ms. marks_in r.turns ++ ms) (held_marks (value_in who r done) done held) ∙ append-nil (marks_in r.turns))) in
-    stays_standing key me r (done_of routes call a done) (not_touched routes call a done still) stands ∙ (λ i. at r.end (settled_place r.place) (accepted_by (same i)) (delivered_by (same i)))
+    let same = held_same routes who r done held in
+    stays_standing key me r (done_of routes call a done) (not_touched routes call a done still) stands ∙ (λ i. at r.end (settled_place r.place) (accepted_by (same i)) (delivered_by (same i)) r.wake)
 
 stands_looked : (key : Key) (me : ℕ) (r : Runner) (found : ℕ) → standing key me (accesses_in r.actions) ≡ stance_of r → standing key me (accesses_in (looked_on r found).actions) ≡ stance_of (looked_on r found)
 stands_looked key me r found stands = let same : marks_in r.turns ≡ marks_in (looked_on r found).turns = sym (marks_snoc r.turns (Looks found) ∙ append-nil (marks_in r.turns)) in
-    stays_standing key me r (looked found ∷ []) (looked_none found) stands ∙ (λ i. at r.end (settled_place r.place) (accepted_by (same i)) (delivered_by (same i)))
+    stays_standing key me r (looked found ∷ []) (looked_none found) stands ∙ (λ i. at r.end (settled_place r.place) (accepted_by (same i)) (delivered_by (same i)) r.wake)
   where
     looked_none : (found : ℕ) → accesses_in {A = Taken} (looked found ∷ []) ≡ []
     looked_none found = accesses_snoc [] (looked found) ∙ ap (λ l. l ++ []) accesses_none
@@ -556,25 +561,30 @@ given_line me (access.State state) value = refl
 given_line me (access.Ring target vector) value = refl
 given_line me access.Nothing value = refl
 
--- the lines that were told are those of the turn
-step_lines : (who : Who) (place : Place) (value : ℕ) → lines_of who.me (access_at who place) value (marks_at who place value) ≡ told_in who.me (Makes (step_at who place value))
-step_lines who place value = ap (λ ls. if is_quiet (access_at who place) (marks_at who place value) then [] else ls ++ map (mark_line who.me) (marks_at who place value)) (given_line who.me (access_at who place) value)
+-- a choice is made before the first step of a call
+pub first_is : (choice : Option Choice) (busy : Bool) (r : Runner) → Closes choice busy → busy ≡ is_open r.place → is_some choice ≡ is_first r
+first_is None busy r closes same = ap not (sym closes ∙ same)
+first_is (Some answer) busy r closes same = ap not (sym closes ∙ same)
 
-done_told : (who : Who) (place : Place) (done : Done) → holds_on done ≡ false → done_lines who.me (access_at who place) done (marks_at who place (value_done done)) ≡ told_in who.me (turn_of (step_at who place (value_done done)) done)
-done_told who place (Stepped value) goes = step_lines who place value
-done_told who place (Cleared found) goes = (λ i. given_line who.me (access_at who place) 0 i ++ map (mark_line who.me) (sym (turn_marks (step_at who place 0) (Cleared found) goes) i))
-done_told who place Rung goes = refl
+-- the lines that were told are those of the turn
+step_lines : (who : Who) (first : Bool) (place : Place) (value : ℕ) → lines_of who.me first (access_at who place) value (marks_at who place value) ≡ told_in who.me (Makes first (step_at who place value))
+step_lines who first place value = ap (λ ls. if is_quiet first (access_at who place) (marks_at who place value) then [] else ls ++ map (mark_line who.me) (marks_at who place value)) (given_line who.me (access_at who place) value)
+
+done_told : (who : Who) (first : Bool) (place : Place) (done : Done) → holds_on done ≡ false → done_lines who.me first (access_at who place) done (marks_at who place (value_done done)) ≡ told_in who.me (turn_of first (step_at who place (value_done done)) done)
+done_told who first place (Stepped value) goes = step_lines who first place value
+done_told who first place (Cleared found) goes = (λ i. given_line who.me (access_at who place) 0 i ++ map (mark_line who.me) (sym (turn_marks first (step_at who place 0) (Cleared found) goes) i))
+done_told who first place Rung goes = refl
 
 pub lines_told : (who : Who) (r : Runner) (done : Done) (e1 e2 : Engine) (a : Access) (notes : List Note) → holds_on done ≡ false → Takes e1 (value_done done) notes e2 → StandsAt e1 who r.end (place_in who r) → a ≡ access_at who (place_in who r) →
-    done_lines who.me a done (marks_between (offered e2) (delivered e2) notes) ≡ told_on who r done
+    done_lines who.me (is_first r) a done (marks_between (offered e2) (delivered e2) notes) ≡ told_on who r done
 lines_told who r done e1 e2 a notes goes took stands at = let place = place_in who r in let value = value_done done in
-    ap (λ ms. done_lines who.me a done ms) (marks_now e1 e2 value notes who r.end place took stands (busy_next e1 e2 value notes who r.end place took stands))
-    ∙ (ap (λ (x : Access). done_lines who.me x done (marks_at who place value)) at ∙ done_told who place done goes)
+    ap (λ ms. done_lines who.me (is_first r) a done ms) (marks_now e1 e2 value notes who r.end place took stands (busy_next e1 e2 value notes who r.end place took stands))
+    ∙ (ap (λ (x : Access). done_lines who.me (is_first r) x done (marks_at who place value)) at ∙ done_told who (is_first r) place done goes)
 
-held_line : (me : ℕ) (step : Step) (done : Done) → holds_on done ≡ true → told_in me (turn_of step done) ≡ access_lines me step.access step.value
-held_line me step (Stepped value) held = absurd (clash held)
-held_line me step (Cleared found) held = ap (λ ms. access_lines me step.access step.value ++ map (mark_line me) ms) (held_marks step (Cleared found) held) ∙ append-nil (access_lines me step.access step.value)
-held_line me step Rung held = absurd (clash held)
+pub held_line : (me : ℕ) (first : Bool) (step : Step) (done : Done) → holds_on done ≡ true → told_in me (turn_of first step done) ≡ access_lines me step.access step.value
+held_line me first step (Stepped value) held = absurd (clash held)
+held_line me first step (Cleared found) held = ap (λ ms. access_lines me step.access step.value ++ map (mark_line me) ms) (held_marks first step (Cleared found) held) ∙ append-nil (access_lines me step.access step.value)
+held_line me first step Rung held = absurd (clash held)
 
 held_value : (done : Done) → holds_on done ≡ true → value_done done ≡ 0
 held_value (Stepped value) held = absurd (clash held)
@@ -583,7 +593,7 @@ held_value Rung held = absurd (clash held)
 
 pub lines_held : (who : Who) (r : Runner) (done : Done) (a : Access) → holds_on done ≡ true → a ≡ access_at who (place_in who r) → access_lines who.me a 0 ≡ told_on who r done
 lines_held who r done a held at = let place = place_in who r in ap (λ (x : Access). access_lines who.me x 0) at ∙ (given_line who.me (access_at who place) 0
-    ∙ (ap (λ n. access_lines who.me (access_at who place) (value_given (access_at who place) n)) (sym (held_value done held)) ∙ sym (held_line who.me (value_in who r done) done held)))
+    ∙ (ap (λ n. access_lines who.me (access_at who place) (value_given (access_at who place) n)) (sym (held_value done held)) ∙ sym (held_line who.me (is_first r) (value_in who r done) done held)))
 
 -- the runner after a turn, as it was held or not
 pub turned_held : (routes : List Route) (who : Who) (r : Runner) (done : Done) → holds_on done ≡ true → turned routes who r done ≡ held_on routes who r done

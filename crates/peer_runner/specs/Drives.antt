@@ -27,7 +27,8 @@ use Rattle.peer_runner.specs.Passes.{shown}
 use Rattle.doorbell_irq.specs.declared.route.Route.{Route}
 use Rattle.peer_runner.specs.declared.ways.Done.{Done}
 use Rattle.peer_runner.specs.Ways.{AreRoutesOf}
-use Rattle.peer_runner.specs.Turns.{Turn, Running, comes_to, TakesTurns, actions_in}
+use Rattle.peer_runner.specs.Turns.{Turn, Running, comes_to, TakesTurns, actions_in, told_of}
+use Rattle.peer_runner.specs.RunningRecord.{telling_in}
 use Rattle.peer_runner.specs.OwnRecord.{IsToldBy, told_all, start_of, turns_of}
 use Rattle.peer_runner.specs.Runners.{IsFrame, start_auto, holds_on, marks_in}
 
@@ -68,6 +69,8 @@ pub record IsLeft (key : Key) (p : ℕ) (list : List (Action Taken)) (taken : Li
   pub end : (standing key p (accesses_in list)).end ≡ after.end
   pub accepted : (standing key p (accesses_in list)).accepted ≡ accepted_by (marks_in taken)
   pub delivered : (standing key p (accesses_in list)).delivered ≡ delivered_by (marks_in taken)
+  pub asked : (standing key p (accesses_in list)).wake.asked ≡ (telling_in (told_of p taken)).asked
+  pub missed : (standing key p (accesses_in list)).wake.missed ≡ (telling_in (told_of p taken)).missed
 
 -- In a scenario
 

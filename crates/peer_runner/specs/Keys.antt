@@ -3,7 +3,7 @@
 use Rattle.std.specs.Prelude.{◌≡◌, ℕ, ◌*◌, ◌<◌, ◌≤◌, ◌==◌, if◌then◌else◌, Bool, false, []}
 use Rattle.std.specs.Int.{bit_at}
 use Rattle.section_map.specs.Geometry.{IsShape, section_start}
-use Rattle.split_ring.specs.Layout.{Sizes, has_events, IsQueue}
+use Rattle.split_ring.specs.Layout.{IsQueue}
 use Rattle.scenario_text.specs.Scenario.{World, is_link}
 use Rattle.call_grammar.specs.Calls.{Who}
 use Rattle.doorbell_irq.specs.DeviceRules.{is_enabled, is_one_shot, bytes_after}
@@ -44,7 +44,3 @@ pub record IsMadeFor (world : World) (key : Key) : Type 0 where
   pub honest : (p : ℕ) → honest_of key p ≡ is_link world p
   pub enabled : (p : ℕ) → p < world.geometry.peers → bit_at key.enabled p ≡ one_if (is_enabled (bytes_after (devices_of world) (events_of world.acts) p))
   pub one_shot : (p : ℕ) → p < world.geometry.peers → bit_at key.one_shot p ≡ one_if (is_one_shot (bytes_after (devices_of world) (events_of world.acts) p))
-
--- a link whose peers can't be run yet: one with events, as each version after the first has them
-abbrev pub is_unbuilt : Sizes → Bool
-is_unbuilt sizes = has_events sizes

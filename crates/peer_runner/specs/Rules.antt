@@ -1,17 +1,18 @@
 -- What a table keeps, and what its steps tell.
-use Rattle.std.specs.Prelude.{ℕ, ◌≡◌, ◌≢◌, ◌+◌, ◌-◌, ◌^◌, ◌<◌, ◌≤◌, ◌↔◌, true, false, Option, List, [], ◌∷◌, ◌++◌, length, slice_index, take, drop, replicate, get_or}
+use Rattle.std.specs.Prelude.{ℕ, ◌≡◌, ◌≢◌, ◌+◌, ◌-◌, ◌^◌, ◌<◌, ◌≤◌, ◌↔◌, true, false, Option, List, [], ◌∷◌, ◌++◌, length, slice_index, take, drop, replicate, get_or, Contains}
 use Rattle.std.specs.Int.{bit_at}
 use mathlib.Core.Option.{some}
 use lib.ListN.{get_elem?}
 use Rattle.atomic_table.specs.Table.{State, Me, Step}
 use Rattle.section_map.specs.Geometry.{word_count}
+use Rattle.split_ring.specs.Layout.{has_events}
 use Rattle.split_ring.specs.declared.steps.Access.TheVariants as access
 use Rattle.call_grammar.specs.Calls.{Call}
 use Rattle.call_grammar.specs.Places.{Refusing}
 use Rattle.peer_runner.specs.declared.key.Key.{Key}
 use Rattle.peer_runner.specs.declared.view.View.{View}
 use Rattle.peer_runner.specs.Keys.{honest_of, IsFit}
-use Rattle.peer_runner.specs.Standings.{Taken, taken, standing}
+use Rattle.peer_runner.specs.Standings.{At, Taken, taken, standing}
 use Rattle.peer_runner.specs.Actions.{Action, accessed, rang, looked, cleared, accesses_in}
 use Rattle.peer_runner.specs.Interrupts.{all_words, IsOneShot, MayRing, Interrupts, AreRung}
 pub use Rattle.peer_runner.specs.Made.{IsOwned}
@@ -106,9 +107,14 @@ pub record AreTold (key : Key) (acc : ℕ → List Taken) : Type 0 where
   pub deliver : (p : ℕ) → p < 2 → (rest : List (List ℕ)) × ((standing key (1 - p) (acc (1 - p))).accepted ≡ (standing key p (acc p)).delivered ++ rest)
   pub never_refuse : (p : ℕ) → p < 2 → ((standing key p (acc p)).place ≢ Refusing) × ((standing key p (acc p)).end.handshake.mark ≡ false)
 
--- where all lists are here, interrupts were rung as they say; and of two honest peers, that they agree
+-- where one of them asks for a doorbell at a frame, the other's offer of that frame didn't end without one
+abbrev pub NoneIsMissed : Key → (ℕ → List Taken) → Type 0
+NoneIsMissed key acc = (p number : ℕ) → p < 2 → (standing key p (acc p)).wake.asked ≡ At number → ¬ Contains (standing key (1 - p) (acc (1 - p))).wake.missed number
+
+-- where all lists are here, interrupts were rung as they say; and of two honest peers, that they agree, and in a link with events ring where the other asks
 pub record TellsAll (key : Key) (acc : ℕ → List (Action Taken)) : Type 0 where
   pub pair : honest_of key 0 ≡ true → honest_of key 1 ≡ true → AreTold key (accesses_by acc)
+  pub woken : has_events key.queue ≡ true → honest_of key 0 ≡ true → honest_of key 1 ≡ true → NoneIsMissed key (accesses_by acc)
   pub rung : AreRung key acc
 
 abbrev pub Told : Key → ℕ → List (List (Action Taken)) → Type 0

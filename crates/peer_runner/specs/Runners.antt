@@ -1,5 +1,5 @@
 -- An automatic peer between two turns, as the code steps it: its place in the open call, where the own record has what is left of it.
-use Rattle.std.specs.Prelude.{ℕ, ◌≡◌, ◌+◌, ◌<◌, ◌≤◌, ◌&&◌, not, Bool, true, false, if◌then◌else◌, Option, Some, None, All, List, [], ◌∷◌, ◌++◌, length, map}
+use Rattle.std.specs.Prelude.{ℕ, ◌≡◌, ◌+◌, ◌<◌, ◌≤◌, ◌&&◌, not, nat_lt, Bool, true, false, if◌then◌else◌, Option, Some, None, All, List, [], ◌∷◌, ◌++◌, length, map}
 use Rattle.split_ring.specs.declared.steps.Access.{Access}
 use Rattle.split_ring.specs.declared.steps.Access.TheVariants as access
 use Rattle.section_map.specs.Geometry.{word_count}
@@ -24,12 +24,12 @@ use Rattle.step_lines.specs.Places.{HasFrames}
 use Rattle.peer_runner.specs.declared.key.Key.{Key}
 use Rattle.peer_runner.specs.Held.{Held}
 use Rattle.peer_runner.specs.Keys.{who_in}
-use Rattle.peer_runner.specs.Standings.{Taken, taken, Stance, settled_place, accepted_by, delivered_by, standing}
+use Rattle.peer_runner.specs.Standings.{Taken, taken, Wake, at_rest, wake_after, Stance, settled_place, accepted_by, delivered_by, standing}
 use Rattle.peer_runner.specs.Actions.{Action, accessed, looked, accesses_in}
 use Rattle.peer_runner.specs.Passes.{added}
 use Rattle.peer_runner.specs.Ways.{way_to, is_guarded, rung_by}
 use Rattle.peer_runner.specs.Interrupts.{MayRing}
-use Rattle.peer_runner.specs.Turns.{Turn, Looks, Makes, Clears, Rings, Running, is_end, is_set, cleared_by, lines_of, marks_of, told_in}
+use Rattle.peer_runner.specs.Turns.{Turn, Looks, Makes, Clears, Rings, Running, sleeps, looks_after, is_end, is_set, cleared_by, lines_of, marks_of, told_in}
 use Rattle.peer_runner.specs.declared.ways.Done.{Done}
 use Rattle.peer_runner.specs.declared.ways.Done.TheVariants.{Stepped, Cleared, Rung}
 use Rattle.doorbell_irq.specs.declared.route.Route.{Route}
@@ -38,29 +38,30 @@ use Rattle.doorbell_irq.specs.declared.route.Route.{Route}
 abbrev pub IsFrame : ℕ → List ℕ → Type 0
 IsFrame mtu frame = (14 ≤ length frame) × (length frame ≤ mtu + 18) × All (λ byte. byte < 256) frame
 
--- its end, its place in the open call, what it has to do, whether it has looked since its last step, whether a ring is to come, its list of actions, and the
--- turns that it took
+-- its end, its place in the open call, what it has to do, how many looks it has taken since its last step, whether a ring is to come, its list of actions, the
+-- turns that it took, and which doorbells it asks for and didn't ring
 pub record Runner : Type 0 where
   pub end : End
   pub place : Place
   pub auto : Auto
-  pub looked : Bool
+  pub looks : ℕ
   pub ringing : Bool
   pub actions : List (Action Taken)
   pub turns : List Turn
+  pub wake : Wake
 
 abbrev pub start_auto : List (List ℕ) → ℕ → Auto
 start_auto frames expected = record { frames = frames; expected = expected; delivered = 0; round = Anew }
 
 abbrev pub beginning : List (List ℕ) → ℕ → Runner
-beginning frames expected = record { end = fresh; place = Closed; auto = start_auto frames expected; looked = false; ringing = false; actions = []; turns = [] }
+beginning frames expected = record { end = fresh; place = Closed; auto = start_auto frames expected; looks = 0; ringing = false; actions = []; turns = []; wake = at_rest }
 
 -- the peer of the own record
 abbrev pub peer_of : Who → Runner → Peer
 peer_of who r = record { end = r.end; left = remaining who r.place; waiting = []; driver = Chooses r.auto }
 
 abbrev pub running_of : Who → Runner → Running
-running_of who r = record { peer = peer_of who r; looked = r.looked; ringing = r.ringing }
+running_of who r = record { peer = peer_of who r; looks = r.looks; ringing = r.ringing }
 
 -- What it chooses where no call is open
 
@@ -178,10 +179,10 @@ done_of routes begins a (Stepped value) = taken_of routes begins a value
 done_of routes begins a (Cleared found) = cleared_by a found
 done_of routes begins a Rung = taken_of routes begins a 0
 
-abbrev pub turn_of : Step → Done → Turn
-turn_of step (Stepped value) = Makes step
-turn_of step (Cleared found) = Clears step found
-turn_of step Rung = Rings step
+abbrev pub turn_of : (first : Bool) → Step → Done → Turn
+turn_of first step (Stepped value) = Makes first step
+turn_of first step (Cleared found) = Clears step found
+turn_of first step Rung = Rings step
 
 -- a clear is done first of a doorbell at a peer in one-shot mode, and then, where it found the bit, the ring
 abbrev pub IsDone : (ringing guarded : Bool) → Done → Type 0
@@ -190,10 +191,10 @@ IsDone ringing guarded (Cleared found) = (ringing ≡ false) × (guarded ≡ tru
 IsDone ringing guarded Rung = (ringing ≡ true) × (guarded ≡ true)
 
 -- the lines of it, with these marks
-abbrev pub done_lines : ℕ → Access → Done → List Mark → List Line
-done_lines p a (Stepped value) marks = lines_of p a value marks
-done_lines p a (Cleared found) marks = access_lines p a 0 ++ map (mark_line p) marks
-done_lines p a Rung marks = map (mark_line p) marks
+abbrev pub done_lines : ℕ → (first : Bool) → Access → Done → List Mark → List Line
+done_lines p first a (Stepped value) marks = lines_of p first a value marks
+done_lines p first a (Cleared found) marks = access_lines p a 0 ++ map (mark_line p) marks
+done_lines p first a Rung marks = map (mark_line p) marks
 
 -- and of a step without marks, whose access is no read
 abbrev pub drawn_lines : ℕ → Access → Done → List Line
@@ -212,31 +213,51 @@ MayRingBy routes other list = ⊥
 
 -- A turn
 
--- it looks first
-abbrev pub looks_now : Route → (busy before : Bool) → Bool
-looks_now own busy before = own.enabled && (not before && not busy)
+-- it looks first, where so many looks are due and so many were taken
+abbrev pub due_at : Who → End → Place → Auto → ℕ
+due_at who end place auto = if is_open place then 0 else if sleeps who end auto then 64 else 1
+
+abbrev pub due_of : Who → Runner → ℕ
+due_of who r = due_at who r.end r.place r.auto
+
+abbrev pub looks_now : Route → (due looks : ℕ) → Bool
+looks_now own due looks = own.enabled && nat_lt looks due
 
 abbrev pub looked_on : Runner → ℕ → Runner
-looked_on r found = record r { looked = true; actions = r.actions ++ looked found ∷ []; turns = r.turns ++ Looks found ∷ [] }
+looked_on r found = record r { looks = looks_after r.looks found; actions = r.actions ++ looked found ∷ []; turns = r.turns ++ Looks found ∷ [] }
+
+-- its step is the first of a call
+abbrev pub is_first : Runner → Bool
+is_first r = not (is_open r.place)
 
 -- the step goes on, or is held for its ring
 abbrev pub held_on : List Route → Who → Runner → Done → Runner
 held_on routes who r done = record r {
-  looked = false;
+  looks = 0;
   ringing = true;
   actions = r.actions ++ done_of routes (call_chosen (chosen r)) (access_at who (place_in who r)) done;
-  turns = r.turns ++ turn_of (step_at who (place_in who r) (value_done done)) done ∷ [];
+  turns = r.turns ++ turn_of (is_first r) (step_at who (place_in who r) (value_done done)) done ∷ [];
 }
+
+-- all marks of turns
+unfoldable pub marks_in : List Turn → List Mark
+marks_in [] = []
+marks_in (turn ∷ turns) = marks_of turn ++ marks_in turns
+
+abbrev pub woken_on : Who → Runner → Done → Wake
+woken_on who r done = wake_after (length (accepted_by (marks_in r.turns))) (length (delivered_by (marks_in r.turns))) r.wake (access_at who (place_in who r))
+    (marks_at who (place_in who r) (value_done done))
 
 abbrev pub stepped_on : List Route → Who → Runner → Done → Runner
 stepped_on routes who r done = record {
   end = end_after r.end (step_at who (place_in who r) (value_done done));
   place = next_place who (place_in who r) (value_done done);
   auto = counted_all (round_on r.auto (chosen r)) (marks_at who (place_in who r) (value_done done));
-  looked = false;
+  looks = 0;
   ringing = false;
   actions = r.actions ++ done_of routes (call_chosen (chosen r)) (access_at who (place_in who r)) done;
-  turns = r.turns ++ turn_of (step_at who (place_in who r) (value_done done)) done ∷ [];
+  turns = r.turns ++ turn_of (is_first r) (step_at who (place_in who r) (value_done done)) done ∷ [];
+  wake = woken_on who r done;
 }
 
 abbrev pub turned : List Route → Who → Runner → Done → Runner
@@ -244,16 +265,11 @@ turned routes who r done = if holds_on done then held_on routes who r done else 
 
 -- the lines that it tells
 abbrev pub told_on : Who → Runner → Done → List Line
-told_on who r done = told_in who.me (turn_of (step_at who (place_in who r) (value_done done)) done)
-
--- all marks of turns
-unfoldable pub marks_in : List Turn → List Mark
-marks_in [] = []
-marks_in (turn ∷ turns) = marks_of turn ++ marks_in turns
+told_on who r done = told_in who.me (turn_of (is_first r) (step_at who (place_in who r) (value_done done)) done)
 
 -- where its list leaves the runner
 abbrev pub stance_of : Runner → Stance
-stance_of r = record { end = r.end; place = settled_place r.place; accepted = accepted_by (marks_in r.turns); delivered = delivered_by (marks_in r.turns) }
+stance_of r = record { end = r.end; place = settled_place r.place; accepted = accepted_by (marks_in r.turns); delivered = delivered_by (marks_in r.turns); wake = r.wake }
 
 -- the endpoint stands where the runner is, its list leaves it there, its frames may be offered, and a ring that is to come may be made
 pub record Stands (key : Key) (me : ℕ) (routes : List Route) (r : Runner) (end : Engine) : Type 0 where

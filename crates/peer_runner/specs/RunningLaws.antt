@@ -4,12 +4,13 @@ use Rattle.std.specs.Prelude.{ℕ, suc, ◌≡◌, ◌≢◌, ◌+◌, ◌-◌, 
 use Rattle.atomic_table.specs.Table.{State}
 use Rattle.section_map.specs.Geometry.{section_start, word_count}
 use Rattle.section_map.specs.MayWrite.{InSection}
-use Rattle.split_ring.specs.Layout.{Sizes, size_of, limit_of, slot_of, place_of, word_place, Address, Entry, Slot}
+use Rattle.split_ring.specs.Layout.{Sizes, has_events, size_of, limit_of, word_place, Address, Entry}
+use Rattle.split_ring.specs.Frames.{start_of, takes_of, AreApart}
 use Rattle.split_ring.specs.Ranges.{IsAvailEntry, IsDescAddress, IsDescLength}
 use Rattle.split_ring.specs.Spelling.{address_at, id_at, Spells}
 use Rattle.link_handshake.specs.declared.Phase.TheVariants.{Reset, Init, Ready, Run}
 use Rattle.link_handshake.specs.declared.Phase.{Phase}
-use Rattle.call_grammar.specs.Words.{words_for}
+use Rattle.call_grammar.specs.Words.{words_for, lengths_of}
 use Rattle.call_grammar.specs.Ends.{End}
 use Rattle.call_grammar.specs.Offers.{Job}
 use Rattle.call_grammar.specs.Places.{Place, Clearing, Setting, Refusing, AtUsedIndex, AtUsedId, Filling, WritingLow, WritingHigh, WritingLength, WritingFlags, WritingEntry, WritingIndex, AtEntry, AtLow, AtHigh, AtLength, AtFlags, AtWord, GivingId, GivingLength, GivingIndex}
@@ -20,7 +21,7 @@ use Rattle.pair_sessions.specs.Once.{IsStill}
 use Rattle.peer_runner.specs.declared.key.Key.{Key}
 use Rattle.peer_runner.specs.declared.view.View.{View}
 use Rattle.peer_runner.specs.Keys.{honest_of}
-use Rattle.peer_runner.specs.Standings.{Taken, standing, IsNext}
+use Rattle.peer_runner.specs.Standings.{At, Taken, standing, IsNext}
 use Rattle.peer_runner.specs.Made.{IsOwned, Made}
 use Rattle.peer_runner.specs.Actions.{Action}
 use Rattle.peer_runner.specs.Interrupts.{Interrupts}
@@ -97,14 +98,14 @@ pub record PhasesShow (key : Key) (memory : ℕ → ℕ) (acc : ℕ → List Tak
   pub empty : (end_by key acc p).handshake.phase ≡ Ready →
       ((end_by key acc p).accepted ≡ []) × ((end_by key acc p).freed ≡ 0) × ((end_by key acc p).delivered ≡ []) × ((end_by key acc p).returned ≡ 0)
 
--- no more frames are in flight than may be; and in a session each of them is spelled, in the descriptor of its number and that one's own slot
+-- no more frames are in flight than may be; and in a session each of them is spelled, in the descriptor of its number and from the byte at which it starts
 pub record FlightIsSpelled (key : Key) (memory : ℕ → ℕ) (acc : ℕ → List Taken) (p : ℕ) : Type 0 where
   pub least : freed_by key acc p ≤ length (end_by key acc p).accepted
   pub most : length (end_by key acc p).accepted ≤ freed_by key acc p + limit_of key.queue
   pub spelled : (k : ℕ) → InSession (end_by key acc p).handshake.phase → freed_by key acc p ≤ k → k < length (end_by key acc p).accepted →
       Spells key.queue (section_words key memory p) k (k % limit_of key.queue) (frame_at (end_by key acc p).accepted k)
-  pub own_slot : (k : ℕ) → InSession (end_by key acc p).handshake.phase → freed_by key acc p ≤ k → k < length (end_by key acc p).accepted →
-      address_at key.queue (section_words key memory p) (k % limit_of key.queue) ≡ place_of key.queue (Slot (k % limit_of key.queue))
+  pub own_place : (k : ℕ) → InSession (end_by key acc p).handshake.phase → freed_by key acc p ≤ k → k < length (end_by key acc p).accepted →
+      address_at key.queue (section_words key memory p) (k % limit_of key.queue) ≡ start_of key.queue (lengths_of (end_by key acc p).accepted) k
 
 -- an offer is open whose frame isn't accepted yet
 abbrev pub offered_at : Place → Option Job
@@ -123,20 +124,23 @@ offered_at place = None
 abbrev pub IsAmong : (first count : ℕ) → ℕ → Type 0
 IsAmong first count w = (first ≤ w) × (w < first + count)
 
--- the word is one of the slot, of the descriptor or of the entry of the frame with this number
-abbrev pub IsOfFrame : Key → ℕ → ℕ → ℕ → Type 0
-IsOfFrame key p number w =
-    IsAmong (section_start key.geometry p + word_place key.queue (Slot (number % limit_of key.queue))) (slot_of key.queue / 4) w ⊎
-    (IsAmong (section_start key.geometry p + word_place key.queue (Address (number % limit_of key.queue))) 4 w ⊎
-    (w ≡ section_start key.geometry p + word_place key.queue (Entry (number % size_of key.queue))))
+-- the word is one of those that the job's frame takes, of the descriptor of its number or of its entry
+abbrev pub IsOfFrame : Key → ℕ → Job → ℕ → Type 0
+IsOfFrame key p job w =
+    IsAmong (section_start key.geometry p + start_of key.queue job.lengths job.number / 4) (takes_of key.queue (length job.frame) / 4) w ⊎
+    (IsAmong (section_start key.geometry p + word_place key.queue (Address (job.number % limit_of key.queue))) 4 w ⊎
+    (w ≡ section_start key.geometry p + word_place key.queue (Entry (job.number % size_of key.queue))))
 
--- An open offer is of the frame after those accepted. It has stored in the slot, the descriptor and the entry of that number alone; and as soon as it has stored
--- anything, no frame in flight has that descriptor
+-- An open offer is of the frame after those accepted. It has stored in the bytes that this frame takes, in the descriptor and in the entry of its number alone;
+-- and as soon as it has stored anything, no frame in flight has that descriptor or any of those bytes
 pub record OfferStores (key : Key) (acc : ℕ → List Taken) (p : ℕ) (job : Job) : Type 0 where
   pub number : job.number ≡ length (end_by key acc p).accepted
-  pub stores : (w : ℕ) → Contains (call_writes (acc p)) w → IsOfFrame key p job.number w
+  pub lengths : job.lengths ≡ lengths_of ((end_by key acc p).accepted ++ job.frame ∷ [])
+  pub stores : (w : ℕ) → Contains (call_writes (acc p)) w → IsOfFrame key p job w
   pub free : (k : ℕ) → call_writes (acc p) ≢ [] → freed_by key acc p ≤ k → k < length (end_by key acc p).accepted →
       k % limit_of key.queue ≢ job.number % limit_of key.queue
+  pub apart : (k : ℕ) → call_writes (acc p) ≢ [] → freed_by key acc p ≤ k → k < length (end_by key acc p).accepted →
+      AreApart (start_of key.queue job.lengths k) (takes_of key.queue (job.lengths k)) (start_of key.queue job.lengths job.number) (takes_of key.queue (length job.frame))
 
 abbrev pub OpenOfferStores : Key → (ℕ → ℕ) → (ℕ → List Taken) → ℕ → Type 0
 OpenOfferStores key memory acc p = (job : Job) → offered_at (place_by key acc p) ≡ Some job → OfferStores key acc p job
@@ -201,6 +205,11 @@ pub record PairKeeps (key : Key) (memory : ℕ → ℕ) (acc : ℕ → List Take
   pub named : (k : ℕ) → freed_by key acc p ≤ k → k < (end_by key acc (1 - p)).returned →
       id_at key.queue (section_words key memory (1 - p)) k ≡ k % limit_of key.queue
 
+-- In a link with events: where one asks for a doorbell at a frame, the other's offer of that frame, once it has read the event, goes on to the doorbell
+abbrev pub AskedIsRung : Key → (ℕ → ℕ) → (ℕ → List Taken) → ℕ → Type 0
+AskedIsRung key memory acc p = has_events key.queue ≡ true → (number : ℕ) → (standing key p (acc p)).wake.asked ≡ At number →
+    ¬ Contains (standing key (1 - p) (acc (1 - p))).wake.missed number
+
 -- What an open call holds of what it has read is what the other has written: the used index stands for frames that were returned; and the available index for
 -- frames that were accepted, and the entry, the address, the length and the words are those of the frame with this number
 abbrev pub IsAsSent : Sizes → (accepted : List (List ℕ)) (returned : ℕ) → Place → Type 0
@@ -208,14 +217,14 @@ IsAsSent q accepted returned (AtUsedId job freed more) = freed + suc more ≤ re
 IsAsSent q accepted returned (AtEntry number more) = number + suc more ≤ length accepted
 IsAsSent q accepted returned (AtLow number more entry) = (number + suc more ≤ length accepted) × (entry ≡ number % limit_of q)
 IsAsSent q accepted returned (AtHigh number more entry low) =
-    (number + suc more ≤ length accepted) × (entry ≡ number % limit_of q) × (low ≡ place_of q (Slot (number % limit_of q)))
+    (number + suc more ≤ length accepted) × (entry ≡ number % limit_of q) × (low ≡ start_of q (lengths_of accepted) number)
 IsAsSent q accepted returned (AtLength number more entry address) =
-    (number + suc more ≤ length accepted) × (entry ≡ number % limit_of q) × (address ≡ place_of q (Slot (number % limit_of q)))
+    (number + suc more ≤ length accepted) × (entry ≡ number % limit_of q) × (address ≡ start_of q (lengths_of accepted) number)
 IsAsSent q accepted returned (AtFlags number more entry address bytes) =
-    (number + suc more ≤ length accepted) × (entry ≡ number % limit_of q) × (address ≡ place_of q (Slot (number % limit_of q))) ×
+    (number + suc more ≤ length accepted) × (entry ≡ number % limit_of q) × (address ≡ start_of q (lengths_of accepted) number) ×
     (bytes ≡ length (frame_at accepted number))
 IsAsSent q accepted returned (AtWord number more entry address bytes read words) =
-    (number + suc more ≤ length accepted) × (entry ≡ number % limit_of q) × (address ≡ place_of q (Slot (number % limit_of q))) ×
+    (number + suc more ≤ length accepted) × (entry ≡ number % limit_of q) × (address ≡ start_of q (lengths_of accepted) number) ×
     (bytes ≡ length (frame_at accepted number)) × (read ≡ first_words (frame_at accepted number) (length read))
 IsAsSent q accepted returned (GivingId number more entry) = (number + suc more ≤ length accepted) × (entry ≡ number % limit_of q)
 IsAsSent q accepted returned (GivingLength number more) = number + suc more ≤ length accepted

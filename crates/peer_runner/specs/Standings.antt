@@ -1,8 +1,9 @@
 -- What a peer does to the words, and where its list of accesses leaves it.
-use Rattle.std.specs.Prelude.{ℕ, ◌≡◌, ◌≢◌, true, Option, Some, None, List, [], ◌∷◌, ◌++◌, if◌then◌else◌}
+use Rattle.std.specs.Prelude.{ℕ, zero, suc, ◌≡◌, ◌≢◌, ◌-◌, true, Option, Some, None, List, [], ◌∷◌, ◌++◌, length, if◌then◌else◌}
 use Rattle.std.specs.List.{flat_map}
 use Rattle.split_ring.specs.declared.steps.Access.{Access}
-use Rattle.call_grammar.specs.Steps.{Mark, Accept, Deliver, value_given}
+use Rattle.split_ring.specs.declared.steps.Access.TheVariants as access
+use Rattle.call_grammar.specs.Steps.{Mark, Accept, Look, Deliver, Done, Over, value_given}
 use Rattle.call_grammar.specs.Ends.{End, fresh, end_after}
 use Rattle.call_grammar.specs.Calls.{Who, Call, Stop}
 use Rattle.call_grammar.specs.Places.{Place, Closed, Downed, RingingOffer, RingingPoll, first_place, access_at, next_place, marks_at, step_at, is_open}
@@ -45,15 +46,58 @@ accepted_by marks = flat_map accepted_once marks
 unfoldable pub delivered_by : List Mark → List (List ℕ)
 delivered_by marks = flat_map delivered_once marks
 
--- an end, its place in the open call, and all frames that it accepted and delivered, in whichever sessions
+-- What a receiver asks for: nothing; nothing yet, as a look of its open poll found no frame, and the poll goes on to write the event; or a doorbell at the frame
+-- with this number, as that poll's second look found none either
+pub data Asked : Type 0 where
+  Nowhere : Asked
+  Asking : Asked
+  At : (number : ℕ) → Asked
+
+-- after a look that found so many frames, where its poll goes on; and after one that found none, with which the poll is done
+abbrev pub asked_on : Asked → (count : ℕ) → Asked
+asked_on was zero = Asking
+asked_on Asking (suc more) = Nowhere
+asked_on was (suc more) = was
+
+abbrev pub asked_last : (delivered : ℕ) → Asked → Asked
+asked_last delivered Asking = At delivered
+asked_last delivered was = was
+
+-- by the marks of a read, where so many frames were delivered
+abbrev pub asked_by : (delivered : ℕ) → Asked → List Mark → Asked
+asked_by delivered was (Look count ∷ []) = asked_on was count
+asked_by delivered was (Look count ∷ Done ∷ []) = asked_last delivered was
+asked_by delivered was marks = was
+
+-- the numbers of the frames for which no doorbell was rung, where so many were accepted: the read of the other's event ended the offer of the last one
+abbrev pub missed_by : (accepted : ℕ) → List ℕ → List Mark → List ℕ
+missed_by accepted was (Over ∷ []) = was ++ (accepted - 1) ∷ []
+missed_by accepted was marks = was
+
+-- what a peer asks for, and for which of its frames it didn't ring
+pub record Wake : Type 0 where
+  pub asked : Asked
+  pub missed : List ℕ
+
+abbrev pub at_rest : Wake
+at_rest = record { asked = Nowhere; missed = [] }
+
+-- after a step with these marks; a write of State ends what was asked for
+abbrev pub wake_after : (accepted delivered : ℕ) → Wake → Access → List Mark → Wake
+wake_after accepted delivered wake (access.Read word) marks = record { asked = asked_by delivered wake.asked marks; missed = missed_by accepted wake.missed marks }
+wake_after accepted delivered wake (access.State state) marks = record wake { asked = Nowhere }
+wake_after accepted delivered wake _ marks = wake
+
+-- an end, its place in the open call, all frames that it accepted and delivered, in whichever sessions, and which doorbells it asks for and didn't ring
 pub record Stance : Type 0 where
   pub end : End
   pub place : Place
   pub accepted : List (List ℕ)
   pub delivered : List (List ℕ)
+  pub wake : Wake
 
 abbrev pub outset : Stance
-outset = record { end = fresh; place = Closed; accepted = []; delivered = [] }
+outset = record { end = fresh; place = Closed; accepted = []; delivered = []; wake = at_rest }
 
 -- a call begins, and the step at its place is taken
 abbrev pub begun : Who → Stance → Call → Stance
@@ -65,6 +109,7 @@ moved who s value = record {
   place = next_place who s.place value;
   accepted = s.accepted ++ accepted_by (marks_at who s.place value);
   delivered = s.delivered ++ delivered_by (marks_at who s.place value);
+  wake = wake_after (length s.accepted) (length s.delivered) s.wake (access_at who s.place) (marks_at who s.place value);
 }
 
 -- a doorbell and a call that is down touch no word, and leave the call closed

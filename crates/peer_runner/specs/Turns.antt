@@ -1,5 +1,5 @@
 -- The turns of a running peer.
-use Rattle.std.specs.Prelude.{ℕ, zero, suc, ◌≡◌, ◌==◌, ◌&&◌, not, Bool, true, false, if◌then◌else◌, List, [], ◌∷◌, ◌++◌, map}
+use Rattle.std.specs.Prelude.{ℕ, zero, suc, ◌≡◌, ◌+◌, ◌==◌, ◌&&◌, nat_lt, Bool, true, false, if◌then◌else◌, List, [], ◌∷◌, ◌++◌, map}
 use Rattle.std.specs.List.{flat_map}
 use Rattle.std.specs.Int.{bit_at}
 use Rattle.split_ring.specs.declared.steps.Access.{Access}
@@ -8,34 +8,35 @@ use Rattle.call_grammar.specs.Steps.{Mark, Saw, Reclaim, Full, Look, Done, Over,
 use Rattle.call_grammar.specs.Trees.{CallTree, Ended, Goes}
 use Rattle.call_grammar.specs.Ends.{End}
 use Rattle.call_grammar.specs.Calls.{Who}
-use Rattle.call_grammar.specs.Automatic.{Choice, IsFinished, choice_of}
+use Rattle.call_grammar.specs.Automatic.{Choice, IsFinished, is_empty, choice_of}
+use Rattle.link_endpoint.specs.Stands.{is_armed}
 use Rattle.lawful_history.specs.declared.line.Line.{Line}
 use Rattle.lawful_history.specs.declared.line.Line.TheVariants as line
 use Rattle.lawful_history.specs.Entries.{access_lines, mark_line}
-use Rattle.lawful_history.specs.Peers.{Driver, Chooses, Storms, Peer, opened, stepped}
+use Rattle.lawful_history.specs.Peers.{Auto, Driver, Chooses, Storms, Peer, opened, stepped}
 use Rattle.lawful_history.specs.Storm.{storm_after}
 use Rattle.doorbell_irq.specs.declared.route.Route.{Route}
 use Rattle.peer_runner.specs.Standings.{Touch, touch}
 use Rattle.peer_runner.specs.Actions.{Action, accessed, looked, cleared}
 use Rattle.peer_runner.specs.Ways.{route_to, way_to, is_guarded, way_in, rung_by}
 
--- A turn: a look, which finds this word; a step with all that it does; and of the step of a doorbell at a peer in one-shot mode the clear, which finds this
--- word, and the ring behind it
+-- A turn: a look, which finds this word; a step with all that it does, which is the first of its call or a later one; and of the step of a doorbell at a peer
+-- in one-shot mode the clear, which finds this word, and the ring behind it
 pub data Turn : Type 0 where
   Looks : (found : ℕ) → Turn
-  Makes : (step : Step) → Turn
+  Makes : (first : Bool) → (step : Step) → Turn
   Clears : (step : Step) → (found : ℕ) → Turn
   Rings : (step : Step) → Turn
 
--- A running peer between two turns: its end, its calls and its driver; whether it has looked since its last step; and whether the ring of a doorbell is to
--- come, whose clear found the bit
+-- A running peer between two turns: its end, its calls and its driver; how many looks it has taken since its last step, or 64 where one of them found a bit;
+-- and whether the ring of a doorbell is to come, whose clear found the bit
 pub record Running : Type 0 where
   pub peer : Peer
-  pub looked : Bool
+  pub looks : ℕ
   pub ringing : Bool
 
 abbrev pub comes_to : Peer → Running
-comes_to peer = record { peer = peer; looked = false; ringing = false }
+comes_to peer = record { peer = peer; looks = 0; ringing = false }
 
 -- Which turn is to come
 
@@ -44,17 +45,24 @@ abbrev pub TakesStep : Who → (ℕ → Step) → Driver → Peer → Step → P
 TakesStep who storm (Storms x) peer step after = (step ≡ storm x) × (after ≡ record peer { driver = Storms (storm_after x) })
 TakesStep who storm _ peer step after = (left : CallTree) × Goes (opened who peer).left step left × (after ≡ stepped (opened who peer) step left)
 
--- an automatic peer that takes interrupts looks once before each choice
-abbrev pub is_choosing : CallTree → Driver → Bool
-is_choosing Ended (Chooses auto) = true
-is_choosing _ _ = false
+-- an automatic peer sleeps where it waits armed and no frame is left
+abbrev pub sleeps : Who → End → Auto → Bool
+sleeps who end auto = is_armed who end && is_empty auto.frames
 
-abbrev pub looks_next : Route → Running → Bool
-looks_next own run = own.enabled && (not run.looked && is_choosing run.peer.left run.peer.driver)
+-- one that takes interrupts looks before each choice: once; or, where it sleeps, until a look has found a bit, at most 64 times
+abbrev pub looks_due : Who → End → CallTree → Driver → ℕ
+looks_due who end Ended (Chooses auto) = if sleeps who end auto then 64 else 1
+looks_due who end _ _ = 0
+
+abbrev pub looks_after : (looks found : ℕ) → ℕ
+looks_after looks found = if found == 0 then looks + 1 else 64
+
+abbrev pub looks_next : Who → Route → Running → Bool
+looks_next who own run = own.enabled && nat_lt run.looks (looks_due who run.peer.end run.peer.left run.peer.driver)
 
 -- the next step leads the peer there: no look comes first; and its ring is to come, and its doorbell is at a peer in one-shot mode, or not
 pub record StepsTo (who : Who) (storm : ℕ → Step) (routes : List Route) (run : Running) (ringing guarded : Bool) (step : Step) (after : Peer) : Type 0 where
-  pub first : looks_next (route_to routes who.me) run ≡ false
+  pub first : looks_next who (route_to routes who.me) run ≡ false
   pub rings : run.ringing ≡ ringing
   pub guards : is_guarded (way_in routes step.access) ≡ guarded
   pub takes : TakesStep who storm run.peer.driver run.peer step after
@@ -64,11 +72,17 @@ abbrev pub is_set : ℕ → Bool
 is_set found = bit_at found 0 == 1
 
 abbrev pub cleared_to : (found : ℕ) → (before after : Peer) → Running
-cleared_to found before after = if is_set found then record { peer = before; looked = false; ringing = true } else comes_to after
+cleared_to found before after = if is_set found then record { peer = before; looks = 0; ringing = true } else comes_to after
+
+-- no call is open
+abbrev pub has_ended : CallTree → Bool
+has_ended Ended = true
+has_ended _ = false
 
 abbrev pub TakesTurn : Who → (ℕ → Step) → List Route → Running → Turn → Running → Type 0
-TakesTurn who storm routes run (Looks found) after = (looks_next (route_to routes who.me) run ≡ true) × (after ≡ record run { looked = true })
-TakesTurn who storm routes run (Makes step) after = (next : Peer) × StepsTo who storm routes run false false step next × (after ≡ comes_to next)
+TakesTurn who storm routes run (Looks found) after = (looks_next who (route_to routes who.me) run ≡ true) × (after ≡ record run { looks = looks_after run.looks found })
+TakesTurn who storm routes run (Makes first step) after =
+    (next : Peer) × StepsTo who storm routes run false false step next × (after ≡ comes_to next) × (first ≡ has_ended run.peer.left)
 TakesTurn who storm routes run (Clears step found) after =
     (next : Peer) × StepsTo who storm routes run false true step next × (after ≡ cleared_to found run.peer next)
 TakesTurn who storm routes run (Rings step) after = (next : Peer) × StepsTo who storm routes run true true step next × (after ≡ comes_to next)
@@ -81,10 +95,6 @@ TakesTurns who storm routes run (turn ∷ turns) after = (mid : Running) × Take
 abbrev pub is_end : Choice → Bool
 is_end IsFinished = true
 is_end _ = false
-
-abbrev pub has_ended : CallTree → Bool
-has_ended Ended = true
-has_ended _ = false
 
 abbrev pub rests : End → Driver → Bool
 rests end (Chooses auto) = is_end (choice_of end.handshake.phase auto.round auto.frames auto.delivered auto.expected)
@@ -109,7 +119,7 @@ cleared_by other found = []
 
 abbrev pub acted_in : List Route → Turn → List (Action Touch)
 acted_in routes (Looks found) = looked found ∷ []
-acted_in routes (Makes step) = acted_by routes step.access step.value
+acted_in routes (Makes first step) = acted_by routes step.access step.value
 acted_in routes (Clears step found) = cleared_by step.access found
 acted_in routes (Rings step) = acted_by routes step.access step.value
 
@@ -126,32 +136,32 @@ unfoldable pub heard : ℕ → ℕ → ℕ → List Line
 heard zero me found = []
 heard (suc n) me found = heard n me found ++ heard_bit me n found
 
--- a call is quiet that finds nothing, all in one step, a read: a Tick that ends without a State step, a Poll that finds no frame, an Offer that reclaims none
--- and meets a full ring
+-- a call is quiet that finds nothing, all in one step, a read: a Tick that ends without a State step, a Poll that finds no frame and asks for no doorbell, an
+-- Offer that reclaims none and meets a full ring
 abbrev pub finds_nothing : List Mark → Bool
 finds_nothing (Saw value ∷ Over ∷ []) = true
 finds_nothing (Look zero ∷ Done ∷ []) = true
 finds_nothing (Reclaim zero ∷ Full ∷ []) = true
 finds_nothing _ = false
 
-abbrev pub is_quiet : Access → List Mark → Bool
-is_quiet (access.Read word) marks = finds_nothing marks
-is_quiet other marks = false
+abbrev pub is_quiet : (first : Bool) → Access → List Mark → Bool
+is_quiet first (access.Read word) marks = first && finds_nothing marks
+is_quiet first other marks = false
 
 -- a step is told by its access and its marks, unless its call is quiet
-abbrev pub lines_of : ℕ → Access → ℕ → List Mark → List Line
-lines_of p a value marks = if is_quiet a marks then [] else access_lines p a value ++ map (mark_line p) marks
+abbrev pub lines_of : ℕ → (first : Bool) → Access → ℕ → List Mark → List Line
+lines_of p first a value marks = if is_quiet first a marks then [] else access_lines p a value ++ map (mark_line p) marks
 
 -- the doorbell's line stands at its clear, and the marks of the step at the end of it
 abbrev pub marks_of : Turn → List Mark
 marks_of (Looks found) = []
-marks_of (Makes step) = step.marks
+marks_of (Makes first step) = step.marks
 marks_of (Clears step found) = if is_set found then [] else step.marks
 marks_of (Rings step) = step.marks
 
 abbrev pub told_in : ℕ → Turn → List Line
 told_in p (Looks found) = heard 64 p found
-told_in p (Makes step) = lines_of p step.access step.value step.marks
+told_in p (Makes first step) = lines_of p first step.access step.value step.marks
 told_in p (Clears step found) = access_lines p step.access step.value ++ map (mark_line p) (marks_of (Clears step found))
 told_in p (Rings step) = map (mark_line p) step.marks
 

@@ -4,7 +4,7 @@ ghost use Rattle.lawful_history.specs.declared.line.Line.{Line};
 ghost use Rattle.record_text.specs.OwnLines.{AreOwn};
 ghost use Rattle.record_text.specs.OwnParts.{part_of};
 ghost use Rattle.step_lines.specs.Storms.{IsStormOf};
-ghost use Rattle.peer_runner.specs.Keys.{world_in, honest_of, is_unbuilt};
+ghost use Rattle.peer_runner.specs.Keys.{world_in, honest_of};
 ghost use Rattle.peer_runner.specs.Actions.{Action};
 ghost use Rattle.peer_runner.specs.Standings.{Taken};
 ghost use Rattle.peer_runner.specs.Passes.{IsOf, held};
@@ -13,7 +13,7 @@ ghost use Rattle.peer_runner.specs.Drives.{MayBeAuto, MayDrive, starting, stormi
 
 use crate::gate::Gate;
 use crate::storms::take_step;
-use crate::turns::{choose, is_finished, is_look_next, look_turn, take_turn};
+use crate::turns::{choose, is_finished, is_look_next, look_turn, looks_due, take_turn};
 use crate::ways::route_to;
 use crate::words::{Pass, Words};
 use arrayvec::ArrayVec;
@@ -76,13 +76,13 @@ fn drive_auto<G: Gate>(
     let peers = routes.len() as u32;
     let own = route_to(routes, me);
     let mut lines = Lines::new(alloc);
-    let mut looked = false;
+    let mut looks = 0;
     let mut ringing = false;
     for turn in 0..turns {
-        if is_look_next(own, end.busy(), looked) {
+        let due = looks_due(&auto, &end);
+        if is_look_next(own, due, looks) {
             gate.pass(me, turn + 1);
-            look_turn(words, pass, peers, me, &mut lines)?;
-            looked = true;
+            look_turn(words, pass, peers, me, &mut looks, &mut lines)?;
             continue;
         }
         let choice = choose(&mut auto, &end);
@@ -108,7 +108,7 @@ fn drive_auto<G: Gate>(
             &mut ringing,
             &mut lines,
         )?;
-        looked = false;
+        looks = 0;
     }
     let choice = choose(&mut auto, &end);
     gate.ended(me);
@@ -163,7 +163,6 @@ pub fn drive<G: Gate>(
     plan: PeerPlan,
     gate: &G,
 ) -> Result<OwnTrace, NoMemory>
-    requires built { is_unbuilt words.now.shared.key.queue ≡ false }
     requires of { IsOf words.now.shared.table_id words.now.shared.key pass.old }
     requires alone { (pass.old.from ≡ plan.peer) × (pass.old.lists ≡ [] ∷ []) }
     requires drives { MayDrive words.now.shared.key plan.peer plan.driver }

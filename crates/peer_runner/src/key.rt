@@ -4,7 +4,7 @@ ghost use Rattle.std.specs.Int.{bit_at};
 ghost use Rattle.scenario_text.specs.Spelling.{world_of};
 ghost use Rattle.peer_runner.specs.Interrupts.{one_if};
 ghost use Rattle.peer_runner.specs.Ways.{route_to, AreRoutesOf};
-ghost use Rattle.peer_runner.specs.Keys.{IsFit, IsMadeFor, is_unbuilt};
+ghost use Rattle.peer_runner.specs.Keys.{IsFit, IsMadeFor};
 
 use doorbell_irq::Route;
 use pci_space::Wiring;
@@ -83,11 +83,4 @@ impl Key {
             one_shot: one_shot_of(routes),
         }
     }
-}
-
-/// Whether the peers of the scenario can't be run yet: those of a link with events can't.
-pub fn is_unbuilt(scenario: &Scenario) -> bool
-    ensures { result ≡ is_unbuilt (world_of scenario.now).queue }
-{
-    scenario.queue.has_events()
 }

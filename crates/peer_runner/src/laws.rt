@@ -1,6 +1,6 @@
 //! What the rule says of the words and of the lists of accesses, between any two accesses of whatever threads (`specs/RunningLaws`). No function here
 //! does anything: each is a law, which its contract states.
-ghost use Rattle.peer_runner.specs.RunningLaws.{WordsAreMade, StoresAreOwned, InterruptsAreRung, OfEachHonest, OfTwoHonest, AccessesAreCalls, WordsAreWritten, PhasesShow, FlightIsSpelled, OpenOfferStores, HeldIsInRange, NeverRefuses, OtherOpensNone, OneSession, WhereEitherAttends, PairKeeps, HeldIsAsSent, HostileWordsAreFree};
+ghost use Rattle.peer_runner.specs.RunningLaws.{WordsAreMade, StoresAreOwned, InterruptsAreRung, OfEachHonest, OfTwoHonest, AccessesAreCalls, WordsAreWritten, PhasesShow, FlightIsSpelled, OpenOfferStores, HeldIsInRange, NeverRefuses, OtherOpensNone, OneSession, WhereEitherAttends, PairKeeps, AskedIsRung, HeldIsAsSent, HostileWordsAreFree};
 
 /// The words of the region are what the accesses of all lists made of them, one after another in some order.
 pub fn words_are_made()
@@ -66,6 +66,11 @@ pub fn one_session()
 /// accepted, and those in flight as the words spell them.
 pub fn pair_keeps()
     ensures { OfTwoHonest (WhereEitherAttends PairKeeps) }
+{}
+
+/// In a link with events no offer of an honest link peer ends without a doorbell at a frame for which the other, which is honest too, asks for one.
+pub fn asked_doorbells_are_rung()
+    ensures { OfTwoHonest AskedIsRung }
 {}
 
 /// What an open call of one of two honest link peers holds of what it has read is what the other one has written.

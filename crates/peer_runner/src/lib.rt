@@ -27,7 +27,7 @@ mod words;
 
 pub use driving::{Driver, PeerPlan, drive};
 pub use gate::{Gate, OpenGate};
-pub use key::{Key, is_unbuilt};
+pub use key::Key;
 pub use peers::run_peers;
 pub use rule::Rule;
 pub use view::View;

@@ -68,12 +68,12 @@ fn finds_nothing(end: &Endpoint, notes: &[Note]) -> bool
     )
 }
 
-/// Is this the step of a quiet call?
-fn is_quiet(access: Access, end: &Endpoint, notes: &[Note]) -> bool
-    ensures { result ≡ is_quiet access (marks_between (offered end.now) (delivered end.now) notes.now) }
+/// Is this the step of a quiet call? `first` says that its call begins with it.
+fn is_quiet(first: bool, access: Access, end: &Endpoint, notes: &[Note]) -> bool
+    ensures { result ≡ is_quiet first access (marks_between (offered end.now) (delivered end.now) notes.now) }
 {
     match access {
-        Access::Read(_) => finds_nothing(end, notes),
+        Access::Read(_) => first && finds_nothing(end, notes),
         Access::Write(..) | Access::State(_) | Access::Ring { .. } | Access::Nothing => false,
     }
 }
@@ -82,35 +82,37 @@ fn is_quiet(access: Access, end: &Endpoint, notes: &[Note]) -> bool
 fn tell(
     alloc: Global,
     me: u32,
+    first: bool,
     access: Access,
     value: u32,
     end: &Endpoint,
     notes: &[Note],
     lines: &mut Lines,
 ) -> Result<(), NoMemory>
-    ensures { OnOk result (lines.new ≡ lines.old ++ lines_of me access value (marks_between (offered end.now) (delivered end.now) notes.now)) }
+    ensures { OnOk result (lines.new ≡ lines.old ++ lines_of me first access value (marks_between (offered end.now) (delivered end.now) notes.now)) }
 {
-    if is_quiet(access, end, notes) {
+    if is_quiet(first, access, end, notes) {
         return Ok(());
     }
     tell_access(me, access, value, lines)?;
     tell_notes(alloc, me, end, notes, lines)
 }
 
-/// Tells what was done of a step that is done with it.
+/// Tells what was done of a step that is done with it. `first` says that its call begins with it.
 pub fn tell_done(
     alloc: Global,
     me: u32,
+    first: bool,
     access: Access,
     done: Done,
     end: &Endpoint,
     notes: &[Note],
     lines: &mut Lines,
 ) -> Result<(), NoMemory>
-    ensures { OnOk result (lines.new ≡ lines.old ++ done_lines me access done (marks_between (offered end.now) (delivered end.now) notes.now)) }
+    ensures { OnOk result (lines.new ≡ lines.old ++ done_lines me first access done (marks_between (offered end.now) (delivered end.now) notes.now)) }
 {
     match done {
-        Done::Stepped(value) => tell(alloc, me, access, value, end, notes, lines),
+        Done::Stepped(value) => tell(alloc, me, first, access, value, end, notes, lines),
         Done::Cleared(_) => {
             tell_access(me, access, 0, lines)?;
             tell_notes(alloc, me, end, notes, lines)

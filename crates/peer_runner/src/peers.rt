@@ -1,11 +1,11 @@
 //! The peers of a scenario, each in a thread of its own.
-ghost use Rattle.std.specs.Prelude.{◌≡◌, ◌++◌, ◌∷◌, [], ◌<◌, ◌≤◌, ◌+◌, false, None, List, length, replicate, map, IfOk, OnOk};
+ghost use Rattle.std.specs.Prelude.{◌≡◌, ◌++◌, ◌∷◌, [], ◌<◌, ◌≤◌, ◌+◌, None, List, length, replicate, map, IfOk, OnOk};
 ghost use Rattle.std.specs.Thread.{IsSync};
 ghost use Rattle.scenario_text.specs.Running.{not_running};
 ghost use Rattle.scenario_text.specs.Spelling.{world_of};
 ghost use Rattle.record_text.specs.OwnParts.{part_of};
 ghost use Rattle.record_text.specs.Parts.{peers_of, running_peers};
-ghost use Rattle.peer_runner.specs.Keys.{IsMadeFor, is_unbuilt};
+ghost use Rattle.peer_runner.specs.Keys.{IsMadeFor};
 ghost use Rattle.peer_runner.specs.Actions.{Action};
 ghost use Rattle.peer_runner.specs.Standings.{Taken};
 ghost use Rattle.peer_runner.specs.Passes.{IsOf, IsWhole, IsUnused, held};
@@ -31,7 +31,7 @@ fn run_one<G: Gate>(
     me: u32,
     gate: &G,
 ) -> Result<Vec<OwnTrace>, NoMemory>
-    requires running { (not_running (world_of scenario.now) ≡ None) × (is_unbuilt scenario.now.queue ≡ false) }
+    requires running { not_running (world_of scenario.now) ≡ None }
     requires made { IsMadeFor (world_of scenario.now) words.now.shared.key }
     requires of { IsOf words.now.shared.table_id words.now.shared.key pass.old }
     requires alone { (pass.old.from ≡ me) × (pass.old.lists ≡ [] ∷ []) }
@@ -58,7 +58,7 @@ fn run_range<R: Threads + Sync, G: Gate + Sync>(
     count: u32,
     gate: &G,
 ) -> (Result<Vec<OwnTrace>, NoMemory>, Pass)
-    requires running { (not_running (world_of scenario.now) ≡ None) × (is_unbuilt scenario.now.queue ≡ false) }
+    requires running { not_running (world_of scenario.now) ≡ None }
     requires made { IsMadeFor (world_of scenario.now) words.now.shared.key }
     requires of { IsOf words.now.shared.table_id words.now.shared.key pass }
     requires whole { (pass.from ≡ from) × (pass.lists ≡ replicate count []) }
@@ -80,7 +80,7 @@ fn run_range<R: Threads + Sync, G: Gate + Sync>(
         rt,
         move || -> (Result<Vec<OwnTrace>, NoMemory>, Pass)
             requires sync { IsSync R.row × IsSync G.row }
-            requires running { (not_running (world_of scenario.now) ≡ None) × (is_unbuilt scenario.now.queue ≡ false) }
+            requires running { not_running (world_of scenario.now) ≡ None }
             requires made { IsMadeFor (world_of scenario.now) words.now.shared.key }
             requires of { IsOf words.now.shared.table_id words.now.shared.key pass }
             requires whole { (pass.from ≡ from) × (pass.lists ≡ replicate half []) }
@@ -89,7 +89,7 @@ fn run_range<R: Threads + Sync, G: Gate + Sync>(
         { run_range(rt, alloc, words, pass, scenario, from, half, gate) },
         move || -> (Result<Vec<OwnTrace>, NoMemory>, Pass)
             requires sync { IsSync R.row × IsSync G.row }
-            requires running { (not_running (world_of scenario.now) ≡ None) × (is_unbuilt scenario.now.queue ≡ false) }
+            requires running { not_running (world_of scenario.now) ≡ None }
             requires made { IsMadeFor (world_of scenario.now) words.now.shared.key }
             requires of { IsOf words.now.shared.table_id words.now.shared.key upper }
             requires whole { (upper.from ≡ middle) × (upper.lists ≡ replicate rest []) }
@@ -138,7 +138,6 @@ pub fn run_peers<R: Threads + Sync, G: Gate + Sync>(
     gate: &G,
 ) -> Result<RunTrace, NoMemory>
     requires running { not_running (world_of scenario) ≡ None }
-    requires built { is_unbuilt scenario.queue ≡ false }
     requires whole { IsWhole (world_of scenario) words.now.shared.table_id words.now.shared.key pass.old }
     requires unused { IsUnused words.now.shared.key pass.old }
     ensures whole { IsWhole (world_of scenario) words.now.shared.table_id words.now.shared.key pass.new }

@@ -2,7 +2,7 @@
 
 ghost use Rattle.std.specs.Prelude.{◌<◌};
 
-use crate::{Gate, OpenGate, is_unbuilt, laws, run_peers, words_for};
+use crate::{Gate, OpenGate, laws, run_peers, words_for};
 use lawful_history::Line;
 use record_text::RunTrace;
 use scenario_text::{not_running, parse};
@@ -174,7 +174,7 @@ fn run<R: Threads + Sync, G: Gate + Sync>(
     gate: &G,
 ) -> Result<Option<RunTrace>, Fail> {
     let scenario = parse(alloc, text)?;
-    if not_running(&scenario).is_some() || is_unbuilt(&scenario) {
+    if not_running(&scenario).is_some() {
         return Ok(None);
     }
     let (words, mut pass) = words_for(alloc, &scenario)?;
@@ -416,15 +416,135 @@ fn eight_peers_run(rt: HostRuntime) -> Result<(), Fail> {
     Ok(())
 }
 
-/// The same peers are run in the first version, and aren't in the second one.
+/// Did a poll look and find nothing?
+fn is_look(line: &Line) -> bool {
+    match line {
+        Line::Look { count, .. } => *count == 0,
+        _ => false,
+    }
+}
+
+/// Was the event of peer 1 written, which asks at frame 0?
+fn is_write(line: &Line) -> bool {
+    match line {
+        Line::Write { word, value, .. } => *word == 5_553 && *value == 0,
+        _ => false,
+    }
+}
+
+/// Is a poll done?
+fn is_done(line: &Line) -> bool {
+    matches!(line, Line::Done { .. })
+}
+
+/// How many lines stand before the first interrupt.
+fn before_interrupt(lines: &[Line]) -> usize {
+    let mut count: usize = 0;
+    for line in lines.iter() {
+        if let Line::Interrupt { .. } = line {
+            return count;
+        }
+        count = count.saturating_add(1);
+    }
+    count
+}
+
+/// The frame that comes is asked for, and rung. Peer 1 arms its event and sleeps: ten looks find nothing, and the eleventh finds the bit, before its next
+/// choice. It sleeps again before the poll that takes the frame, and that time no bit comes: it polls after 64 looks.
 #[test]
-fn peers_of_a_link_with_events_are_not_run(rt: HostRuntime) -> Result<(), Fail> {
-    let first =
-        b"ivshm 1\npeers 2\ntable 4096\ncommon 0\nout 16384\nmtu 256\nirq msix 2\npeer 0 honest\npeer 1 honest\nbegin\nauto 0 1\nturn 0 5\nend\n";
-    let second =
-        b"ivshm 2\npeers 2\ntable 4096\ncommon 0\nout 16384\nmtu 256\nirq msix 2\npeer 0 honest\npeer 1 honest\nbegin\nauto 0 1\nturn 0 5\nend\n";
-    assert!(rt; run(&rt, rt.alloc(), first, &OpenGate)?.is_some());
-    assert!(rt; run(&rt, rt.alloc(), second, &OpenGate)?.is_none());
+fn a_sleeping_peer_is_woken(rt: HostRuntime) -> Result<(), Fail> {
+    let text =
+        b"ivshm 2\npeers 2\ntable 4096\ncommon 0\nout 16384\nmtu 256\nirq msix 2\npeer 0 honest\npeer 1 honest\nbegin\ncfg 1 w 4 2 6\ncfg 1 w 98 2 32768\nmsix 1 w 28 0\nmmio 1 w 8 1\nauto 0 0\nauto 1 1\noffer 0 ffffffffffff0200000000010800\nturn 0 10000\nturn 1 10000\nend\n";
+    let gate = Relay::new([[5000, 4110], [9100, 4127], [9113, 4300]]);
+    let Some(trace) = run(&rt, rt.alloc(), text, &gate)? else {
+        panic!(rt; "the scenario can be run");
+    };
+    assert!(rt; gate.opened.load(SeqCst) == 0);
+    let parts = trace.peers.items();
+    assert!(rt; parts.len() == 2);
+    assert!(rt; parts[0].turns == 9113 && parts[0].finished);
+    assert!(rt; parts[1].turns == 4208 && parts[1].finished);
+    let sender = parts[0].lines.items();
+    assert!(rt; frames(sender) == (1, 0));
+    assert!(rt; matches!(sender.last(), Some(Line::Over { peer: 0 })));
+    let lines = parts[1].lines.items();
+    assert!(rt; frames(lines) == (0, 1) && interrupts(lines) == 1);
+    let at = before_interrupt(lines);
+    assert!(rt; at >= 6 && at < lines.len());
+    assert!(rt; is_look(&lines[at - 5]) && is_write(&lines[at - 4]));
+    assert!(rt; is_look(&lines[at - 2]) && is_done(&lines[at - 1]));
+    Ok(())
+}
+
+/// Bursts of frames against a sleeping peer, twenty times in a row: the first frame is rung before it looks again, and all frames are delivered
+/// within the turns.
+#[test]
+fn bursts_wake_a_sleeping_peer(rt: HostRuntime) -> Result<(), Fail> {
+    let alloc = rt.alloc();
+    for burst in [1usize, 8, 32] {
+        let mut text = format!(in alloc;
+            "ivshm 3\npeers 2\ntable 4096\ncommon 0\nout 16384\nmtu 256\nirq msix 2\npeer 0 honest\npeer 1 honest\nbegin\ncfg 1 w 4 2 6\ncfg 1 w 98 2 32768\nmsix 1 w 28 0\nmmio 1 w 8 1\nauto 0 0\nauto 1 {burst}\n"
+        )?;
+        for _ in 0..burst {
+            write!(text, "offer 0 ffffffffffff0200000000010800\n")?;
+        }
+        write!(text, "turn 0 100000\nturn 1 100000\nend\n")?;
+        for _ in 0..20 {
+            let gate = Relay::new([[5000, 4110], [9100, 4127], [9113, 4127]]);
+            let Some(trace) = run(&rt, alloc, text.as_bytes(), &gate)? else {
+                panic!(rt; "the scenario can be run");
+            };
+            assert!(rt; gate.opened.load(SeqCst) == 0);
+            let parts = trace.peers.items();
+            assert!(rt; parts.len() == 2);
+            assert!(rt; parts[0].finished && parts[1].finished);
+            assert!(rt; frames(parts[0].lines.items()) == (burst, 0));
+            let lines = parts[1].lines.items();
+            assert!(rt; frames(lines) == (0, burst));
+            let at = before_interrupt(lines);
+            assert!(rt; at >= 1 && at < lines.len());
+            assert!(rt; is_done(&lines[at - 1]));
+        }
+    }
+    Ok(())
+}
+
+/// Peers of a link with events, of which one takes interrupts: frames in slots, and in a ring of bytes, where the second one starts 64 bytes after
+/// the first.
+#[test]
+fn two_threads_deliver_by_events(rt: HostRuntime) -> Result<(), Fail> {
+    let alloc = rt.alloc();
+    for (version, second) in [(2, 2_112), (3, 1_856)] {
+        let text = format!(in alloc;
+            "ivshm {version}\npeers 2\ntable 4096\ncommon 0\nout 16384\nmtu 256\nirq msix 2\npeer 0 honest\npeer 1 honest\nbegin\ncfg 1 w 4 2 6\ncfg 1 w 98 2 32768\nmsix 1 w 28 0\nmmio 1 w 8 1\nauto 0 1\nauto 1 2\noffer 0 ffffffffffff0200000000010800\noffer 0 ffffffffffff0200000000010801\noffer 1 ffffffffffff0200000000020800\nturn 0 100000\nturn 1 100000\nend\n"
+        )?;
+        let gate = Lockstep::new();
+        let Some(trace) = run(&rt, alloc, text.as_bytes(), &gate)? else {
+            panic!(rt; "the scenario can be run");
+        };
+        assert!(rt; gate.opened.load(SeqCst) == 0);
+        let parts = trace.peers.items();
+        assert!(rt; parts.len() == 2);
+        for (peer, part) in parts.iter().enumerate() {
+            assert!(rt; part.finished && part.turns < 100_000);
+            assert!(rt; frames(part.lines.items()) == if peer == 0 { (2, 1) } else { (1, 2) });
+            assert!(rt; peer < 2);
+            assert!(rt; gate.passed[peer].load(SeqCst) == part.turns);
+        }
+        let mut starts = 0usize;
+        for line in parts[0].lines.items() {
+            if let Line::Write {
+                word: 1_028,
+                value,
+                ..
+            } = line
+            {
+                assert!(rt; *value == second || *value == 0);
+                starts = starts.saturating_add(1);
+            }
+        }
+        assert!(rt; starts == 2);
+    }
     Ok(())
 }
 
@@ -444,6 +564,7 @@ fn laws_of_the_rule() {
     laws::other_opens_none();
     laws::one_session();
     laws::pair_keeps();
+    laws::asked_doorbells_are_rung();
     laws::held_is_as_sent();
     laws::hostile_words_are_free();
 }

@@ -1,5 +1,6 @@
 //! The turns of an automatic peer.
-ghost use Rattle.std.specs.Prelude.{◌≡◌, ℕ, ◌++◌, ◌<◌, true, false, length, OnOk};
+ghost use Rattle.std.specs.Prelude.{◌≡◌, ℕ, ◌++◌, ◌<◌, ◌≤◌, true, false, length, OnOk};
+ghost use Rattle.call_grammar.specs.Automatic.{is_empty};
 ghost use Rattle.call_grammar.specs.Calls.{Who};
 ghost use Rattle.call_grammar.specs.Ends.{End};
 ghost use Rattle.call_grammar.specs.Places as places;
@@ -14,8 +15,8 @@ ghost use Rattle.peer_runner.specs.Actions.{accesses_in, looked};
 ghost use Rattle.peer_runner.specs.Rules.{front};
 ghost use Rattle.peer_runner.specs.Passes.{IsOf, added};
 ghost use Rattle.peer_runner.specs.Ways.{AreRoutes, is_guarded, way_in};
-ghost use Rattle.peer_runner.specs.Turns.{heard};
-ghost use Rattle.peer_runner.specs.Runners.{Runner, round_on, choice_at, chosen, place_in, place_for, Matches, tells_end, call_of, call_told, IsBegun, IsBegunIf, Closes, touches, MayMake, made, done_of, IsDone, holds_on, MayRingBy, looks_now, turned, told_on, IsThere, Turns};
+ghost use Rattle.peer_runner.specs.Turns.{heard, looks_after};
+ghost use Rattle.peer_runner.specs.Runners.{Runner, round_on, choice_at, chosen, place_in, place_for, Matches, tells_end, call_of, call_told, IsBegun, IsBegunIf, Closes, touches, MayMake, made, done_of, IsDone, holds_on, MayRingBy, due_at, looks_now, turned, told_on, IsThere, Turns};
 
 use crate::accesses::{load, set_state, store};
 use crate::bells::ring_turn;
@@ -84,11 +85,42 @@ fn open_call(auto: &Auto, end: &mut Endpoint, choice: Option<Choice>)
     }
 }
 
-/// Does a look come next? One stands before each choice of a peer that takes interrupts.
-pub fn is_look_next(own: Route, busy: bool, looked: bool) -> bool
-    ensures { result ≡ looks_now own busy looked }
+/// Is no frame left?
+fn has_no_frame(auto: &Auto) -> bool
+    ensures { result ≡ is_empty auto.now.frames }
 {
-    own.enabled && !looked && !busy
+    auto.head().is_none()
+}
+
+/// How many looks stand before the next choice of a peer that takes interrupts: one, or 64 where it sleeps.
+pub fn looks_due(auto: &Auto, end: &Endpoint) -> u32
+    ensures due { (who : Who) (at : End) (place : places.Place) (plan : peers.Auto) → StandsAt end.now who at place → IsPlanOf auto.now plan → result ≡ due_at who at place plan }
+    ensures most { result ≤ 64 }
+{
+    if end.busy() {
+        return 0;
+    }
+    if end.is_armed() && has_no_frame(auto) {
+        64
+    } else {
+        1
+    }
+}
+
+/// Does a look come next of a peer that has taken so many looks since its last step?
+pub fn is_look_next(own: Route, due: u32, looks: u32) -> bool
+    ensures value { result ≡ looks_now own due looks }
+    ensures more { result ≡ true → looks < due }
+{
+    own.enabled && looks < due
+}
+
+/// How many looks were taken, where one that found a bit is the last.
+fn looks_after(looks: u32, found: u64) -> u32
+    requires { looks < 64 }
+    ensures { result ≡ looks_after looks found }
+{
+    if found == 0 { looks + 1 } else { 64 }
 }
 
 /// A turn that is a look. After NoMemory the look was made, and its lines may be missing.
@@ -97,13 +129,16 @@ pub fn look_turn(
     pass: &mut Pass,
     peers: u32,
     me: u32,
+    looks: &mut u32,
     lines: &mut Lines,
 ) -> Result<(), NoMemory>
     requires of { IsOf words.now.shared.table_id words.now.shared.key pass.old × (peers ≡ words.now.shared.key.geometry.peers) × (0 < length pass.old.lists) }
     requires own { pass.old.from ≡ me }
-    ensures { (found : ℕ) × (pass.new ≡ added pass.old (looked found)) × OnOk result (lines.new ≡ lines.old ++ heard 64 me found) }
+    requires few { looks.old < 64 }
+    ensures { (found : ℕ) × (pass.new ≡ added pass.old (looked found)) × (looks.new ≡ looks_after looks.old found) × OnOk result (lines.new ≡ lines.old ++ heard 64 me found) }
 {
     let found = look(words, pass, peers, me);
+    *looks = looks_after(*looks, found);
     tell_heard(me, found, lines)
 }
 
@@ -191,6 +226,7 @@ pub fn take_turn(
         × (ringing.new ≡ holds_on done) × OnOk result (lines.new ≡ lines.old ++ told_on (who_in words.now.shared.key me) r done) }
     ensures id { pass.new.table_id ≡ pass.old.table_id }
 {
+    let first = choice.is_some();
     open_call(auto, end, choice);
     let access = end.next();
     let done = take_for(words, pass, me, routes, access, *ringing, auto, choice);
@@ -200,5 +236,5 @@ pub fn take_turn(
     }
     let notes = end.took(done.value());
     count_notes(auto, notes.as_slice());
-    tell_done(alloc, me, access, done, end, notes.as_slice(), lines)
+    tell_done(alloc, me, first, access, done, end, notes.as_slice(), lines)
 }

@@ -1,9 +1,9 @@
 //! The words, and the passes by which threads step through them.
-ghost use Rattle.std.specs.Prelude.{◌≡◌, ◌<◌, ◌≤◌, ◌+◌, ◌++◌, ◌∷◌, [], None, false, IfOk, OnOk, length};
+ghost use Rattle.std.specs.Prelude.{◌≡◌, ◌<◌, ◌≤◌, ◌+◌, ◌++◌, ◌∷◌, [], None, IfOk, OnOk, length};
 ghost use Rattle.std.specs.Int.{bit_at};
 ghost use Rattle.scenario_text.specs.Running.{not_running};
 ghost use Rattle.scenario_text.specs.Spelling.{world_of};
-ghost use Rattle.peer_runner.specs.Keys.{IsFit, is_unbuilt};
+ghost use Rattle.peer_runner.specs.Keys.{IsFit};
 ghost use Rattle.peer_runner.specs.Interrupts.{words_at_start};
 ghost use Rattle.peer_runner.specs.Rules.{lower, upper, learns, Tells, Told};
 ghost use Rattle.peer_runner.specs.Passes.{IsOf, IsWhole, IsUnused, lower_pass, upper_pass, join_passes};
@@ -67,7 +67,6 @@ fn first_words(alloc: Global, key: &Key) -> Result<Vec<u64>, NoMemory>
 /// NoMemory comes only where memory ran out.
 pub fn words_for(alloc: Global, scenario: &Scenario) -> Result<(Words, Pass), NoMemory>
     requires running { not_running (world_of scenario.now) ≡ None }
-    requires built { is_unbuilt (world_of scenario.now).queue ≡ false }
     ensures whole { IfOk result (λ r. IsWhole (world_of scenario.now) r.0.shared.table_id r.0.shared.key r.1) }
     ensures unused { IfOk result (λ r. IsUnused r.0.shared.key r.1) }
 {

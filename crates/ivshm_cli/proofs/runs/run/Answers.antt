@@ -13,7 +13,6 @@ returns-clause-run g c =
         world = world_of c.in_ok-scenario.scenario;
         spelled = c.in_ok-scenario.ensures.spelled;
         running = c.in_ok-scenario.ensures.running;
-        built = c.in_ok-scenario.ensures.built;
       };
       parts = parts;
       whole = c.run_peers.ensures.whole;

@@ -1,13 +1,12 @@
 use Rattle.std.proofs.Common.{◌≡◌, ◌∷◌, [], ◌++◌, refl, sym, ap, ◌∙◌, subst, arith, length-append, true, false}
 use Rattle.std.specs.Prelude.{length}
-use Rattle.step_lines.proofs.Marks.{busy_is}
-use Rattle.call_grammar.specs.Places.{access_at, step_at, is_open}
+use Rattle.call_grammar.specs.Places.{access_at, step_at}
 use Rattle.peer_runner.specs.Keys.{who_in}
 use Rattle.peer_runner.specs.Held.{Held}
 use Rattle.peer_runner.specs.Passes.{held}
 use Rattle.peer_runner.specs.Ways.{route_to, is_guarded, way_in}
-use Rattle.peer_runner.specs.Turns.{Looks, told_in, told_of}
-use Rattle.peer_runner.specs.Runners.{beginning, looks_now, looked_on, turned, turn_of, value_done, place_in, has_finished, IsDone, Turns}
+use Rattle.peer_runner.specs.Turns.{Looks, looks_after, told_in, told_of}
+use Rattle.peer_runner.specs.Runners.{beginning, due_of, looks_now, looked_on, is_first, turned, turn_of, value_done, place_in, has_finished, IsDone, Turns}
 use Rattle.peer_runner.proofs.Turning.{bytes_in, turn_looked}
 use Rattle.peer_runner.proofs.Runs.{told_none, told_snoc, far_first, far_on, far_look, turned_turns, turned_rings, turned_looked, ends_where, finished_same, there_first, plan_first, lent, did, err_free}
 use Rattle.peer_runner.proofs.Looking.{looks_at, looks_shut, still_shut}
@@ -42,25 +41,25 @@ take_turn-requires-clause-turns g c = let inv = c.loop-turn.invariant in let r =
 
 pub loop-turn-preserved-then-is_look_next : goal.loop-turn-preserved-then-is_look_next
 loop-turn-preserved-then-is_look_next g c = let key = c.args.words.now.shared.key in let me = c.args.me in let routes = c.args.routes.now in let inv = c.loop-turn.invariant in let r = inv.0 in
-    let busy = c.busy.ensures.value ∙ busy_is c.loop-turn.end (who_in key me) r.end r.place inv.2.stands.stands in
-    let looks : looks_now (route_to routes me) (is_open r.place) r.looked ≡ true = looks_at c.route_to-own.result (route_to routes me) c.busy.result (is_open r.place) c.loop-turn.looked r.looked c.is_look_next.result c.is_look_next.ensures c.route_to-own.ensures busy inv.7 ∙ c.if-is_look_next.true in
-    let still = still_shut key me routes r c.loop-turn.end inv.2.stands (looks_shut (route_to routes me) (is_open r.place) r.looked looks) in let took = c.in_ok-look_turn.ensures in (
+    let dues = c.looks_due-due.ensures.due (who_in key me) r.end r.place r.auto inv.2.stands.stands inv.3 in
+    let looks : looks_now (route_to routes me) (due_of (who_in key me) r) r.looks ≡ true = looks_at c.route_to-own.result (route_to routes me) c.looks_due-due.result (due_of (who_in key me) r) c.loop-turn.looks r.looks c.is_look_next.result c.is_look_next.ensures.value c.route_to-own.ensures dues inv.7 ∙ c.if-is_look_next.true in
+    let still = still_shut key me routes r c.loop-turn.end inv.2.stands (looks_shut (who_in key me) (route_to routes me) r looks) in let took = c.in_ok-look_turn.ensures in (
       looked_on r took.0,
       far_look c.places_follow_trees.ensures key me routes c.args.auto r took.0 looks inv.1,
       turn_looked key me routes r c.loop-turn.pass c.look_turn.new.pass c.loop-turn.end took.0 took.1 inv.2 still,
       inv.3,
       omega (arith, length-append r.turns (Looks took.0 ∷ []), inv.4),
       ap (λ (h : Held). h.table_id) took.1 ∙ inv.5,
-      took.2 ∙ (ap (λ ls. ls ++ told_in me (Looks took.0)) inv.6 ∙ sym (told_snoc me r.turns (Looks took.0))),
-      refl,
+      took.3 ∙ (ap (λ ls. ls ++ told_in me (Looks took.0)) inv.6 ∙ sym (told_snoc me r.turns (Looks took.0))),
+      ap (λ n. looks_after n took.0) inv.7 ∙ sym took.2,
       inv.8,
     )
 
 pub returns-in_err-look_turn : goal.returns-in_err-look_turn
 returns-in_err-look_turn g c = let key = c.args.words.now.shared.key in let me = c.args.me in let routes = c.args.routes.now in let inv = c.loop-turn.invariant in let r = inv.0 in
-    let busy = c.busy.ensures.value ∙ busy_is c.loop-turn.end (who_in key me) r.end r.place inv.2.stands.stands in
-    let looks : looks_now (route_to routes me) (is_open r.place) r.looked ≡ true = looks_at c.route_to-own.result (route_to routes me) c.busy.result (is_open r.place) c.loop-turn.looked r.looked c.is_look_next.result c.is_look_next.ensures c.route_to-own.ensures busy inv.7 ∙ c.if-is_look_next.true in
-    let still = still_shut key me routes r c.loop-turn.end inv.2.stands (looks_shut (route_to routes me) (is_open r.place) r.looked looks) in let took = c.in_err-look_turn.ensures in let next = looked_on r took.0 in
+    let dues = c.looks_due-due.ensures.due (who_in key me) r.end r.place r.auto inv.2.stands.stands inv.3 in
+    let looks : looks_now (route_to routes me) (due_of (who_in key me) r) r.looks ≡ true = looks_at c.route_to-own.result (route_to routes me) c.looks_due-due.result (due_of (who_in key me) r) c.loop-turn.looks r.looks c.is_look_next.result c.is_look_next.ensures.value c.route_to-own.ensures dues inv.7 ∙ c.if-is_look_next.true in
+    let still = still_shut key me routes r c.loop-turn.end inv.2.stands (looks_shut (who_in key me) (route_to routes me) r looks) in let took = c.in_err-look_turn.ensures in let next = looked_on r took.0 in
     let far = far_look c.places_follow_trees.ensures key me routes c.args.auto r took.0 looks inv.1 in let there = turn_looked key me routes r c.loop-turn.pass c.look_turn.new.pass c.loop-turn.end took.0 took.1 inv.2 still in (
       next.actions,
       lent c.look_turn.new.pass me next.actions there.from there.lists ∙ ap (λ id. held id me (next.actions ∷ [])) (ap (λ (h : Held). h.table_id) took.1 ∙ inv.5),
@@ -73,8 +72,8 @@ returns-in_err-look_turn g c = let key = c.args.words.now.shared.key in let me =
 
 pub loop-turn-preserved : goal.loop-turn-preserved
 loop-turn-preserved g c = let key = c.args.words.now.shared.key in let me = c.args.me in let routes = c.args.routes.now in let who = who_in key me in let inv = c.loop-turn.invariant in let r = inv.0 in let stands = inv.2.stands.stands in
-    let busy = c.busy.ensures.value ∙ busy_is c.loop-turn.end who r.end r.place stands in
-    let first : looks_now (route_to routes me) (is_open r.place) r.looked ≡ false = looks_at c.route_to-own.result (route_to routes me) c.busy.result (is_open r.place) c.loop-turn.looked r.looked c.is_look_next.result c.is_look_next.ensures c.route_to-own.ensures busy inv.7 ∙ c.if-is_look_next.false in
+    let dues = c.looks_due-due.ensures.due who r.end r.place r.auto stands inv.3 in
+    let first : looks_now (route_to routes me) (due_of (who_in key me) r) r.looks ≡ false = looks_at c.route_to-own.result (route_to routes me) c.looks_due-due.result (due_of (who_in key me) r) c.loop-turn.looks r.looks c.is_look_next.result c.is_look_next.ensures.value c.route_to-own.ensures dues inv.7 ∙ c.if-is_look_next.false in
     let matches = c.choose-choice.ensures.chosen _ r.end r.place r.auto stands inv.3 in
     let goes : has_finished r ≡ false = ends_where _ _ _ matches ∙ (sym c.is_finished.ensures ∙ c.if-is_finished.false) in
     let turns : Turns key me routes r c.choose-choice.result c.loop-turn.ringing c.loop-turn.pass c.choose-choice.new.auto c.loop-turn.end = record {
@@ -84,7 +83,7 @@ loop-turn-preserved g c = let key = c.args.words.now.shared.key in let me = c.ar
       closes = c.choose-choice.ensures.closes;
       goes = goes;
       rings = inv.8;
-    } in let took = c.in_ok-take_turn.ensures.turned r turns in let done = took.0 in let next = turned routes who r done in let turn = turn_of (step_at who (place_in who r) (value_done done)) done in
+    } in let took = c.in_ok-take_turn.ensures.turned r turns in let done = took.0 in let next = turned routes who r done in let turn = turn_of (is_first r) (step_at who (place_in who r) (value_done done)) done in
     let all = turned_turns routes who r done in let size = ap length all in (
       next,
       far_on c.places_follow_trees.ensures key me routes c.args.auto r done goes first (subst (λ b. IsDone b (is_guarded (way_in routes (access_at who (place_in who r)))) done) (sym inv.8) took.1) (bytes_in key me routes r c.choose-choice.result c.loop-turn.ringing c.loop-turn.pass c.choose-choice.new.auto c.loop-turn.end turns) inv.1,
@@ -99,8 +98,8 @@ loop-turn-preserved g c = let key = c.args.words.now.shared.key in let me = c.ar
 
 pub returns-in_err-take_turn : goal.returns-in_err-take_turn
 returns-in_err-take_turn g c = let key = c.args.words.now.shared.key in let me = c.args.me in let routes = c.args.routes.now in let who = who_in key me in let inv = c.loop-turn.invariant in let r = inv.0 in let stands = inv.2.stands.stands in
-    let busy = c.busy.ensures.value ∙ busy_is c.loop-turn.end who r.end r.place stands in
-    let first : looks_now (route_to routes me) (is_open r.place) r.looked ≡ false = looks_at c.route_to-own.result (route_to routes me) c.busy.result (is_open r.place) c.loop-turn.looked r.looked c.is_look_next.result c.is_look_next.ensures c.route_to-own.ensures busy inv.7 ∙ c.if-is_look_next.false in
+    let dues = c.looks_due-due.ensures.due who r.end r.place r.auto stands inv.3 in
+    let first : looks_now (route_to routes me) (due_of (who_in key me) r) r.looks ≡ false = looks_at c.route_to-own.result (route_to routes me) c.looks_due-due.result (due_of (who_in key me) r) c.loop-turn.looks r.looks c.is_look_next.result c.is_look_next.ensures.value c.route_to-own.ensures dues inv.7 ∙ c.if-is_look_next.false in
     let matches = c.choose-choice.ensures.chosen _ r.end r.place r.auto stands inv.3 in
     let goes : has_finished r ≡ false = ends_where _ _ _ matches ∙ (sym c.is_finished.ensures ∙ c.if-is_finished.false) in
     let turns : Turns key me routes r c.choose-choice.result c.loop-turn.ringing c.loop-turn.pass c.choose-choice.new.auto c.loop-turn.end = record {
@@ -110,7 +109,7 @@ returns-in_err-take_turn g c = let key = c.args.words.now.shared.key in let me =
       closes = c.choose-choice.ensures.closes;
       goes = goes;
       rings = inv.8;
-    } in let took = c.in_err-take_turn.ensures.turned r turns in let done = took.0 in let next = turned routes who r done in let turn = turn_of (step_at who (place_in who r) (value_done done)) done in
+    } in let took = c.in_err-take_turn.ensures.turned r turns in let done = took.0 in let next = turned routes who r done in let turn = turn_of (is_first r) (step_at who (place_in who r) (value_done done)) done in
     let all = turned_turns routes who r done in let size = ap length all in
     let far = far_on c.places_follow_trees.ensures key me routes c.args.auto r done goes first (subst (λ b. IsDone b (is_guarded (way_in routes (access_at who (place_in who r)))) done) (sym inv.8) took.1) (bytes_in key me routes r c.choose-choice.result c.loop-turn.ringing c.loop-turn.pass c.choose-choice.new.auto c.loop-turn.end turns) inv.1 in (
       next.actions,

@@ -1,4 +1,4 @@
-use Rattle.std.proofs.Common.{◌≡◌, ◌∷◌, [], ◌++◌, refl, sym, ap, ◌∙◌, subst, arith, length-append, false}
+use Rattle.std.proofs.Common.{◌≡◌, ◌∷◌, [], ◌++◌, refl, sym, ap, ◌∙◌, subst, arith, length-append, true, false}
 use Rattle.std.specs.Prelude.{None, length}
 use Rattle.step_lines.specs.declared.storm.Storm.{Storm}
 use Rattle.record_text.specs.OwnLines.{AreOwn}
@@ -46,13 +46,13 @@ loop-turn-preserved g c = let key = c.args.words.now.shared.key in let routes = 
     let pass = blown_pass key routes p c.loop-turn.storm.peer at done c.args.pass.now c.loop-turn.pass c.take_step.new.pass inv.0 same took.3 inv.3 in
     let blown = blown_next key routes p c.loop-turn.storm.peer c.args.storm.at at c.loop-turn.ringing done inv.0 inv.1 c.args.pass.now c.take_step.new.pass same took.1 took.2 took.6 pass inv.2 in (
       inv.0 ++ done_of routes None step.access done,
-      inv.1 ++ turn_of step done ∷ [],
-      subst (λ b. Blown key routes p c.args.storm.at c.take_step.new.storm.at b (inv.0 ++ done_of routes None step.access done) (inv.1 ++ turn_of step done ∷ [])) (sym took.5)
-          (subst (λ x. Blown key routes p c.args.storm.at x (holds_on done) (inv.0 ++ done_of routes None step.access done) (inv.1 ++ turn_of step done ∷ [])) (sym (ap (λ (s : Storm). s.at) took.4)) blown),
+      inv.1 ++ turn_of true step done ∷ [],
+      subst (λ b. Blown key routes p c.args.storm.at c.take_step.new.storm.at b (inv.0 ++ done_of routes None step.access done) (inv.1 ++ turn_of true step done ∷ [])) (sym took.5)
+          (subst (λ x. Blown key routes p c.args.storm.at x (holds_on done) (inv.0 ++ done_of routes None step.access done) (inv.1 ++ turn_of true step done ∷ [])) (sym (ap (λ (s : Storm). s.at) took.4)) blown),
       pass,
       blown_storm c.args.storm c.loop-turn.storm c.take_step.new.storm _ took.4 inv.4,
-      omega (arith, length-append inv.1 (turn_of step done ∷ []), inv.5),
-      took.7 ∙ (ap (λ q. c.loop-turn.lines ++ told_in q (turn_of (storm_in key q at) done)) same ∙ (ap (λ ls. ls ++ told_in p (turn_of step done)) inv.6 ∙ sym (told_snoc p inv.1 (turn_of step done)))),
+      omega (arith, length-append inv.1 (turn_of true step done ∷ []), inv.5),
+      took.7 ∙ (ap (λ q. c.loop-turn.lines ++ told_in q (turn_of true (storm_in key q at) done)) same ∙ (ap (λ ls. ls ++ told_in p (turn_of true step done)) inv.6 ∙ sym (told_snoc p inv.1 (turn_of true step done)))),
     )
 
 pub returns-in_err-take_step : goal.returns-in_err-take_step
@@ -63,8 +63,8 @@ returns-in_err-take_step g c = let key = c.args.words.now.shared.key in let rout
       inv.0 ++ done_of routes None step.access done,
       pass,
       (
-        blown_did key routes p c.args.storm.at _ (holds_on done) (inv.0 ++ done_of routes None step.access done) (inv.1 ++ turn_of step done ∷ []) c.requires.hostile blown,
-        omega (arith, length-append inv.1 (turn_of step done ∷ []), inv.5),
+        blown_did key routes p c.args.storm.at _ (holds_on done) (inv.0 ++ done_of routes None step.access done) (inv.1 ++ turn_of true step done ∷ []) c.requires.hostile blown,
+        omega (arith, length-append inv.1 (turn_of true step done ∷ []), inv.5),
         err_free _ c.from_residual.result c.from_residual.ensures.0,
       ),
     )

@@ -6,9 +6,10 @@ use Rattle.peer_runner.specs.Keys.{who_in}
 use Rattle.peer_runner.specs.Standings.{standing, IsNext}
 use Rattle.peer_runner.specs.Actions.{accesses_in}
 use Rattle.peer_runner.specs.Rules.{front}
+use Rattle.link_endpoint.specs.Engine.{is_busy}
 use Rattle.link_endpoint.specs.Stands.{Takes}
 use Rattle.peer_runner.specs.Runners.{place_in, call_told, chosen, value_done, holds_on, MayRingBy}
-use Rattle.peer_runner.proofs.Turning.{Frames, is_next, held_turn, stepped_turn, done_there, may_come, round_frames, lines_told, lines_held}
+use Rattle.peer_runner.proofs.Turning.{Frames, first_is, is_next, held_turn, stepped_turn, done_there, may_come, round_frames, lines_told, lines_held}
 use Rattle.peer_runner.proofs.turns.take_turn.Goals as goal
 
 pub take_for-done-requires-clause-next : goal.take_for-done-requires-clause-next
@@ -45,11 +46,12 @@ returns-clause-turned c = λ r t. let key = c.args.words.now.shared.key in let m
     let both = stepped_turn key me c.args.routes.now c.args.ringing.now done r c.args.choice c.args.pass.now c.take_for-done.new.pass c.args.auto.now c.args.end.now c.open_call.new.end c.next-access.result t stands at c.take_for-done.ensures.done c.take_for-done.ensures.pass
     c.count_notes.new.auto c.took-notes.new.self c.took-notes.result.items c.requires.of.2 (sym (busy_is c.open_call.new.end who r.end (place_in who r) stands) ∙ c.open_call.ensures.open) goes took
     (λ auto one other is. rw c.as_slice.ensures.value at (c.count_notes.ensures auto one other is)) in
+    let first = c.is_some-first.ensures ∙ first_is c.args.choice (is_busy c.args.end.now) r t.closes (busy_is c.args.end.now who r.end r.place t.there.stands.stands) in
     let lines = lines_told who r done c.open_call.new.end c.took-notes.new.self c.next-access.result c.took-notes.result.items goes took stands at in (
       done,
       done_there key me c.args.routes.now c.args.ringing.now done r c.args.choice c.args.pass.now c.take_for-done.new.pass c.args.auto.now c.args.end.now c.open_call.new.end c.next-access.result t stands at c.take_for-done.ensures.done c.take_for-done.ensures.pass,
       both.0,
       both.1,
       c.holds_on.ensures,
-      subst (λ (ls : List Line). OnOk c.tell_done.result (c.tell_done.new.lines ≡ c.args.lines.now ++ ls)) lines (rw c.as_slice-2.ensures.value at c.tell_done.ensures),
+      subst (λ (ls : List Line). OnOk c.tell_done.result (c.tell_done.new.lines ≡ c.args.lines.now ++ ls)) lines (rw (first, c.as_slice-2.ensures.value) at c.tell_done.ensures),
     )

@@ -229,6 +229,35 @@ static int check_events(void) {
     return 0;
 }
 
+/* A link of version 3: 45 frames of the longest length leave room for a short one, and the next one begins anew. */
+static int check_bytes(void) {
+    static ivshm_end a = IVSHM_END_NONE, b = IVSHM_END_NONE;
+    static uint8_t frame[274] = {255, 255, 255, 255, 255, 255, 2}, room[300];
+    ivshm_found found = {.table = 4096, .out = 16384};
+    ivshm_view view = {0};
+    size_t length;
+    WANT(ivshm_end_new_version(&a, &found, 2, 0, 256, 1, 3) == IVSHM_DONE && ivshm_end_new_version(&b, &found, 2, 1, 256, 1, 3) == IVSHM_DONE);
+    WANT(run(&a, 0) == 0 && run(&b, 1) == 0);
+    for (int i = 0; i < 10; i++) {
+        tick(&a, 0);
+        tick(&b, 1);
+    }
+    for (int i = 0; i < 46; i++) {
+        WANT(view.outcome != IVSHM_WAS_FULL && ivshm_end_offer(&a, frame, 274) == IVSHM_DONE && run(&a, 0) == 0);
+        WANT(ivshm_end_view(&a, &view) == IVSHM_DONE);
+    }
+    WANT(view.outcome == IVSHM_WAS_FULL && ivshm_end_offer(&a, frame, 14) == IVSHM_DONE && run(&a, 0) == 0);
+    WANT(ivshm_end_view(&a, &view) == IVSHM_DONE && view.outcome == IVSHM_ACCEPTED && words[1024 + 4 * 45] == 16192);
+    WANT(ivshm_end_begin(&b, IVSHM_POLL) == IVSHM_DONE && run(&b, 1) == 46);
+    for (int i = 14; i < 274; i++) frame[i] = (uint8_t)i;
+    WANT(ivshm_end_offer(&a, frame, 274) == IVSHM_DONE && run(&a, 0) == 0 && words[1024 + 4 * 46] == 1792);
+    WANT(ivshm_end_begin(&b, IVSHM_POLL) == IVSHM_DONE && run(&b, 1) == 1);
+    WANT(ivshm_end_frame(&b, room, 300, &length) == IVSHM_DONE && length == 274);
+    for (int i = 0; i < 274; i++) WANT(frame[i] == room[i]);
+    WANT(ivshm_end_free(&a) == IVSHM_DONE && ivshm_end_free(&b) == IVSHM_DONE);
+    return 0;
+}
+
 static int check_ends(void) {
     static ivshm_end a = IVSHM_END_NONE, b = IVSHM_END_NONE;
     static uint8_t frame[300] = {255, 255, 255, 255, 255, 255, 2}, room[300];
@@ -294,6 +323,7 @@ int check(void) {
     if (!line) line = check_handles();
     if (!line) line = check_stretches();
     if (!line) line = check_events();
+    if (!line) line = check_bytes();
     return line ? line : check_ends();
 }
 

@@ -44,7 +44,7 @@
  *  7. A peer that resets its end again and again makes yours clear its section each time (out / 4 accesses). Bound how often you tick in
  *     INIT, if that costs you something.
  *  8. Poll until a poll delivers nothing before you stop: what the other peer published, and you didn't poll, is lost with the session.
- *     Its doorbell comes with its frames, in a link of version 2 with the first one after a poll that found nothing; but poll too where none
+ *     Its doorbell comes with its frames, from version 2 on with the first one after a poll that found nothing; but poll too where none
  *     came: interrupts may be lost.
  *  9. rattle_alloc and rattle_dealloc are yours or those of heap.c, and memcpy, memmove and memset are what C says. The library takes
  *     memory in ivshm_end_new and ivshm_end_new_version alone. It may use the vector registers of its processor: a kernel saves them around its calls.
@@ -113,7 +113,7 @@ enum {
 };
 
 /* The highest version of the link, and bounds; ivshm_limits tells the same numbers of the library that is linked. */
-#define IVSHM_VERSION 2
+#define IVSHM_VERSION 3
 #define IVSHM_LEAST_MTU 256
 #define IVSHM_MOST_MTU 65535
 #define IVSHM_SHORTEST 14    /* bytes of the shortest frame: an Ethernet header */
@@ -161,9 +161,9 @@ typedef struct ivshm_words {
     uint32_t first;
     uint32_t words;
     uint32_t queue_size;        /* descriptors, available entries, used elements */
-    uint32_t limit;             /* frames that may be in flight */
-    uint32_t slot;              /* bytes of a slot, which holds a frame */
-    uint32_t data_area;         /* byte of the section where the slots begin */
+    uint32_t limit;             /* frames that may be in flight; in version 3 as many as queue_size, where their bytes have room */
+    uint32_t slot;              /* bytes of a slot, which holds a frame; in version 3 a frame takes its length, up to the next multiple of 64 */
+    uint32_t data_area;         /* byte of the section where the slots begin, or the ring of bytes */
     uint32_t available_index;   /* flags in the low half, index in the high one */
     uint32_t available_entries; /* two entries a word, the even one in the low half */
     uint32_t used_event;        /* in the low half */
@@ -174,7 +174,7 @@ typedef struct ivshm_words {
     uint32_t longest_delivery;  /* bytes of the longest frame that is taken from the other peer: its section and the format bound it */
 } ivshm_words;
 
-/* Tells the words of a region of these sizes, which are the same in each version. IVSHM_DONE, or one of IVSHM_BAD_PEERS to IVSHM_NO_SLOT. */
+/* Tells the words of a region of these sizes, which are the same in each version, but for what is said of the slots. IVSHM_DONE, or one of IVSHM_BAD_PEERS to IVSHM_NO_SLOT. */
 uint32_t ivshm_layout(const ivshm_found *found, uint32_t peers, uint32_t mtu, ivshm_words *layout);
 
 /* ---- an end ---- */
@@ -189,6 +189,7 @@ uint32_t ivshm_end_new(ivshm_end *end, const ivshm_found *found, uint32_t peers,
  *   1: an offer that publishes a frame rings.
  *   2: it rings where the other's event index asks for it. A poll that finds nothing, the first after frames or in a session, writes the own event
  *      and looks again: once it has found nothing then, the next frame rings. Both need the full fences that an access tells.
+ *   3: as 2, and a frame takes as many bytes of the section as it has, up to the next multiple of 64: more short frames are in flight at once.
  * The answers of ivshm_end_new, or IVSHM_BAD_VERSION. */
 uint32_t ivshm_end_new_version(ivshm_end *end, const ivshm_found *found, uint32_t peers, uint32_t me, uint32_t mtu, uint32_t vector, uint32_t version);
 

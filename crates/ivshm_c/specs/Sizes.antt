@@ -87,7 +87,8 @@ layout_of shape q = record {
   longest_delivery = longest_delivery q;
 }
 
--- the answer where the words are told, which are those of each version: each refusal has its cause, and writes nothing
+-- the answer where the words are told, which are those of each version, with the slots and the limit of the first: each refusal has its cause, and
+-- writes nothing
 pub data LaysOut (found : Found) (peers mtu : ℕ) (before : Layout) : Status → (after : Layout) → Type 0 where
   laid_out : IsShape (shape_found found peers) → IsQueue (sizes_found found 1 mtu) →
       LaysOut found peers mtu before Done (layout_of (shape_found found peers) (sizes_found found 1 mtu))
@@ -95,4 +96,4 @@ pub data LaysOut (found : Found) (peers mtu : ℕ) (before : Layout) : Status �
 
 -- the link's highest version and the bounds of its numbers (profile; the shortest frame is an Ethernet header, the longest one has the greatest MTU and 18 bytes more)
 abbrev pub limits : Limits
-limits = record { version = 2; least_mtu = 256; most_mtu = 65535; shortest_frame = 14; longest_frame = 65553; largest_region = 16777216 }
+limits = record { version = 3; least_mtu = 256; most_mtu = 65535; shortest_frame = 14; longest_frame = 65553; largest_region = 16777216 }

@@ -29,7 +29,7 @@ pub(crate) fn made(
     if me > 1 {
         return Err(Status::BadPeer);
     }
-    if !(1..=2).contains(&version) {
+    if !(1..=3).contains(&version) {
         return Err(Status::BadVersion);
     }
     let (geometry, queue) = match sized(found, version, peers, mtu) {

@@ -32,7 +32,8 @@ pub extern "C" fn ivshm_end_new(
     ivshm_end_new_version(alloc, end, found, peers, me, mtu, vector, 1)
 }
 
-/// The same in a link of this version, 1 or 2. In one of version 2 an end rings where the other's event index asks for it.
+/// The same in a link of this version, 1 to 3. From version 2 on an end rings where the other's event index asks for it; in version 3 the
+/// data area is a ring of bytes.
 #[unsafe(no_mangle)]
 pub extern "C" fn ivshm_end_new_version(
     alloc: Global,

@@ -46,7 +46,7 @@ pub extern "C" fn ivshm_limits(told: &mut Limits)
     ensures { told.new ≡ limits }
 {
     *told = Limits {
-        version: 2,
+        version: 3,
         least_mtu: 256,
         most_mtu: 65_535,
         shortest_frame: 14,

@@ -87,12 +87,12 @@ fn first_steps(rt: HostRuntime) -> Result<(), Fail> {
     Ok(())
 }
 
-/// There are two versions of the link: 0 and 3 are none, and a peer that there isn't is told first.
+/// There are three versions of the link: 0 and 4 are none, and a peer that there isn't is told first.
 #[test]
 fn versions(rt: HostRuntime) -> Result<(), Fail> {
     let alloc = rt.alloc();
     let mut end = End::empty(alloc);
-    for (me, version, answer) in [(0, 0, 28), (0, 3, 28), (2, 3, 10), (0, 2, 0), (0, 1, 2)] {
+    for (me, version, answer) in [(0, 0, 28), (0, 4, 28), (2, 4, 10), (0, 3, 0), (0, 1, 2)] {
         assert_eq!(rt;
             ivshm_end_new_version(alloc, &mut end, &FOUND, 2, me, 256, 1, version),
             answer
@@ -213,7 +213,7 @@ fn numbers_without_an_end(rt: HostRuntime) -> Result<(), Fail> {
         largest_region: 0,
     };
     ivshm_limits(&mut limits);
-    assert_eq!(rt; limits.version, 2);
+    assert_eq!(rt; limits.version, 3);
     assert_eq!(rt; limits.longest_frame, 65_553);
     Ok(())
 }

@@ -90,8 +90,8 @@ pub count_small : (traces : List OwnTrace) (i : ℕ) (t : OwnTrace) (front out :
 count_small traces i t front out count n lt is counted put lines = let before = rows_of_parts (map part_of (take i traces)) in let new = text_of run_pieces_of (rows_of_part (part_of t)) in
     omega (arith, length-append out new, ap length put, length-append front (text_of run_pieces_of before), rows_least before, rows_least (rows_of_part (part_of t)), rows_in_part (part_of t), counted, lines)
 
-pub run_put : (front : List ℕ) (r : RunRecord) → (((front ++ (codes "run 1" ++ 10 ∷ [])) ++ scenario.spelling r.world) ++ text_of run_pieces_of (rows_of_parts r.parts)) ++ line_of_row run_pieces_of (row (Own Count) (length (rows_of_parts r.parts) ∷ []) []) ≡ front ++ run_spelling r
-run_put front r = let all = rows_of_parts r.parts in let first = codes "run 1" in let count = row (Own Count) (length all ∷ []) [] in
+pub run_put : (front : List ℕ) (r : RunRecord) → (((front ++ (codes "run 2" ++ 10 ∷ [])) ++ scenario.spelling r.world) ++ text_of run_pieces_of (rows_of_parts r.parts)) ++ line_of_row run_pieces_of (row (Own Count) (length (rows_of_parts r.parts) ∷ []) []) ≡ front ++ run_spelling r
+run_put front r = let all = rows_of_parts r.parts in let first = codes "run 2" in let count = row (Own Count) (length all ∷ []) [] in
     text-push ((front ++ (first ++ 10 ∷ [])) ++ scenario.spelling r.world) all count
     ∙ (ap (λ (t : List ℕ). t ++ text_of run_pieces_of (run_rows r.parts)) (append_assoc front (first ++ 10 ∷ []) (scenario.spelling r.world))
     ∙ append_assoc front ((first ++ 10 ∷ []) ++ scenario.spelling r.world) (text_of run_pieces_of (run_rows r.parts)))

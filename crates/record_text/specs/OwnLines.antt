@@ -2,9 +2,10 @@
 use Rattle.std.specs.Prelude.{◌≡◌, ◌==◌, ◌&&◌, not, Bool, true, false, ℕ, List, length}
 use Rattle.std.specs.List.{list_all}
 use Rattle.lawful_history.specs.declared.line.Line.{Line}
-use Rattle.lawful_history.specs.declared.line.Line.TheVariants.{Read, Write, State, Doorbell, Interrupt, Saw, Reclaim, Look, Full, Done, Over, Down, Accept, Deliver, Return, Refuse}
+use Rattle.lawful_history.specs.declared.line.Line.TheVariants.{Read, Write, State, Doorbell, Interrupt, Saw, Reclaim, Look, Full, Done, Over, Down, Accept, Deliver, Return, Refuse, Reset, Session}
 
--- an access, a doorbell, an interrupt that P found or a mark of P; its frame, if it has one, has at least one byte
+-- an access, a doorbell, an interrupt that P found, a reset or a mark of P, that of a session among them; its frame, if it has one, has at least one
+-- byte
 abbrev pub is_own : ℕ → Line → Bool
 is_own p (Read q word value) = q == p
 is_own p (Write q word value) = q == p
@@ -22,6 +23,8 @@ is_own p (Accept q frame) = q == p && not (length frame == 0)
 is_own p (Deliver q frame) = q == p && not (length frame == 0)
 is_own p (Return q) = q == p
 is_own p (Refuse q refused) = q == p
+is_own p (Reset q) = q == p
+is_own p (Session q opened other) = q == p
 is_own p _ = false
 
 abbrev pub AreOwn : ℕ → List Line → Type 0

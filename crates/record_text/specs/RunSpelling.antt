@@ -1,4 +1,4 @@
--- Running records as texts: the scenario's text after `run 1`, then what each running peer did, and last the number of those lines.
+-- Running records as texts: the scenario's text after `run 2`, then what each running peer did, and last the number of those lines.
 use Rattle.std.specs.Prelude.{◌≡◌, ℕ, ◌^◌, ◌<◌, if◌then◌else◌, All, List, [], ◌∷◌, ◌++◌, length, map, codes}
 use Rattle.std.specs.List.{flat_map}
 use Rattle.line_text.specs.Rows.{Row, row, text_of}
@@ -53,7 +53,7 @@ pub record IsRunRecord (r : RunRecord) : Type 0 where
 
 -- the one text of a running record
 abbrev pub run_spelling : RunRecord → List ℕ
-run_spelling r = codes "run 1" ++ 10 ∷ scenario.spelling r.world ++ text_of run_pieces_of (run_rows r.parts)
+run_spelling r = codes "run 2" ++ 10 ∷ scenario.spelling r.world ++ text_of run_pieces_of (run_rows r.parts)
 
 -- the bytes spell the running record
 abbrev pub IsRunSpelling : RunRecord → List ℕ → Type 0

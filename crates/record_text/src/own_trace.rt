@@ -4,7 +4,8 @@ ghost use Rattle.record_text.specs.OwnLines.{AreOwn};
 use lawful_history::Lines;
 
 /// What one running peer did, in its own order. There are just the traces that have a spelling: the lines are accesses,
-/// doorbells, interrupts and marks of this peer, and every frame has at least one byte.
+/// doorbells, interrupts, resets and marks of this peer, those of its sessions among them, and every frame has at least one
+/// byte.
 #[derive(Debug, Drop)]
 pub struct OwnTrace {
     /// The peer's number.

@@ -80,7 +80,7 @@ fn put_run(out: &mut Vec<u8>, trace: &RunTrace) -> Result<(), AllocError>
     ensures put { OnOk result (out.new.items ≡ out.old.items ++ run_spelling (run_of trace.now)) }
     ensures is { OnOk result (IsRunRecord (run_of trace.now)) }
 {
-    out.extend_from_slice(b"run 1\n")?;
+    out.extend_from_slice(b"run 2\n")?;
     put_scenario(out, &trace.scenario)?;
     let count = put_parts(out, trace.peers.items())?;
     put(out, RunForm::Own(LineForm::Count), &[count])

@@ -13,4 +13,5 @@ pub mod ForwardLaws
 pub mod PrintLaws
 pub mod LawLaws
 pub mod LoadLaws
+pub mod EndLaws
 pub mod RunningLaws

@@ -1,24 +1,51 @@
 -- The running form: scenarios whose peers can each be driven by a thread of its own. Automatic peers with their offers, storms, and what
--- sets the peers' devices come first; then come the turns, at most one line for each peer.
-use Rattle.std.specs.Prelude.{◌≡◌, ℕ, ◌+◌, ◌==◌, ◌||◌, not, if◌then◌else◌, Bool, true, false, List, [], ◌∷◌, ◌++◌, Option, Some, None, slice_index_or}
-use Rattle.std.specs.List.{list_any, list_all}
+-- sets the peers' devices come first; then come the turns, and between each two turns of a peer one reset of it.
+use Rattle.std.specs.Prelude.{◌≡◌, ℕ, ◌+◌, ◌==◌, ◌&&◌, ◌||◌, not, nat_lt, if◌then◌else◌, Bool, true, false, List, [], ◌∷◌, ◌++◌, drop, Option, Some, None, slice_index_or}
+use Rattle.std.specs.List.{list_any}
 use Rattle.scenario_text.specs.declared.acts.Act.{Act}
-use Rattle.scenario_text.specs.declared.acts.Act.TheVariants.{Offer, Auto, Storm, Turn, CfgWrite, MmioWrite, MsixWrite}
+use Rattle.scenario_text.specs.declared.acts.Act.TheVariants.{Offer, Auto, Storm, Turn, Reset, CfgWrite, MmioWrite, MsixWrite}
+use Rattle.scenario_text.specs.declared.ends.Ends.{Ends}
 use Rattle.scenario_text.specs.declared.running.Before.{Before}
-use Rattle.scenario_text.specs.Acts.{has_auto, has_storm}
+use Rattle.scenario_text.specs.Acts.{peer_of, has_auto, has_storm}
 use Rattle.scenario_text.specs.Scenario.{World}
 
-abbrev pub is_turn : Act → Bool
-is_turn (Turn p steps) = true
-is_turn _ = false
+-- ---- turns and resets
 
 -- the act is a turn of P
 abbrev pub is_turn_of : ℕ → Act → Bool
 is_turn_of p (Turn q steps) = q == p
 is_turn_of p _ = false
 
+-- the act is a reset of P
+abbrev pub is_reset_of : ℕ → Act → Bool
+is_reset_of p (Reset q) = q == p
+is_reset_of p _ = false
+
+-- the act is neither a turn nor a reset
+abbrev pub is_other : Act → Bool
+is_other (Turn p steps) = false
+is_other (Reset p) = false
+is_other _ = true
+
 unfoldable pub has_turn : List Act → ℕ → Bool
 has_turn acts p = list_any (is_turn_of p) acts
+
+unfoldable pub has_reset : List Act → ℕ → Bool
+has_reset acts p = list_any (is_reset_of p) acts
+
+unfoldable pub has_other : List Act → Bool
+has_other acts = list_any is_other acts
+
+-- behind a reset of P stands no turn of P: of P's turns and resets the last is a reset
+unfoldable pub is_reset_last : List Act → ℕ → Bool
+is_reset_last [] p = false
+is_reset_last (act ∷ later) p = (is_reset_of p act && not (has_turn later p)) || is_reset_last later p
+
+-- of P's turns and resets the last is a turn
+abbrev pub is_turn_last : List Act → ℕ → Bool
+is_turn_last acts p = has_turn acts p && not (is_reset_last acts p)
+
+-- ---- devices
 
 -- the act writes what says how interrupts reach a peer: its configuration space, its MSI-X region, or Interrupt Control, at offset 8
 abbrev pub sets_device : Act → Bool
@@ -27,14 +54,28 @@ sets_device (MsixWrite p offset value) = true
 sets_device (MmioWrite p offset value) = offset == 8
 sets_device _ = false
 
--- Between these acts, the act breaks the form: it is no `auto`, `storm`, `offer` or `turn`, and sets no device; or an offer of a peer that
--- isn't automatic yet; or a turn before an act that is none, or the second turn of its peer, or one of a peer that is neither automatic nor
--- a storm.
+-- one of the acts sets P's device
+unfoldable pub has_setting : List Act → ℕ → Bool
+has_setting acts p = list_any (λ act. sets_device act && peer_of act == p) acts
+
+-- ---- the form
+
+-- Between these acts, the act breaks the form. An offer breaks it where its peer isn't automatic yet. A turn breaks it before an act that is
+-- neither turn nor reset, where its peer's last turn had no reset since, or where its peer is neither automatic nor a storm. A reset breaks
+-- it before an act that is neither turn nor reset, where no turn of its peer stands before it, where it is the second one between two turns,
+-- where it is the last of its peer's turns and resets, or where its peer's device is set before it. Any other act breaks it unless it is an
+-- `auto` or a `storm`, or sets a device.
 abbrev pub breaks : List Act → Act → List Act → Bool
 breaks before (Auto p expect) later = false
 breaks before (Storm p seed) later = false
 breaks before (Offer p frame) later = not (has_auto before p)
-breaks before (Turn p steps) later = not (list_all is_turn later) || has_turn before p || not (has_auto before p || has_storm before p)
+breaks before (Turn p steps) later = has_other later || is_turn_last before p || not (has_auto before p || has_storm before p)
+breaks before (Reset p) later =
+    has_other later
+    || not (has_turn before p)
+    || (is_reset_last before p && has_turn later p)
+    || not (has_turn later p || has_reset later p)
+    || has_setting before p
 breaks before act later = not (sets_device act)
 
 -- the line of the first act that breaks the form, where these acts stand before the first, whose line is this
@@ -50,8 +91,18 @@ first_line w = w.geometry.peers + 9
 abbrev pub not_running : World → Option ℕ
 not_running w = first_break [] w.acts (first_line w)
 
+-- ---- how it is found
+
 -- what stands before an act is what these acts say
 pub record Tells (before : Before) (acts : List Act) : Type 0 where
   pub autos : (p : ℕ) → slice_index_or before.autos p false ≡ has_auto acts p
   pub storms : (p : ℕ) → slice_index_or before.storms p false ≡ has_storm acts p
   pub turns : (p : ℕ) → slice_index_or before.turned p false ≡ has_turn acts p
+  pub resets : (p : ℕ) → slice_index_or before.reset p false ≡ is_reset_last acts p
+  pub settings : (p : ℕ) → slice_index_or before.set p false ≡ has_setting acts p
+
+-- behind the first K of these acts stands one of a kind just where K is below the end of that kind
+pub record AreEnds (ends : Ends) (acts : List Act) : Type 0 where
+  pub others : (k : ℕ) → has_other (drop k acts) ≡ nat_lt k ends.others
+  pub turns : (p k : ℕ) → has_turn (drop k acts) p ≡ nat_lt k (slice_index_or ends.turns p 0)
+  pub resets : (p k : ℕ) → has_reset (drop k acts) p ≡ nat_lt k (slice_index_or ends.resets p 0)

@@ -6,6 +6,7 @@
 
 mod acts;
 mod drafts;
+mod ends;
 mod faults;
 mod forms;
 mod judging;

@@ -1,12 +1,12 @@
 //! Whether each peer of a scenario can be driven by a thread of its own.
-ghost use Rattle.std.specs.Prelude.{◌≡◌, ◌<◌, ◌++◌, [], ◌∷◌, ℕ, List, false, slice_index_or, nat_le, drop};
-ghost use Rattle.std.specs.List.{list_all};
+ghost use Rattle.std.specs.Prelude.{◌≡◌, ◌<◌, ◌++◌, [], ◌∷◌, ◌==◌, ◌&&◌, ℕ, List, false, slice_index_or, drop, if◌then◌else◌};
 ghost use Rattle.scenario_text.specs.declared.acts.Act as acts;
 ghost use Rattle.scenario_text.specs.Acts.{peer_of};
-ghost use Rattle.scenario_text.specs.Running.{is_turn, is_turn_of, sets_device, breaks, not_running, Tells};
+ghost use Rattle.scenario_text.specs.Running.{sets_device, breaks, not_running, Tells, AreEnds};
 ghost use Rattle.scenario_text.specs.Spelling.{world_of};
 
 use crate::acts::Act;
+use crate::ends::Ends;
 use crate::scenarios::Scenario;
 use crate::taking::mark;
 
@@ -25,6 +25,10 @@ struct Before {
     storms: [bool; 8],
     /// Which peers have a turn line.
     turned: [bool; 8],
+    /// Of which peers the last turn or reset line is a reset.
+    reset: [bool; 8],
+    /// Which peers' devices are set by a line.
+    set: [bool; 8],
 }
 
 /// The flag of this peer, where it has one.
@@ -34,15 +38,17 @@ fn flag(flags: &[bool; 8], peer: u32) -> bool
     flags.get(peer as usize).copied().unwrap_or(false)
 }
 
-impl Act {
-    /// Is it a turn line?
-    fn is_turn(&self) -> bool
-        ensures turn { result ≡ is_turn self.now }
-        ensures peer { result ≡ is_turn_of (peer_of self.now) self.now }
-    {
-        matches!(self, Act::Turn { .. })
+/// Puts the flag of the peer to this value where it is on.
+fn put(flags: &mut [bool; 8], peer: usize, on: bool, value: bool)
+    requires { peer < 8 }
+    ensures { (p : ℕ) → slice_index_or flags.new p false ≡ (if on && (peer == p) then value else slice_index_or flags.old p false) }
+{
+    if on {
+        flags[peer] = value;
     }
+}
 
+impl Act {
     /// Does it write what says how interrupts reach a peer: its configuration space, its MSI-X region, or Interrupt Control?
     pub fn sets_device(&self) -> bool
         ensures { result ≡ sets_device self.now }
@@ -64,20 +70,29 @@ impl Before {
             autos: [false; 8],
             storms: [false; 8],
             turned: [false; 8],
+            reset: [false; 8],
+            set: [false; 8],
         }
     }
 
-    /// Does the act break the form? After it stand turns alone where `ends` is true.
-    fn is_broken_by(&self, act: &Act, ends: bool) -> bool
-        ensures { (before later : List acts.Act) → Tells self.now before → ends ≡ list_all is_turn later → result ≡ breaks before act.now later }
+    /// Does the act break the form? With it there are `count` acts so far, and the ends are those in all acts.
+    fn is_broken_by(&self, act: &Act, ends: &Ends, count: usize) -> bool
+        ensures { (before all : List acts.Act) → Tells self.now before → AreEnds ends.now all → result ≡ breaks before act.now (drop count all) }
     {
         match act {
             Act::Auto { .. } | Act::Storm { .. } => false,
             Act::Offer { peer, .. } => !flag(&self.autos, *peer),
             Act::Turn { peer, .. } => {
-                !ends
-                    || flag(&self.turned, *peer)
+                ends.has_other(count)
+                    || (flag(&self.turned, *peer) && !flag(&self.reset, *peer))
                     || !(flag(&self.autos, *peer) || flag(&self.storms, *peer))
+            }
+            Act::Reset { peer } => {
+                ends.has_other(count)
+                    || !flag(&self.turned, *peer)
+                    || (flag(&self.reset, *peer) && ends.has_turn(*peer, count))
+                    || !(ends.has_turn(*peer, count) || ends.has_reset(*peer, count))
+                    || flag(&self.set, *peer)
             }
             _ => !act.sets_device(),
         }
@@ -92,20 +107,9 @@ impl Before {
         mark(&mut self.autos, peer, act.is_auto());
         mark(&mut self.storms, peer, act.is_storm());
         mark(&mut self.turned, peer, act.is_turn());
+        put(&mut self.reset, peer, !act.is_other(), act.is_reset());
+        mark(&mut self.set, peer, act.sets_device());
     }
-}
-
-/// The number of the first of the turns at the end, or of all acts where the last one is no turn.
-fn last_turns(acts: &[Act]) -> usize
-    ensures { (k : ℕ) → list_all is_turn (drop k acts.now) ≡ nat_le result k }
-{
-    let mut from = 0;
-    for (k, act) in acts.iter().enumerate() {
-        if !act.is_turn() {
-            from = k + 1;
-        }
-    }
-    from
 }
 
 /// The first line that the running form doesn't allow (docs/FORMATS.md), or None where it allows them all. It takes
@@ -114,10 +118,10 @@ pub fn not_running(scenario: &Scenario) -> Option<u64>
     ensures { result ≡ not_running (world_of scenario.now) }
 {
     let acts = scenario.acts.items();
-    let turns = last_turns(acts);
+    let ends = Ends::of(acts);
     let mut before = Before::nothing();
     for (k, act) in acts.iter().enumerate() {
-        if before.is_broken_by(act, turns <= k + 1) {
+        if before.is_broken_by(act, &ends, k + 1) {
             return Some(u64::from(scenario.geometry.peers()) + FIRST_LINE + k as u64);
         }
         before.add(act);

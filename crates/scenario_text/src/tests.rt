@@ -185,13 +185,127 @@ fn running_form(rt: HostRuntime) -> Result<(), Fail> {
             b"auto 0 0\nstorm 1 7\nturn 0 5\nturn 1 5\noffer 0 ffffffffffff0200000000010800\nend\n",
             Some(13),
         ),
-        (b"auto 0 0\nturn 0 5\nturn 0 5\nreset 0\nend\n", Some(12)),
+        (b"auto 0 0\nturn 0 5\nturn 0 5\nreset 0\nend\n", Some(13)),
         (b"auto 0 0\nturn 0 5\nturn 0 5\nend\n", Some(13)),
         (b"auto 0 0\nturn 1 5\nturn 0 5\nend\n", Some(12)),
         (b"auto 0 0\nturn 0 5\nturn 1 5\nend\n", Some(13)),
     ];
     for (acts, line) in cases {
         let breaks = first_break(rt.alloc(), WITH_HOSTILE, acts)?;
+        assert!(rt; breaks == line, "{line:?}");
+    }
+    Ok(())
+}
+
+#[test]
+fn resets_between_turns(rt: HostRuntime) -> Result<(), Fail> {
+    let cases: [(&[u8], Option<u64>); 7] = [
+        (
+            b"auto 0 0\nstorm 1 7\nturn 0 5\nturn 1 5\nreset 1\nreset 0\nturn 1 5\nturn 0 5\nreset 0\nturn 0 5\nend\n",
+            None,
+        ),
+        (
+            b"auto 0 0\nstorm 1 7\nturn 0 5\nturn 1 5\nreset 1\nturn 0 5\nturn 1 5\nend\n",
+            Some(16),
+        ),
+        (b"auto 0 0\nturn 0 5\nreset 0\nturn 0 5\nend\n", None),
+        (
+            b"auto 0 0\nturn 0 5\nreset 0\nturn 0 5\nturn 0 5\nend\n",
+            Some(15),
+        ),
+        (
+            b"auto 0 0\nturn 0 5\nreset 0\nreset 0\nturn 0 5\nend\n",
+            Some(14),
+        ),
+        (
+            b"auto 0 0\nturn 0 5\nreset 0\nreset 0\nreset 0\nturn 0 5\nend\n",
+            Some(14),
+        ),
+        (
+            b"auto 0 0\nturn 0 5\nturn 1 5\nreset 1\nturn 1 5\nend\n",
+            Some(13),
+        ),
+    ];
+    for (acts, line) in cases {
+        let breaks = first_break(rt.alloc(), WITH_HOSTILE, acts)?;
+        assert!(rt; breaks == line, "{line:?}");
+    }
+    Ok(())
+}
+
+#[test]
+fn resets_at_an_end(rt: HostRuntime) -> Result<(), Fail> {
+    let cases: [(&[u8], Option<u64>); 6] = [
+        (b"reset 0\nend\n", Some(11)),
+        (b"reset 0\nauto 0 0\nturn 0 5\nend\n", Some(11)),
+        (b"auto 0 0\nreset 0\nturn 0 5\nend\n", Some(12)),
+        (b"auto 0 0\nturn 0 5\nreset 0\nend\n", Some(13)),
+        (b"auto 0 0\nturn 0 5\nreset 0\nreset 0\nend\n", Some(14)),
+        (
+            b"auto 0 0\nturn 0 5\nreset 0\nturn 0 5\nreset 0\nend\n",
+            Some(15),
+        ),
+    ];
+    for (acts, line) in cases {
+        let breaks = first_break(rt.alloc(), WITH_HOSTILE, acts)?;
+        assert!(rt; breaks == line, "{line:?}");
+    }
+    Ok(())
+}
+
+#[test]
+fn resets_and_other_acts(rt: HostRuntime) -> Result<(), Fail> {
+    let cases: [(&[u8], Option<u64>); 7] = [
+        (
+            b"auto 0 0\nturn 0 5\nreset 0\nstorm 1 7\nturn 0 5\nend\n",
+            Some(12),
+        ),
+        (
+            b"auto 0 0\nturn 0 5\nreset 0\ncfg 0 w 4 2 4\nturn 0 5\nend\n",
+            Some(12),
+        ),
+        (
+            b"auto 0 0\noffer 0 ffffffffffff0200000000010800\nturn 0 5\nreset 0\nturn 0 5\noffer 0 ffffffffffff0200000000010800\nend\n",
+            Some(13),
+        ),
+        (
+            b"auto 0 0\ncfg 1 w 4 2 4\nturn 0 5\nreset 0\nturn 0 5\nend\n",
+            None,
+        ),
+        (
+            b"auto 0 0\ncfg 0 w 4 2 4\nturn 0 5\nreset 0\nturn 0 5\nend\n",
+            Some(14),
+        ),
+        (
+            b"auto 0 0\nmsix 0 w 28 0\nturn 0 5\nreset 0\nturn 0 5\nend\n",
+            Some(14),
+        ),
+        (
+            b"auto 0 0\nmmio 0 w 8 3\nturn 0 5\nreset 0\nturn 0 5\nend\n",
+            Some(14),
+        ),
+    ];
+    for (acts, line) in cases {
+        let breaks = first_break(rt.alloc(), WITH_HOSTILE, acts)?;
+        assert!(rt; breaks == line, "{line:?}");
+    }
+    Ok(())
+}
+
+#[test]
+fn running_form_of_two_sessions(rt: HostRuntime) -> Result<(), Fail> {
+    let cases: [(&[u8], Option<u64>); 2] = [
+        (
+            b"auto 0 1\nauto 1 41\noffer 1 ffffffffffff0200000000010800\nturn 0 6000\nturn 1 400000\nreset 0\nturn 0 400000\nend\n",
+            None,
+        ),
+        (
+            b"auto 0 1\nauto 1 41\noffer 1 ffffffffffff0200000000010800\nturn 0 6000\nturn 1 400000\nreset 0\nturn 0 400000\nturn 1 5\nend\n",
+            Some(18),
+        ),
+    ];
+    for (acts, line) in cases {
+        let breaks = first_break(rt.alloc(), HEAD, acts)?;
         assert!(rt; breaks == line, "{line:?}");
     }
     Ok(())

@@ -1,6 +1,7 @@
 use Rattle.std.proofs.Common.{sym, ◌∙◌}
 use Rattle.scenario_text.proofs.ActLaws.{no_flags, no_autos, no_storms}
-use Rattle.scenario_text.proofs.RunningLaws.{no_turns}
+use Rattle.scenario_text.proofs.EndLaws.{no_turns}
+use Rattle.scenario_text.proofs.RunningLaws.{none_last, no_settings}
 use Rattle.scenario_text.proofs.running.Before.nothing.Goals as goal
 
 pub returns : goal.returns
@@ -8,4 +9,6 @@ returns c = record {
   autos = λ p. no_flags p ∙ sym (no_autos p);
   storms = λ p. no_flags p ∙ sym (no_storms p);
   turns = λ p. no_flags p ∙ sym (no_turns p);
+  resets = λ p. no_flags p ∙ sym (none_last p);
+  settings = λ p. no_flags p ∙ sym (no_settings p);
 }

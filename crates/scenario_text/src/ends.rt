@@ -1,0 +1,125 @@
+//! Where the last turn and the last reset of each peer stand, and the last act that is neither.
+ghost use Rattle.std.specs.Prelude.{◌≡◌, ◌<◌, ◌++◌, [], ◌∷◌, ◌+◌, ◌==◌, ◌&&◌, ℕ, List, All, length, slice_index_or, drop, if◌then◌else◌};
+ghost use Rattle.scenario_text.specs.declared.acts.Act as acts;
+ghost use Rattle.scenario_text.specs.Acts.{peer_of};
+ghost use Rattle.scenario_text.specs.Running.{is_turn_of, is_reset_of, is_other, has_turn, has_reset, has_other, AreEnds};
+
+use crate::acts::Act;
+
+/// The ends of three kinds of acts. The end of a kind is how many acts there are up to its last one and with it, or 0
+/// where there is none.
+#[derive(Drop)]
+pub struct Ends {
+    /// The end of the acts that are neither turns nor resets.
+    others: usize,
+    /// The end of each peer's turns.
+    turns: [usize; 8],
+    /// The end of each peer's resets.
+    resets: [usize; 8],
+}
+
+impl Act {
+    /// Is it a turn line?
+    pub fn is_turn(&self) -> bool
+        ensures { result ≡ is_turn_of (peer_of self.now) self.now }
+    {
+        matches!(self, Act::Turn { .. })
+    }
+
+    /// Is it a reset line?
+    pub fn is_reset(&self) -> bool
+        ensures { result ≡ is_reset_of (peer_of self.now) self.now }
+    {
+        matches!(self, Act::Reset { .. })
+    }
+
+    /// Is it neither?
+    pub fn is_other(&self) -> bool
+        ensures { result ≡ is_other self.now }
+    {
+        !matches!(self, Act::Turn { .. } | Act::Reset { .. })
+    }
+}
+
+/// The end of this peer's acts, or 0 where it has no place.
+fn end_of(ends: &[usize; 8], peer: u32) -> usize
+    ensures { result ≡ slice_index_or ends.now peer 0 }
+{
+    ends.get(peer as usize).copied().unwrap_or(0)
+}
+
+/// Puts the end of the peer's acts here where it is on.
+fn extend(ends: &mut [usize; 8], peer: usize, on: bool, end: usize)
+    requires { peer < 8 }
+    ensures { (p : ℕ) → slice_index_or ends.new p 0 ≡ (if on && (peer == p) then end else slice_index_or ends.old p 0) }
+{
+    if on {
+        ends[peer] = end;
+    }
+}
+
+/// Puts the end here where it is on.
+fn lengthen(last: &mut usize, on: bool, end: usize)
+    ensures { last.new ≡ (if on then end else last.old) }
+{
+    if on {
+        *last = end;
+    }
+}
+
+impl Ends {
+    /// No act is of any kind.
+    fn nothing() -> Ends
+        ensures { AreEnds result [] }
+    {
+        Ends {
+            others: 0,
+            turns: [0; 8],
+            resets: [0; 8],
+        }
+    }
+
+    /// Adds an act, with which there are this many.
+    fn add(&mut self, act: &Act, end: usize)
+        requires { peer_of act.now < 8 }
+        ensures { (said : List acts.Act) → AreEnds self.old said → end ≡ length said + 1 → AreEnds self.new (said ++ act.now ∷ []) }
+    {
+        let peer = act.peer() as usize;
+        extend(&mut self.turns, peer, act.is_turn(), end);
+        extend(&mut self.resets, peer, act.is_reset(), end);
+        lengthen(&mut self.others, act.is_other(), end);
+    }
+
+    /// The ends in these acts.
+    pub fn of(acts: &[Act]) -> Ends
+        requires { All (λ act. peer_of act < 8) acts.now }
+        ensures { AreEnds result acts.now }
+    {
+        let mut ends = Ends::nothing();
+        for (k, act) in acts.iter().enumerate() {
+            ends.add(act, k + 1);
+        }
+        ends
+    }
+
+    /// Does an act that is neither a turn nor a reset stand behind the first `count` acts?
+    pub fn has_other(&self, count: usize) -> bool
+        ensures { (acts : List acts.Act) → AreEnds self.now acts → result ≡ has_other (drop count acts) }
+    {
+        count < self.others
+    }
+
+    /// Does a turn of the peer stand behind the first `count` acts?
+    pub fn has_turn(&self, peer: u32, count: usize) -> bool
+        ensures { (acts : List acts.Act) → AreEnds self.now acts → result ≡ has_turn (drop count acts) peer }
+    {
+        count < end_of(&self.turns, peer)
+    }
+
+    /// Does a reset of the peer stand behind the first `count` acts?
+    pub fn has_reset(&self, peer: u32, count: usize) -> bool
+        ensures { (acts : List acts.Act) → AreEnds self.now acts → result ≡ has_reset (drop count acts) peer }
+    {
+        count < end_of(&self.resets, peer)
+    }
+}

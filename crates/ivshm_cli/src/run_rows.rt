@@ -161,6 +161,59 @@ fn a_gate_is_called_before_each_turn(rt: HostRuntime) -> Result<(), Fail> {
     Ok(())
 }
 
+/// Two peers that can't finish, since peer 0 waits for a frame that nobody sends, and peer 1 for one too many; peer 0 is reset in its first session.
+fn restarting(alloc: Global) -> Result<String, AllocError> {
+    let mut text = format!(in alloc; "{HONEST}auto 0 1\nauto 1 41\n")?;
+    for _ in 0..40 {
+        write!(text, "offer 0 {FRAME}\n")?;
+    }
+    write!(text, "turn 0 6000\nturn 1 400000\nreset 0\nturn 0 400000\n")?;
+    Ok(text)
+}
+
+#[test]
+fn a_reset_peer_opens_a_session_anew(rt: HostRuntime) -> Result<(), Fail> {
+    let alloc = rt.alloc();
+    let scenario = format!(in alloc; "{}end\n", restarting(alloc)?.as_str())?;
+    let gate = Near::new(64);
+    let told = run(&rt, alloc, scenario.as_str(), &gate)?;
+    assert!(rt; !gate.is_spent());
+    assert_eq!(rt; told.status, Status::Done);
+    assert!(rt; told.text.starts_with(b"run 2\n"));
+    assert_eq!(rt; told.count(b"session "), 4);
+    for mark in [
+        "session 0 1 1",
+        "session 0 2 2",
+        "session 1 1 1",
+        "session 1 2 2",
+        "x 0",
+    ] {
+        assert_eq!(rt; told.lines(mark.as_bytes()), 1, "{mark}");
+    }
+    assert_eq!(rt; told.count(b"x "), 1);
+    assert_eq!(rt; told.count(b"refuse "), 0);
+    assert_eq!(rt; told.lines(b"spent"), 2);
+    assert_eq!(rt; told.lines(b"turns 406001"), 1);
+    Ok(())
+}
+
+#[test]
+fn resets_that_are_not_run(rt: HostRuntime) -> Result<(), Fail> {
+    let alloc = rt.alloc();
+    let first = restarting(alloc)?;
+    for (acts, line) in [
+        ("turn 1 5\nend\n", "refused 57 NotRunning\n"),
+        ("reset 0\nend\n", "refused 57 NotRunning\n"),
+        ("cfg 1 w 4 2 6\nend\n", "refused 53 NotRunning\n"),
+    ] {
+        let scenario = format!(in alloc; "{}{acts}", first.as_str())?;
+        let told = run(&rt, alloc, scenario.as_str(), &OpenGate)?;
+        assert_eq!(rt; told.status, Status::Refused, "{acts}");
+        assert_eq!(rt; told.text.as_slice(), line.as_bytes(), "{acts}");
+    }
+    Ok(())
+}
+
 /// The number in a field of a line, counted from 0.
 fn number(line: &[u8], field: usize) -> Option<u64> {
     line_text::number(line.split(|byte| *byte == b' ').nth(field)?)

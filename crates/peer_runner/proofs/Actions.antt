@@ -1,9 +1,9 @@
--- The accesses that are among actions.
+-- The deeds that are among actions.
 use Rattle.std.proofs.Common.{◌≡◌, ℕ, List, [], ◌∷◌, ◌++◌, refl, sym, ap, ◌∙◌, append-nil}
 use mathlib.Core.Logic.{dite}
 use native.Mathlib.Decide.{ℕ_discrete}
 use Rattle.std.proofs.lemmas.Grind.{flat_map-append}
-use Rattle.peer_runner.specs.Standings.{Taken}
+use Rattle.peer_runner.specs.Standings.{Taken, Deed}
 use Rattle.peer_runner.specs.Actions.{Action, accessed, access_in, accesses_in}
 use Rattle.peer_runner.specs.Made.{Grows}
 use Rattle.peer_runner.specs.Rules.{accesses_by}
@@ -20,11 +20,11 @@ pub accesses_snoc : {A : Type 0} → (xs : List (Action A)) (t : Action A) → a
 unfolding accesses_in
 accesses_snoc xs t = flat_map-append access_in xs (t ∷ []) ∙ ap (λ l. accesses_in xs ++ l) (append-nil (access_in t))
 
--- an access to the region is one more in its list, and another action leaves all of these lists
-pub grows_access : (acc next : ℕ → List (Action Taken)) (p : ℕ) (t : Taken) → Grows acc next p (accessed t) → Grows (accesses_by acc) (accesses_by next) p t
-grows_access acc next p t g = record { here = ap accesses_in g.here ∙ accesses_snoc (acc p) (accessed t); beside = λ q ne. ap accesses_in (g.beside q ne) }
+-- a deed is one more in its list, and another action leaves all of these lists
+pub grows_access : (acc next : ℕ → List (Action (Deed Taken))) (p : ℕ) (d : Deed Taken) → Grows acc next p (accessed d) → Grows (accesses_by acc) (accesses_by next) p d
+grows_access acc next p d g = record { here = ap accesses_in g.here ∙ accesses_snoc (acc p) (accessed d); beside = λ q ne. ap accesses_in (g.beside q ne) }
 
-pub grows_other : (acc next : ℕ → List (Action Taken)) (p : ℕ) (t : Action Taken) → access_in t ≡ [] → Grows acc next p t → accesses_by next ≡ accesses_by acc
+pub grows_other : (acc next : ℕ → List (Action (Deed Taken))) (p : ℕ) (t : Action (Deed Taken)) → access_in t ≡ [] → Grows acc next p t → accesses_by next ≡ accesses_by acc
 grows_other acc next p t none g = λ k q. (dite (ℕ_discrete q p)
     (λ e. ap (λ i. accesses_in (next i)) e ∙ (ap accesses_in g.here ∙ (accesses_snoc (acc p) t ∙ (ap (λ l. accesses_in (acc p) ++ l) none ∙ (append-nil (accesses_in (acc p)) ∙ ap (λ i. accesses_in (acc i)) (sym e))))))
     (λ ne. ap accesses_in (g.beside q ne))) k

@@ -15,7 +15,7 @@ use Rattle.doorbell_irq.specs.Routes.{bit_for, bit_rung}
 use Rattle.peer_runner.specs.declared.key.Key.{Key}
 use Rattle.peer_runner.specs.declared.ways.Way.{Way}
 use Rattle.peer_runner.specs.declared.ways.Way.TheVariants.{Silent, Direct, Guarded}
-use Rattle.peer_runner.specs.Standings.{Taken}
+use Rattle.peer_runner.specs.Standings.{Taken, Deed}
 use Rattle.peer_runner.specs.Actions.{Action}
 use Rattle.peer_runner.specs.Interrupts.{one_if, IsOneShot}
 use Rattle.peer_runner.specs.Ways.{nowhere, route_to, way_by, way_to, is_guarded, rung_by, AreRoutes}
@@ -83,11 +83,11 @@ not_so true never = absurd (never refl)
 not_so false never = refl
 
 -- no ring is to come where the doorbell isn't guarded
-pub never_ringing : (routes : List Route) (target vector : ℕ) (way : Way) (ringing : Bool) (list : List (Action Taken)) → way_to routes target vector ≡ way → is_guarded way ≡ false → (ringing ≡ true → MayRingBy routes (access.Ring target vector) list) → ringing ≡ false
+pub never_ringing : (routes : List Route) (target vector : ℕ) (way : Way) (ringing : Bool) (list : List (Action (Deed Taken))) → way_to routes target vector ≡ way → is_guarded way ≡ false → (ringing ≡ true → MayRingBy routes (access.Ring target vector) list) → ringing ≡ false
 never_ringing routes target vector way ringing list is off may = not_so ringing (λ on. clash (sym (ap is_guarded is ∙ off) ∙ (may on).0))
 
 -- nor with an access that is no doorbell
-pub no_ring : (routes : List Route) (a : Access) (ringing : Bool) (list : List (Action Taken)) → (MayRingBy routes a list → ⊥) → (ringing ≡ true → MayRingBy routes a list) → ringing ≡ false
+pub no_ring : (routes : List Route) (a : Access) (ringing : Bool) (list : List (Action (Deed Taken))) → (MayRingBy routes a list → ⊥) → (ringing ≡ true → MayRingBy routes a list) → ringing ≡ false
 no_ring routes a ringing list none may = not_so ringing (λ on. none (may on))
 
 pub rung_made : (routes : List Route) (target vector : ℕ) (way : Way) (old : Held) → way_to routes target vector ≡ way → made old (rung_by way target) ≡ made old (rung_by (way_to routes target vector) target)

@@ -1,7 +1,6 @@
 -- The frames in flight of an honest peer, and the stores of its open offer.
-use Rattle.std.proofs.Common.{◌≡◌, ℕ, zero, suc, ◌+◌, ◌-◌, ◌<◌, ◌≤◌, ◌⊎◌, inl, inr, ⊎_elim, Bool, true, false, List, [], ◌∷◌, ◌++◌, length, refl, sym, ap, ◌∙◌, subst, arith, append-nil}
+use Rattle.std.proofs.Common.{◌≡◌, ℕ, zero, suc, ◌+◌, ◌-◌, ◌<◌, ◌≤◌, ◌⊎◌, inl, inr, ⊎_elim, Bool, true, false, List, [], ◌∷◌, ◌++◌, length, refl, sym, ap, ◌∙◌, subst, arith}
 use Rattle.std.specs.Prelude.{◌==◌, nat_le, if◌then◌else◌, Option, Some, None}
-use Rattle.split_ring.specs.declared.ranges.FieldName.{FieldName}
 use Rattle.split_ring.specs.declared.ranges.FieldName.TheVariants as field_name
 use Rattle.split_ring.specs.Layout.{has_events, size_of}
 use Rattle.split_ring.specs.Spelling.{low_half, high_half}
@@ -11,7 +10,7 @@ use Rattle.link_handshake.specs.declared.Move.TheVariants.{Stay, Set, ClearThenS
 use Rattle.link_handshake.specs.Standing.{move_of}
 use Rattle.call_grammar.specs.Steps.{Mark, Reclaim, Full}
 use Rattle.call_grammar.specs.Words.{words_for, address_of}
-use Rattle.call_grammar.specs.Ends.{End, end_after}
+use Rattle.call_grammar.specs.Ends.{End, noted, noted_all, end_after}
 use Rattle.call_grammar.specs.Calls.{Who, Call, Tick, Stop, Offer, Poll, in_run, job_of}
 use Rattle.call_grammar.specs.Offers.{Job, finds_room, descriptor_of, asks_for, returned_by, refusal, full_marks, reclaim_marks}
 use Rattle.call_grammar.specs.Polls.{is_entry, is_address, is_length, entry_in, published_by, is_last}
@@ -24,12 +23,11 @@ use Rattle.ends_pair.proofs.Fields.{fields_same}
 use Rattle.ends_pair.proofs.Forms.{opened}
 use Rattle.peer_runner.specs.declared.key.Key.{Key}
 use Rattle.peer_runner.specs.Keys.{ground_of, honest_of, IsFit}
-use Rattle.peer_runner.specs.Standings.{Taken, Stance, begun_if, settled_place, accepted_by, standing}
+use Rattle.peer_runner.specs.Standings.{Taken, Deed, called, Stance, begun_if, settled_place, standing}
 use Rattle.peer_runner.specs.Made.{Made}
 use Rattle.peer_runner.specs.RunningLaws.{end_by, place_by, offered_at}
 use Rattle.peer_runner.proofs.Standings.{standing_none}
 use Rattle.peer_runner.proofs.Keys.{is_ground}
-use Rattle.peer_runner.proofs.Reaching.{all_accepted}
 use Rattle.peer_runner.proofs.Along.{alone_at, noted_written, place_before, Turn, along}
 
 -- Where an offer comes from
@@ -175,38 +173,28 @@ first_freed x who end Poll = test_same x (in_run end.handshake.phase) (AtAvailIn
 
 -- as it reads them, an offer accepts nothing and writes nothing
 abbrev AcceptsNone : List Mark → Type 0
-AcceptsNone marks = accepted_by marks ≡ []
+AcceptsNone marks = (end : End) → (noted_all end marks).accepted ≡ end.accepted
 
 test_accepts : (b : Bool) (x y : List Mark) → AcceptsNone x → AcceptsNone y → AcceptsNone (if b then x else y)
 test_accepts true x y mine theirs = mine
 test_accepts false x y mine theirs = theirs
 
-refusal_accepts : (field : FieldName) (value : ℕ) → AcceptsNone (refusal field value)
-unfolding accepted_by
-refusal_accepts field value = refl
-
 full_accepts : (who : Who) (job : Job) (freed : ℕ) → AcceptsNone (full_marks who job freed)
-unfolding accepted_by
-full_accepts who job freed = test_accepts (finds_room who job freed) [] (Full ∷ []) refl refl
+full_accepts who job freed = test_accepts (finds_room who job freed) [] (Full ∷ []) (λ end. refl) (λ end. refl)
 
 reclaim_accepts : (who : Who) (job : Job) (freed count : ℕ) → AcceptsNone (reclaim_marks who job freed count)
-unfolding accepted_by
-reclaim_accepts who job freed count = test_accepts (count == 0) (Reclaim 0 ∷ full_marks who job freed) (Reclaim count ∷ []) (full_accepts who job freed) refl
-
-none_accepts : AcceptsNone []
-unfolding accepted_by
-none_accepts = refl
+reclaim_accepts who job freed count = test_accepts (count == 0) (Reclaim 0 ∷ full_marks who job freed) (Reclaim count ∷ []) (λ end. full_accepts who job freed (noted end (Reclaim 0))) (λ end. refl)
 
 reads_accept : (who : Who) (place : Place) (value n : ℕ) → Counts place n → AcceptsNone (marks_at who place value)
 reads_accept who (AtUsedIndex job freed) value n c = test_accepts (nat_le (returned_by freed value) (job.number - freed)) (reclaim_marks who job freed (returned_by freed value)) (refusal field_name.UsedIndex (high_half value))
-    (reclaim_accepts who job freed (returned_by freed value)) (refusal_accepts field_name.UsedIndex (high_half value))
+    (reclaim_accepts who job freed (returned_by freed value)) (λ end. refl)
 reads_accept who (AtUsedId job freed more) value n c = test_accepts (value == descriptor_of who freed) (if more == 0 then full_marks who job (freed + 1) else []) (refusal field_name.UsedId value)
-    (test_accepts (more == 0) (full_marks who job (freed + 1)) [] (full_accepts who job (freed + 1)) none_accepts) (refusal_accepts field_name.UsedId value)
+    (test_accepts (more == 0) (full_marks who job (freed + 1)) [] (full_accepts who job (freed + 1)) (λ end. refl)) (λ end. refl)
 reads_accept who place value n c = absurd c
 
 reads_keep : (who : Who) (end : End) (place : Place) (value n : ℕ) → Counts place n → ((end_after end (step_at who place value)).accepted ≡ end.accepted) × ((end_after end (step_at who place value)).written ≡ end.written)
-reads_keep who end (AtUsedIndex job freed) value n c = let place = AtUsedIndex job freed in (all_accepted end (marks_at who place value) ∙ (ap (λ l. end.accepted ++ l) (reads_accept who place value n c) ∙ append-nil end.accepted), noted_written end (marks_at who place value))
-reads_keep who end (AtUsedId job freed more) value n c = let place = AtUsedId job freed more in (all_accepted end (marks_at who place value) ∙ (ap (λ l. end.accepted ++ l) (reads_accept who place value n c) ∙ append-nil end.accepted), noted_written end (marks_at who place value))
+reads_keep who end (AtUsedIndex job freed) value n c = let place = AtUsedIndex job freed in (reads_accept who place value n c end, noted_written end (marks_at who place value))
+reads_keep who end (AtUsedId job freed more) value n c = let place = AtUsedId job freed more in (reads_accept who place value n c end, noted_written end (marks_at who place value))
 reads_keep who end place value n c = absurd c
 
 -- Frames in flight
@@ -230,8 +218,11 @@ counts_open ground memory p end place n c a = absurd c
 
 module _ (key : Key) (fit : IsFit key) (p : ℕ) (hp : honest_of key p ≡ true) where
   -- by what the end wrote last
-  abbrev InFlight : List Taken → Type 0
-  InFlight l = Opened (standing key p l).end.handshake.phase → SpelledFrom (ground_of key) (standing key p l).end.written p (standing key p l).end.accepted (freed_at (standing key p l).end.freed (standing key p l).place)
+  abbrev InFlightAt : End → Place → Type 0
+  InFlightAt end place = Opened end.handshake.phase → SpelledFrom (ground_of key) end.written p end.accepted (freed_at end.freed place)
+
+  abbrev InFlight : List (Deed Taken) → Type 0
+  InFlight l = InFlightAt (standing key p l).end (standing key p l).place
 
   -- a call that begins has read no id
   before_call : (memory : ℕ → ℕ) (end : End) (s : Stance) (call : Option Call) → s.end ≡ end → Opened end.handshake.phase → Alone (ground_of key) memory p end (begun_if (who_of (ground_of key) p) s call).place →
@@ -239,10 +230,10 @@ module _ (key : Key) (fit : IsFit key) (p : ℕ) (hp : honest_of key p ≡ true)
   before_call memory end s None e o a was = was
   before_call memory end s (Some call) e o a was = λ k low high. (a.sent o).spelled k (let f = first_freed end.freed (who_of (ground_of key) p) s.end call in omega arith) high
 
-  flight_more : (memory after : ℕ → ℕ) (acc next : ℕ → List Taken) (t : Taken) → Made key memory acc → Made key after next → next p ≡ acc p ++ t ∷ [] → Turn key p memory after (acc p) t → InFlight (acc p) → InFlight (acc p ++ t ∷ [])
-  flight_more memory after acc next t k m here turn was open' = let ground = ground_of key in let who = who_of ground p in let is = is_ground key fit in let place = place_before key p (acc p) t in let end = end_by key acc p in
-      let s = standing key p (acc p ++ t ∷ []) in
-      let now : Alone ground after p s.end s.place = subst (λ l. Alone ground after p (standing key p l).end (standing key p l).place) here (alone_at key fit after next m p hp) in
+  flight_more : (memory after words : ℕ → ℕ) (acc next : ℕ → List (Deed Taken)) (t : Taken) → Made key memory words acc → Made key after words next → next p ≡ acc p ++ called t ∷ [] → Turn key p memory after (acc p) t → InFlight (acc p) → InFlight (acc p ++ called t ∷ [])
+  flight_more memory after words acc next t k m here turn was open' = let ground = ground_of key in let who = who_of ground p in let is = is_ground key fit in let place = place_before key p (acc p) t in let end = end_by key acc p in
+      let s = standing key p (acc p ++ called t ∷ []) in
+      let now : Alone ground after p s.end s.place = subst (λ l. Alone ground after p (standing key p l).end (standing key p l).place) here (alone_at key fit after words next m p hp) in
       ⊎_elim
       (λ same. let e : freed_at s.end.freed s.place ≡ s.end.freed = ap (freed_at s.end.freed) turn.next_place ∙ same in
       spelled_same ground after s.end.written p (freed_at s.end.freed s.place) s.end.accepted is (λ j lt. sym (now.written j lt)) (λ k low high. (now.sent open').spelled k (omega arith) high))
@@ -258,5 +249,7 @@ module _ (key : Key) (fit : IsFit key) (p : ℕ) (hp : honest_of key p ≡ true)
       (subst (λ w. SpelledFrom ground w p s.end.accepted n) (sym written) (subst (λ l. SpelledFrom ground end.written p l n) (sym accepted) back)))
       (freed_on who place t.value s.end.freed)
 
-  pub flight_is : (memory : ℕ → ℕ) (acc : ℕ → List Taken) → Made key memory acc → InFlight (acc p)
+  pub flight_is : (memory words : ℕ → ℕ) (acc : ℕ → List (Deed Taken)) → Made key memory words acc → InFlight (acc p)
   flight_is = along key fit p hp InFlight (λ o. absurd (let none : Opened Reset = subst (λ (s : Stance). Opened s.end.handshake.phase) (standing_none key p) o in none)) flight_more
+      (λ list d quiet was. subst (InFlightAt (standing key p (list ++ d ∷ [])).end) (sym quiet.place) (subst (λ (e : End). InFlightAt e (standing key p list).place) (sym quiet.end) was))
+      (λ memory after list reset was o. absurd (let none : Opened Reset = subst (λ (e : End). Opened e.handshake.phase) reset.end o in none))

@@ -18,7 +18,7 @@ use Rattle.ends_pair.proofs.PairForms.{room_at}
 use Rattle.ends_pair.proofs.WholeKept.{spelled_lem}
 use Rattle.peer_runner.specs.declared.key.Key.{Key}
 use Rattle.peer_runner.specs.Keys.{ground_of, honest_of, IsFit}
-use Rattle.peer_runner.specs.Standings.{Taken}
+use Rattle.peer_runner.specs.Standings.{Taken, Deed}
 use Rattle.peer_runner.specs.Made.{Made}
 use Rattle.peer_runner.specs.RunningLaws.{end_by, place_by, InSession, FlightIsSpelled}
 use Rattle.peer_runner.proofs.Keys.{same_section, is_ground, honest_below}
@@ -58,10 +58,10 @@ open_session phase (inl e) = subst Opened (sym e) tt
 open_session phase (inr e) = subst Opened (sym e) tt
 
 module _ (key : Key) (fit : IsFit key) (p : ℕ) (hp : honest_of key p ≡ true) where
-  pub flight_lem : (memory : ℕ → ℕ) (acc : ℕ → List Taken) → Made key memory acc → FlightIsSpelled key memory acc p
-  flight_lem memory acc m = let ground = ground_of key in let is = is_ground key fit in let end = end_by key acc p in let place = place_by key acc p in let a = alone_at key fit memory acc m p hp in
+  pub flight_lem : (memory words : ℕ → ℕ) (acc : ℕ → List (Deed Taken)) → Made key memory words acc → FlightIsSpelled key memory acc p
+  flight_lem memory words acc m = let ground = ground_of key in let is = is_ground key fit in let end = end_by key acc p in let place = place_by key acc p in let a = alone_at key fit memory words acc m p hp in
       let start = same_section key p (honest_below key p hp) in
-      let from : Opened end.handshake.phase → SpelledFrom ground memory p end.accepted (freed_at end.freed place) = λ o. spelled_same ground end.written memory p (freed_at end.freed place) end.accepted is a.written (flight_is key fit p hp memory acc m o) in record {
+      let from : Opened end.handshake.phase → SpelledFrom ground memory p end.accepted (freed_at end.freed place) = λ o. spelled_same ground end.written memory p (freed_at end.freed place) end.accepted is a.written (flight_is key fit p hp memory words acc m o) in record {
         least = let f = freed_below ground memory p end place a in let g = a.freed in omega arith;
         most = room_at ground memory p end place a;
         spelled = λ k in' low high. let o = open_session end.handshake.phase in' in

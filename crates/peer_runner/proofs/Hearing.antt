@@ -21,12 +21,12 @@ use Rattle.doorbell_irq.specs.declared.route.Route.{Route}
 use Rattle.doorbell_irq.specs.Routes.{bit_for, bit_rung}
 use Rattle.peer_runner.specs.declared.ways.Way.{Way}
 use Rattle.peer_runner.specs.declared.ways.Way.TheVariants.{Silent, Direct, Guarded}
-use Rattle.peer_runner.specs.Standings.{Taken, Touch, touch_of}
+use Rattle.peer_runner.specs.Standings.{Taken, Touch, touch_of, Deed, numbered, carried, restarted, deed_by}
 use Rattle.peer_runner.specs.Actions.{Action, accessed, rang, looked, cleared, seen_by}
 use Rattle.peer_runner.specs.Interrupts.{weigh, tally, one_if, rings, finds}
 use Rattle.peer_runner.specs.Passes.{shown}
 use Rattle.peer_runner.specs.Ways.{route_to, way_by, way_to, rung_by}
-use Rattle.peer_runner.specs.Turns.{Turn, Looks, Makes, Clears, Rings, Running, comes_to, TakesStep, is_set, TakesTurn, TakesTurns, acted_by, cleared_by, acted_in, actions_in, heard_bit, heard, is_quiet, lines_of, marks_of, told_in, told_of}
+use Rattle.peer_runner.specs.Turns.{Turn, Looks, Makes, Clears, Rings, Stores, Loads, Enters, Restarts, Running, comes_to, TakesStep, is_set, spent, steps_on, TakesTurn, TakesTurns, acted_by, cleared_by, acted_in, actions_in, heard_bit, heard, is_quiet, lines_of, marks_of, told_in, told_of}
 use Rattle.peer_runner.specs.RunningRecord.{how_many, is_interrupt, is_interrupt_by, is_bell}
 use Rattle.peer_runner.proofs.Weights.{weigh_none, weigh_append, weigh_one, tally_same, tally_sum, finds_looked, rings_looked}
 
@@ -84,6 +84,14 @@ marks_silent : (p : ℕ) (marks : List Mark) → IsSilent (map (mark_line p) mar
 unfolding how_many
 marks_silent p [] = (refl, λ v. refl)
 marks_silent p (m ∷ marks) = let rest = marks_silent p marks in let here = mark_silent p m in (λ i. one_if (here.0 i) + rest.0 i, λ v i. one_if (here.1 v i) + rest.1 v i)
+
+session_silent : (p opened other : ℕ) → IsSilent (line.Session p opened other ∷ [])
+unfolding how_many
+session_silent p opened other = (refl, λ v. refl)
+
+reset_silent : (p : ℕ) → IsSilent (line.Reset p ∷ [])
+unfolding how_many
+reset_silent p = (refl, λ v. refl)
 
 step_silent : (p : ℕ) (first : Bool) (a : Access) (value : ℕ) (marks : List Mark) → IsSilent (lines_of p first a value marks)
 step_silent p first a value marks = silent_if (is_quiet first a marks) (access_lines p a value ++ map (mark_line p) marks) (silent_both (access_lines p a value) (map (mark_line p) marks) (access_silent p a value) (marks_silent p marks))
@@ -143,7 +151,7 @@ heard_all (suc n) p found = many_both is_interrupt (heard n p found) (heard_bit 
 
 -- The looks of turns
 
-blind_rung : (v : ℕ) (way : Way) (target : ℕ) → weigh {A = Touch} (finds v) (rung_by way target) ≡ 0
+blind_rung : (v : ℕ) (way : Way) (target : ℕ) → weigh {A = Deed Touch} (finds v) (rung_by way target) ≡ 0
 unfolding weigh finds
 blind_rung v Silent target = refl
 blind_rung v (Direct b) target = refl
@@ -157,7 +165,7 @@ blind_step v routes (access.State state) value = refl
 blind_step v routes (access.Ring target vector) value = blind_rung v (way_to routes target vector) target
 blind_step v routes access.Nothing value = refl
 
-blind_clear : (v : ℕ) (a : Access) (found : ℕ) → weigh {A = Touch} (finds v) (cleared_by a found) ≡ 0
+blind_clear : (v : ℕ) (a : Access) (found : ℕ) → weigh {A = Deed Touch} (finds v) (cleared_by a found) ≡ 0
 unfolding weigh finds
 blind_clear v (access.Read word) found = refl
 blind_clear v (access.Write word written) found = refl
@@ -165,28 +173,33 @@ blind_clear v (access.State state) found = refl
 blind_clear v (access.Ring target vector) found = refl
 blind_clear v access.Nothing found = refl
 
-seen_look : (v found : ℕ) → weigh {A = Touch} (finds v) (looked found ∷ []) ≡ bit_at found v
-seen_look v found = weigh_one (finds v) (looked found) ∙ finds_looked Touch v found
+seen_look : (v found : ℕ) → weigh {A = Deed Touch} (finds v) (looked found ∷ []) ≡ bit_at found v
+seen_look v found = weigh_one (finds v) (looked found) ∙ finds_looked (Deed Touch) v found
 
 -- what a turn tells is at most what it found
-record Hears (lines : List Line) (acts : List (Action Touch)) : Type 0 where
+record Hears (lines : List Line) (acts : List (Action (Deed Touch))) : Type 0 where
   each : (v : ℕ) → how_many (is_interrupt_by v) lines ≤ weigh (finds v) acts
   all : how_many is_interrupt lines ≤ tally 64 (λ v. weigh (finds v) acts)
 
-silent_hears : (lines : List Line) (acts : List (Action Touch)) → IsSilent lines → Hears lines acts
+silent_hears : (lines : List Line) (acts : List (Action (Deed Touch))) → IsSilent lines → Hears lines acts
 silent_hears lines acts s = record { each = λ v. let none : how_many (is_interrupt_by v) lines ≡ 0 = s.1 v in omega arith; all = let none = s.0 in omega arith }
 
 turn_hears : (p : ℕ) (routes : List Route) (turn : Turn) → Hears (told_in p turn) (acted_in routes turn)
 turn_hears p routes (Looks found) = record {
-  each = λ v. let a : how_many (is_interrupt_by v) (heard 64 p found) ≤ bit_at found v = look_most p found v in let b : weigh {A = Touch} (finds v) (looked found ∷ []) ≡ bit_at found v = seen_look v found in omega arith;
+  each = λ v. let a : how_many (is_interrupt_by v) (heard 64 p found) ≤ bit_at found v = look_most p found v in let b : weigh {A = Deed Touch} (finds v) (looked found ∷ []) ≡ bit_at found v = seen_look v found in omega arith;
   all = let a : how_many is_interrupt (heard 64 p found) ≡ tally 64 (λ b. bit_at found b) = heard_all 64 p found in
-      let b : tally 64 (λ v. weigh {A = Touch} (finds v) (looked found ∷ [])) ≡ tally 64 (λ b. bit_at found b) = tally_same 64 _ _ (λ v lt. seen_look v found) in omega arith;
+      let b : tally 64 (λ v. weigh {A = Deed Touch} (finds v) (looked found ∷ [])) ≡ tally 64 (λ b. bit_at found b) = tally_same 64 _ _ (λ v lt. seen_look v found) in omega arith;
 }
 turn_hears p routes (Makes first step) = silent_hears (told_in p (Makes first step)) (acted_in routes (Makes first step)) (step_silent p first step.access step.value step.marks)
 turn_hears p routes (Clears step found) = silent_hears (told_in p (Clears step found)) (acted_in routes (Clears step found)) (silent_both (access_lines p step.access step.value) (map (mark_line p) (marks_of (Clears step found))) (access_silent p step.access step.value) (marks_silent p (marks_of (Clears step found))))
 turn_hears p routes (Rings step) = silent_hears (told_in p (Rings step)) (acted_in routes (Rings step)) (marks_silent p step.marks)
+turn_hears p routes (Stores number) = silent_hears [] (acted_in routes (Stores number)) silent_none
+turn_hears p routes (Loads number) = silent_hears [] (acted_in routes (Loads number)) silent_none
+turn_hears p routes (Enters step opened other) = silent_hears (told_in p (Enters step opened other)) (acted_in routes (Enters step opened other)) (silent_both (access_lines p step.access step.value) (line.Session p opened other ∷ map (mark_line p) step.marks) (access_silent p step.access step.value)
+    (silent_both (line.Session p opened other ∷ []) (map (mark_line p) step.marks) (session_silent p opened other) (marks_silent p step.marks)))
+turn_hears p routes Restarts = silent_hears (line.Reset p ∷ []) (acted_in routes Restarts) (reset_silent p)
 
-hears_both : (xs ys : List Line) (ls rs : List (Action Touch)) → Hears xs ls → Hears ys rs → Hears (xs ++ ys) (ls ++ rs)
+hears_both : (xs ys : List Line) (ls rs : List (Action (Deed Touch))) → Hears xs ls → Hears ys rs → Hears (xs ++ ys) (ls ++ rs)
 hears_both xs ys ls rs one other = record {
   each = λ v. let a : how_many (is_interrupt_by v) (xs ++ ys) ≡ how_many (is_interrupt_by v) xs + how_many (is_interrupt_by v) ys = many_both (is_interrupt_by v) xs ys in
       let b : weigh (finds v) (ls ++ rs) ≡ weigh (finds v) ls + weigh (finds v) rs = weigh_append (finds v) ls rs in let c = one.each v in let d = other.each v in omega arith;
@@ -249,27 +262,27 @@ module _ (routes : List Route) (p target v : ℕ) (intx : Bool) (line_is : (rout
           few false = omega arith
       go false e = let same : b ≡ vector = is ∙ ap (λ (x : Bool). if x then 0 else vector) e in subst (λ k. one_if (b == v) ≤ one_if (k == v)) same (omega arith)
 
-  way_rings : (shot : Bool) (o : Option ℕ) (vector : ℕ) → o ≡ bit_rung (route_to routes target) vector → weigh {A = Touch} (rings target v) (rung_by (way_by shot o) target) ≤ one_if (intx || vector == v)
+  way_rings : (shot : Bool) (o : Option ℕ) (vector : ℕ) → o ≡ bit_rung (route_to routes target) vector → weigh {A = Deed Touch} (rings target v) (rung_by (way_by shot o) target) ≤ one_if (intx || vector == v)
   unfolding weigh rings
   way_rings shot None vector is = omega arith
   way_rings true (Some b) vector is = let le = by_line vector b (rung_bit true vector b (Some b) refl is) in let e : one_if ((target == target) && (b == v)) ≡ one_if (b == v) = ap (λ (x : Bool). one_if (x && (b == v))) (eq-eqb target target refl) in omega arith
   way_rings false (Some b) vector is = let le = by_line vector b (rung_bit false vector b (Some b) refl is) in let e : one_if ((target == target) && (b == v)) ≡ one_if (b == v) = ap (λ (x : Bool). one_if (x && (b == v))) (eq-eqb target target refl) in omega arith
 
-  other_rings : (way : Way) (at : ℕ) → (at == target) ≡ false → weigh {A = Touch} (rings target v) (rung_by way at) ≡ 0
+  other_rings : (way : Way) (at : ℕ) → (at == target) ≡ false → weigh {A = Deed Touch} (rings target v) (rung_by way at) ≡ 0
   unfolding weigh rings
   other_rings Silent at ne = refl
   other_rings (Direct b) at ne = ap (λ (x : Bool). one_if (x && (b == v)) + 0) ne
   other_rings (Guarded b) at ne = ap (λ (x : Bool). one_if (x && (b == v)) + 0) ne
 
   -- a doorbell's ring, and its line
-  bell_rings : (at vector : ℕ) → weigh {A = Touch} (rings target v) (rung_by (way_to routes at vector) at) ≤ one_if ((at == target) && (intx || vector == v))
+  bell_rings : (at vector : ℕ) → weigh {A = Deed Touch} (rings target v) (rung_by (way_to routes at vector) at) ≤ one_if ((at == target) && (intx || vector == v))
   unfolding way_to
   bell_rings at vector = by (at == target) refl
     where
-      by : (b : Bool) → (at == target) ≡ b → weigh {A = Touch} (rings target v) (rung_by (way_to routes at vector) at) ≤ one_if (b && (intx || vector == v))
-      by true e = let same : at ≡ target = eqb-true at target e in subst (λ k. weigh {A = Touch} (rings target v) (rung_by (way_to routes k vector) k) ≤ one_if (intx || vector == v)) (sym same)
+      by : (b : Bool) → (at == target) ≡ b → weigh {A = Deed Touch} (rings target v) (rung_by (way_to routes at vector) at) ≤ one_if (b && (intx || vector == v))
+      by true e = let same : at ≡ target = eqb-true at target e in subst (λ k. weigh {A = Deed Touch} (rings target v) (rung_by (way_to routes k vector) k) ≤ one_if (intx || vector == v)) (sym same)
           (way_rings (route_to routes target).one_shot (bit_rung (route_to routes target) vector) vector refl)
-      by false e = let none : weigh {A = Touch} (rings target v) (rung_by (way_to routes at vector) at) ≡ 0 = other_rings (way_to routes at vector) at e in omega arith
+      by false e = let none : weigh {A = Deed Touch} (rings target v) (rung_by (way_to routes at vector) at) ≡ 0 = other_rings (way_to routes at vector) at e in omega arith
 
   step_rings : (a : Access) (value : ℕ) → weigh (rings target v) (acted_by routes a value) ≡ ringing_by a
   unfolding weigh rings
@@ -298,7 +311,7 @@ module _ (routes : List Route) (p target v : ℕ) (intx : Bool) (line_is : (rout
       many_both (is_bell intx target v) (access_lines p (access.Ring at vector) value) (map (mark_line p) marks) in omega arith
   step_bells first access.Nothing value marks = omega arith
 
-  clear_rings : (a : Access) (found : ℕ) → weigh {A = Touch} (rings target v) (cleared_by a found) ≡ 0
+  clear_rings : (a : Access) (found : ℕ) → weigh {A = Deed Touch} (rings target v) (cleared_by a found) ≡ 0
   unfolding weigh rings
   clear_rings (access.Read word) found = refl
   clear_rings (access.Write word written) found = refl
@@ -306,68 +319,78 @@ module _ (routes : List Route) (p target v : ℕ) (intx : Bool) (line_is : (rout
   clear_rings (access.Ring at vector) found = refl
   clear_rings access.Nothing found = refl
 
+  deed_rings : (d : Deed Touch) → weigh (rings target v) (accessed d ∷ []) ≡ 0
+  unfolding weigh rings
+  deed_rings d = refl
+
   -- a turn's rings, and those that are to come, are at most its doorbells and those that were to come
   turn_bells : (who : Who) (storm : ℕ → Step) (turn : Turn) (run after : Running) → TakesTurn who storm routes run turn after →
       weigh (rings target v) (acted_in routes turn) + to_come who storm after ≤ how_many (is_bell intx target v) (told_in p turn) + to_come who storm run
-  turn_bells who storm (Looks found) run after took = let none : weigh {A = Touch} (rings target v) (looked found ∷ []) ≡ 0 = weigh_one (rings target v) (looked found) ∙ rings_looked Touch target v found in
-      let same : to_come who storm after ≡ to_come who storm run = ap (to_come who storm) took.1 in omega arith
-  turn_bells who storm (Makes first step) run after took = let same : to_come who storm after ≡ 0 = ap (to_come who storm) took.2 in let here = step_bells first step.access step.value step.marks in let rung = step_rings step.access step.value in omega arith
+  turn_bells who storm (Looks found) run after took = let none : weigh {A = Deed Touch} (rings target v) (looked found ∷ []) ≡ 0 = weigh_one (rings target v) (looked found) ∙ rings_looked (Deed Touch) target v found in
+      let same : to_come who storm after ≡ to_come who storm run = ap (to_come who storm) took.2 in omega arith
+  turn_bells who storm (Makes first step) run after took = let same : to_come who storm after ≡ 0 = ap (to_come who storm) took.1.4 in let here = step_bells first step.access step.value step.marks in let rung = step_rings step.access step.value in omega arith
   turn_bells who storm (Clears step found) run after took = let rung = clear_rings step.access found in let here = line_bells step.access step.value in
       let both : how_many (is_bell intx target v) (access_lines p step.access step.value ++ map (mark_line p) (marks_of (Clears step found))) ≡ how_many (is_bell intx target v) (access_lines p step.access step.value) + how_many (is_bell intx target v) (map (mark_line p) (marks_of (Clears step found))) =
       many_both (is_bell intx target v) (access_lines p step.access step.value) (map (mark_line p) (marks_of (Clears step found))) in
-      let later : to_come who storm after ≤ ringing_by step.access = subst (λ (r : Running). to_come who storm r ≤ ringing_by step.access) (sym took.2) (held (is_set found)) in omega arith
+      let later : to_come who storm after ≤ ringing_by step.access = subst (λ (r : Running). to_come who storm r ≤ ringing_by step.access) (sym took.1.2) (held (is_set found)) in omega arith
     where
       same : access_by who storm run.peer.driver run.peer ≡ step.access
-      same = sym (takes_by who storm run.peer.driver run.peer took.0 step took.1.takes)
+      same = sym (takes_by who storm run.peer.driver run.peer took.1.0 step took.1.1.takes)
 
-      held : (b : Bool) → to_come who storm (if b then record { peer = run.peer; looks = 0; ringing = true } else comes_to took.0) ≤ ringing_by step.access
+      held : (b : Bool) → to_come who storm (if b then record run { looks = 0; ringing = true; spans = spent run.spans } else steps_on run step.access took.1.0) ≤ ringing_by step.access
       held true = let e : ringing_by (access_by who storm run.peer.driver run.peer) ≡ ringing_by step.access = ap ringing_by same in omega arith
       held false = omega arith
-  turn_bells who storm (Rings step) run after took = let same : to_come who storm after ≡ 0 = ap (to_come who storm) took.2 in let rung = step_rings step.access step.value in
-      let was : to_come who storm run ≡ ringing_by step.access = ap (λ (b : Bool). if b then ringing_by (access_by who storm run.peer.driver run.peer) else 0) took.1.rings ∙ ap ringing_by (sym (takes_by who storm run.peer.driver run.peer took.0 step took.1.takes)) in omega arith
+  turn_bells who storm (Rings step) run after took = let same : to_come who storm after ≡ 0 = ap (to_come who storm) took.1.2 in let rung = step_rings step.access step.value in
+      let was : to_come who storm run ≡ ringing_by step.access = ap (λ (b : Bool). if b then ringing_by (access_by who storm run.peer.driver run.peer) else 0) took.1.1.rings ∙ ap ringing_by (sym (takes_by who storm run.peer.driver run.peer took.1.0 step took.1.1.takes)) in omega arith
+  turn_bells who storm (Stores number) run after took = let none : weigh (rings target v) (acted_in routes (Stores number)) ≡ 0 = deed_rings (numbered number) in let same : to_come who storm after ≡ to_come who storm run = ap (to_come who storm) took.4 in omega arith
+  turn_bells who storm (Loads number) run after took = let none : weigh (rings target v) (acted_in routes (Loads number)) ≡ 0 = deed_rings (carried number) in let same : to_come who storm after ≡ to_come who storm run = ap (to_come who storm) took.3 in omega arith
+  turn_bells who storm (Enters step opened other) run after took = let same : to_come who storm after ≡ 0 = ap (to_come who storm) took.3.2 in let here = line_bells step.access step.value in let rung = step_rings step.access step.value in
+      let both : how_many (is_bell intx target v) (access_lines p step.access step.value ++ line.Session p opened other ∷ map (mark_line p) step.marks) ≡ how_many (is_bell intx target v) (access_lines p step.access step.value) + how_many (is_bell intx target v) (line.Session p opened other ∷ map (mark_line p) step.marks) =
+      many_both (is_bell intx target v) (access_lines p step.access step.value) (line.Session p opened other ∷ map (mark_line p) step.marks) in omega arith
+  turn_bells who storm Restarts run after took = let none : weigh (rings target v) (acted_in routes Restarts) ≡ 0 = deed_rings restarted in let same : to_come who storm after ≡ 0 = ap (to_come who storm) took.2 in omega arith
 
   turns_bells : (who : Who) (storm : ℕ → Step) (turns : List Turn) (run after : Running) → TakesTurns who storm routes run turns after → weigh (rings target v) (actions_in routes turns) ≤ how_many (is_bell intx target v) (told_of p turns) + to_come who storm run
   unfolding TakesTurns actions_in told_of
-  turns_bells who storm [] run after took = let none : weigh {A = Touch} (rings target v) [] ≡ 0 = weigh_none (rings target v) in omega arith
+  turns_bells who storm [] run after took = let none : weigh {A = Deed Touch} (rings target v) [] ≡ 0 = weigh_none (rings target v) in omega arith
   turns_bells who storm (turn ∷ turns) run after took = let rest = turns_bells who storm turns took.0 after took.2 in let here = turn_bells who storm turn run took.0 took.1 in
       let a : weigh (rings target v) (acted_in routes turn ++ actions_in routes turns) ≡ weigh (rings target v) (acted_in routes turn) + weigh (rings target v) (actions_in routes turns) = weigh_append (rings target v) (acted_in routes turn) (actions_in routes turns) in
       let b : how_many (is_bell intx target v) (told_in p turn ++ told_of p turns) ≡ how_many (is_bell intx target v) (told_in p turn) + how_many (is_bell intx target v) (told_of p turns) = many_both (is_bell intx target v) (told_in p turn) (told_of p turns) in omega arith
 
-  pub run_bells : (who : Who) (storm : ℕ → Step) (turns : List Turn) (start : Peer) (after : Running) → TakesTurns who storm routes (comes_to start) turns after → weigh (rings target v) (actions_in routes turns) ≤ how_many (is_bell intx target v) (told_of p turns)
-  run_bells who storm turns start after took = let most = turns_bells who storm turns (comes_to start) after took in omega arith
+  pub run_bells : (who : Who) (storm : ℕ → Step) (turns : List Turn) (start : Peer) (spans : List ℕ) (after : Running) → TakesTurns who storm routes (comes_to start spans) turns after → weigh (rings target v) (actions_in routes turns) ≤ how_many (is_bell intx target v) (told_of p turns)
+  run_bells who storm turns start spans after took = let most = turns_bells who storm turns (comes_to start spans) after took in omega arith
 
 -- Lists are counted as they are shown
 
-finds_seen : (v : ℕ) (t : Action Taken) → finds v (seen_by touch_of t) ≡ finds v t
+finds_seen : (v : ℕ) (t : Action (Deed Taken)) → finds v (seen_by (deed_by touch_of) t) ≡ finds v t
 unfolding finds
 finds_seen v (accessed a) = refl
 finds_seen v (rang at b) = refl
 finds_seen v (looked found) = refl
 finds_seen v (cleared at found) = refl
 
-rings_seen : (target v : ℕ) (t : Action Taken) → rings target v (seen_by touch_of t) ≡ rings target v t
+rings_seen : (target v : ℕ) (t : Action (Deed Taken)) → rings target v (seen_by (deed_by touch_of) t) ≡ rings target v t
 unfolding rings
 rings_seen target v (accessed a) = refl
 rings_seen target v (rang at b) = refl
 rings_seen target v (looked found) = refl
 rings_seen target v (cleared at found) = refl
 
-weigh_seen : (f : Action Touch → ℕ) (g : Action Taken → ℕ) → ((t : Action Taken) → f (seen_by touch_of t) ≡ g t) → (list : List (Action Taken)) → weigh f (shown list) ≡ weigh g list
+weigh_seen : (f : Action (Deed Touch) → ℕ) (g : Action (Deed Taken) → ℕ) → ((t : Action (Deed Taken)) → f (seen_by (deed_by touch_of) t) ≡ g t) → (list : List (Action (Deed Taken))) → weigh f (shown list) ≡ weigh g list
 unfolding weigh
 weigh_seen f g same [] = refl
 weigh_seen f g same (t ∷ list) = λ i. same t i + weigh_seen f g same list i
 
 -- what a peer that took these turns tells
-pub record Tells (routes : List Route) (p : ℕ) (list : List (Action Taken)) (lines : List Line) : Type 0 where
+pub record Tells (routes : List Route) (p : ℕ) (list : List (Action (Deed Taken))) (lines : List Line) : Type 0 where
   pub each : (v : ℕ) → how_many (is_interrupt_by v) lines ≤ weigh (finds v) list
   pub all : how_many is_interrupt lines ≤ tally 64 (λ v. weigh (finds v) list)
   pub bells : (target v : ℕ) → weigh (rings target v) list ≤ how_many (is_bell (route_to routes target).intx target v) lines
 
-pub turns_tell : (routes : List Route) (p : ℕ) (who : Who) (storm : ℕ → Step) (turns : List Turn) (start : Peer) (after : Running) (list : List (Action Taken)) → TakesTurns who storm routes (comes_to start) turns after → shown list ≡ actions_in routes turns → Tells routes p list (told_of p turns)
-turns_tell routes p who storm turns start after list took made = let hears = turns_hear p routes turns in
+pub turns_tell : (routes : List Route) (p : ℕ) (who : Who) (storm : ℕ → Step) (turns : List Turn) (start : Peer) (spans : List ℕ) (after : Running) (list : List (Action (Deed Taken))) → TakesTurns who storm routes (comes_to start spans) turns after → shown list ≡ actions_in routes turns → Tells routes p list (told_of p turns)
+turns_tell routes p who storm turns start spans after list took made = let hears = turns_hear p routes turns in
     let found : (v : ℕ) → weigh (finds v) (actions_in routes turns) ≡ weigh (finds v) list = λ v. ap (weigh (finds v)) (sym made) ∙ weigh_seen (finds v) (finds v) (finds_seen v) list in record {
       each = λ v. let a = hears.each v in let b : weigh (finds v) (actions_in routes turns) ≡ weigh (finds v) list = found v in omega arith;
       all = let a = hears.all in let b : tally 64 (λ v. weigh (finds v) (actions_in routes turns)) ≡ tally 64 (λ v. weigh (finds v) list) = tally_same 64 _ _ (λ v lt. found v) in omega arith;
-      bells = λ target v. let a = run_bells routes p target v (route_to routes target).intx refl who storm turns start after took in
+      bells = λ target v. let a = run_bells routes p target v (route_to routes target).intx refl who storm turns start spans after took in
           let b : weigh (rings target v) (actions_in routes turns) ≡ weigh (rings target v) list = ap (weigh (rings target v)) (sym made) ∙ weigh_seen (rings target v) (rings target v) (rings_seen target v) list in omega arith;
     }

@@ -15,11 +15,13 @@ pub mod Reaching
 pub mod Woken
 pub mod Making
 pub mod Waking
+pub mod Besides
 pub mod Learns
 pub mod Turning
 pub mod Telling
 pub mod Runs
 pub mod Looking
+pub mod Courses
 pub mod Storming
 pub mod Planning
 pub mod Along
@@ -29,7 +31,9 @@ pub mod FlightLaws
 pub mod OfferLaws
 pub mod HeldLaws
 pub mod PairLaws
+pub mod SessionLaws
 pub mod HostileLaws
 pub mod Ranging
 pub mod Hearing
+pub mod Refusing
 pub mod Recording

@@ -1,4 +1,4 @@
--- Accesses that peers make lead the honest ends where their calls reach.
+-- Deeds that peers do lead the honest ends where their calls reach.
 use Rattle.std.proofs.Common.{◌≡◌, ◌≢◌, ℕ, ◌+◌, ◌<◌, inl, inr, Bool, true, false, List, refl, sym, ap, ◌∙◌}
 use Rattle.split_ring.specs.declared.steps.Access.{Access}
 use Rattle.split_ring.specs.declared.steps.Access.TheVariants as access
@@ -6,13 +6,13 @@ use Rattle.ends_pair.specs.Ground.{section_of}
 use Rattle.ends_pair.specs.Steps.{IsUntouched, Leaves}
 use Rattle.peer_runner.specs.declared.key.Key.{Key}
 use Rattle.peer_runner.specs.Keys.{ground_of, honest_of, IsFit}
-use Rattle.peer_runner.specs.Standings.{Taken, standing}
+use Rattle.peer_runner.specs.Standings.{Taken, Deed, called, restarted, standing}
 use Rattle.peer_runner.specs.Made.{IsOwned, Made}
 use Rattle.peer_runner.specs.Made as made
 use Rattle.peer_runner.proofs.Reaches as reaches
 use Rattle.peer_runner.proofs.Standings.{standing_none}
 use Rattle.peer_runner.proofs.Keys.{clash, honest_below, apart}
-use Rattle.peer_runner.proofs.Keeping.{R_of, honest_access, hostile_access}
+use Rattle.peer_runner.proofs.Keeping.{R_of, honest_access, honest_store, honest_load, honest_reset, hostile_deed}
 
 -- an access of one peer leaves the words of every other link peer
 untouched : (key : Key) (p q : ℕ) (memory after : ℕ → ℕ) (a : Access) → IsFit key → p < key.geometry.peers → q < 2 → q ≢ p → IsOwned key p a → Leaves p memory a after → IsUntouched (ground_of key) memory after q
@@ -24,9 +24,19 @@ pub by_honesty : {P : Type 0} → (b : Bool) → (b ≡ true → P) → (b ≡ f
 by_honesty true f g = f refl
 by_honesty false f g = g refl
 
+-- an honest peer is no hostile one
+differs : (key : Key) (p q : ℕ) → honest_of key p ≡ false → honest_of key q ≡ true → q ≢ p
+differs key p q h hq e = clash (sym (ap (honest_of key) e ∙ h) ∙ hq)
+
 -- where the lists leave the ends, by their words
-pub reached_by : (key : Key) → IsFit key → (memory : ℕ → ℕ) (acc : ℕ → List Taken) → Made key memory acc → R_of key memory acc
-reached_by key fit memory acc (made.starts _ _ zeros none) = reaches.starts _ _ zeros (λ p. ap (standing key p) (none p) ∙ standing_none key p)
-reached_by key fit after next (made.makes memory _ acc _ p t k lt may meets leaves g) = let was = reached_by key fit memory acc k in by_honesty (honest_of key p)
-    (λ h. honest_access key memory after acc next p t (honest_below key p h) h (may.next h) meets leaves g was)
-    (λ h. hostile_access key memory after acc next p t h (λ q q2 hq. untouched key p q memory after t.access fit lt q2 (λ e. clash (sym (ap (honest_of key) e ∙ h) ∙ hq)) may.owned leaves) g was)
+pub reached_by : (key : Key) → IsFit key → (memory words : ℕ → ℕ) (acc : ℕ → List (Deed Taken)) → Made key memory words acc → R_of key memory words acc
+reached_by key fit memory words acc (made.starts _ _ _ zeros nulls none) = reaches.starts _ _ _ zeros nulls (λ p. ap (standing key p) (none p) ∙ standing_none key p)
+reached_by key fit after words next (made.makes memory _ _ acc _ p t k lt may meets leaves g) = let was = reached_by key fit memory words acc k in by_honesty (honest_of key p)
+    (λ h. honest_access key memory after words acc next p t (honest_below key p h) h (may.next h) meets leaves g was)
+    (λ h. hostile_deed key memory after words acc next p (called t) h (λ q q2 hq. untouched key p q memory after t.access fit lt q2 (differs key p q h hq) may.owned leaves) g was)
+reached_by key fit memory now next (made.stores _ words _ acc _ p number k may stored g) =
+    honest_store key memory words now acc next p number (honest_below key p may.honest) may stored g (reached_by key fit memory words acc k)
+reached_by key fit memory words next (made.loads _ _ acc _ p k may g) = honest_load key memory words acc next p (honest_below key p may.honest) may g (reached_by key fit memory words acc k)
+reached_by key fit after words next (made.resets memory _ _ acc _ p k lt stored g) = let was = reached_by key fit memory words acc k in by_honesty (honest_of key p)
+    (λ h. honest_reset key memory after words acc next p (honest_below key p h) h stored g was)
+    (λ h. hostile_deed key memory after words acc next p restarted h (λ q q2 hq. apart key p q p 0 memory after fit lt q2 (differs key p q h hq) (inr refl) stored) g was)

@@ -1,5 +1,5 @@
 -- What the open offer of an honest peer has stored.
-use Rattle.std.proofs.Common.{◌≡◌, ℕ, zero, suc, ◌+◌, ◌*◌, ◌/◌, ◌%◌, ◌<◌, ◌≤◌, ◌⊎◌, inl, inr, ⊎_elim, true, List, [], ◌∷◌, ◌++◌, length, refl, sym, ap, ◌∙◌, subst, arith}
+use Rattle.std.proofs.Common.{◌≡◌, ℕ, zero, suc, ◌+◌, ◌*◌, ◌/◌, ◌%◌, ◌<◌, ◌≤◌, ◌⊎◌, inl, inr, ⊎_elim, true, List, [], ◌∷◌, ◌++◌, length, refl, sym, ap, ◌∙◌, subst, arith, append-nil}
 use Rattle.std.specs.Prelude.{Option, Some, None, Contains}
 use Rattle.std.proofs.lemmas.List.Elements.{Contains-append_cases}
 use Rattle.split_ring.specs.declared.steps.Access.{Access}
@@ -18,13 +18,13 @@ use Rattle.ends_pair.specs.Pair.{freed_at}
 use Rattle.ends_pair.proofs.Fields.{numbers, ring_apart}
 use Rattle.peer_runner.specs.declared.key.Key.{Key}
 use Rattle.peer_runner.specs.Keys.{ground_of, honest_of, IsFit}
-use Rattle.peer_runner.specs.Standings.{Taken, Stance, begun_if, settled_place, standing}
+use Rattle.peer_runner.specs.Standings.{Taken, Deed, called, numbered, carried, restarted, Stance, begun_if, settled_place, standing}
 use Rattle.peer_runner.specs.Made.{Made}
-use Rattle.peer_runner.specs.ListSays.{words_of, unless_begun, call_writes}
+use Rattle.peer_runner.specs.ListSays.{access_of, words_of, unless_call, unless_begun, call_writes}
 use Rattle.peer_runner.specs.RunningLaws.{end_by, place_by, offered_at, IsOfFrame, OpenOfferStores}
 use Rattle.peer_runner.proofs.Standings.{standing_none}
 use Rattle.peer_runner.proofs.Keys.{same_section, is_ground, honest_below}
-use Rattle.peer_runner.proofs.Along.{alone_at, place_before, Turn, along}
+use Rattle.peer_runner.proofs.Along.{IsQuiet, alone_at, place_before, Turn, along}
 use Rattle.peer_runner.proofs.ListLaws.{fold_more}
 use Rattle.peer_runner.proofs.Flight.{tell_none, none_some, goes_on}
 
@@ -116,6 +116,13 @@ long_is accepted job number lengths = ap (λ (l : ℕ → ℕ). l job.number) le
 word_fits : (sizes : Sizes) (job : Job) (at : ℕ) → IsQueue sizes → job.lengths job.number ≡ length job.frame → length job.frame ≤ sizes.mtu + 18 → at < (length job.frame + 3) / 4 → at < takes_of sizes (length job.frame) / 4
 word_fits sizes job at queue long most lt = let placed = frames_lem.placed sizes job.lengths job.number queue in let holds = subst (λ n. n ≤ sizes.mtu + 18 → 4 * ((n + 3) / 4) ≤ takes_of sizes n) long placed.holds in let h = holds most in omega arith
 
+-- an access to a session word begins no call and stores nothing in the region
+quiet_writes : (was : List ℕ) (d : Deed Taken) → IsQuiet d → unless_begun was d ++ words_of (access_of d) ≡ was
+quiet_writes was (called t) is = absurd is
+quiet_writes was restarted is = absurd is
+quiet_writes was (numbered number) is = append-nil was
+quiet_writes was (carried number) is = append-nil was
+
 module _ (key : Key) (fit : IsFit key) (p : ℕ) (hp : honest_of key p ≡ true) where
   -- the store of an offer, whose frame isn't accepted by it
   stored_at : (memory : ℕ → ℕ) (end : End) (place : Place) (value : ℕ) (job : Job) (w : ℕ) → Alone (ground_of key) memory p end place → offered_at (settled_place (next_place (who_of (ground_of key) p) place value)) ≡ Some job →
@@ -134,34 +141,37 @@ module _ (key : Key) (fit : IsFit key) (p : ℕ) (hp : honest_of key p ≡ true)
   stored_at memory end (WritingIndex j) value job w a e c = absurd (none_some job (sym (tell_none (who_of (ground_of key) p) j.number) ∙ e))
   stored_at memory end place value job w a e c = absurd (none_some job (goes_on (who_of (ground_of key) p) place value job e))
 
-  abbrev Stored : List Taken → Type 0
-  Stored l = (job : Job) → offered_at (standing key p l).place ≡ Some job → ((w : ℕ) → Contains (call_writes l) w → IsOfFrame key p job w) × (IsReading (standing key p l).place → call_writes l ≡ [])
-
-  -- what it had stored as it came to the place of the access
+  -- what it had stored as it came to a place
   abbrev Had : List ℕ → Place → Job → Type 0
   Had writes place job = ((w : ℕ) → Contains writes w → IsOfFrame key p job w) × (IsReading place → writes ≡ [])
 
+  abbrev Stored : List (Deed Taken) → Type 0
+  Stored l = (job : Job) → offered_at (standing key p l).place ≡ Some job → Had (call_writes l) (standing key p l).place job
+
   before : (s : Stance) (call : Option Call) (writes : List ℕ) (job : Job) → (offered_at s.place ≡ Some job → Had writes s.place job) → offered_at (begun_if (who_of (ground_of key) p) s call).place ≡ Some job →
-      Had (unless_begun writes call) (begun_if (who_of (ground_of key) p) s call).place job
+      Had (unless_call writes call) (begun_if (who_of (ground_of key) p) s call).place job
   before s None writes job was e = was e
   before s (Some call) writes job was e = (λ w c. absurd (none_in w c), λ r. refl)
 
-  stored_more : (memory after : ℕ → ℕ) (acc next : ℕ → List Taken) (t : Taken) → Made key memory acc → Made key after next → next p ≡ acc p ++ t ∷ [] → Turn key p memory after (acc p) t → Stored (acc p) → Stored (acc p ++ t ∷ [])
-  stored_more memory after acc next t k m here turn was job e = let who = who_of (ground_of key) p in let place = place_before key p (acc p) t in let s = standing key p (acc p ++ t ∷ []) in
+  stored_more : (memory after words : ℕ → ℕ) (acc next : ℕ → List (Deed Taken)) (t : Taken) → Made key memory words acc → Made key after words next → next p ≡ acc p ++ called t ∷ [] → Turn key p memory after (acc p) t → Stored (acc p) → Stored (acc p ++ called t ∷ [])
+  stored_more memory after words acc next t k m here turn was job e = let who = who_of (ground_of key) p in let place = place_before key p (acc p) t in let s = standing key p (acc p ++ called t ∷ []) in
       let e' : offered_at (settled_place (next_place who place t.value)) ≡ Some job = ap offered_at (sym turn.next_place) ∙ e in
       let had = before (standing key p (acc p)) t.begins (call_writes (acc p)) job (was job) (goes_on who place t.value job e') in
-      let writes : call_writes (acc p ++ t ∷ []) ≡ unless_begun (call_writes (acc p)) t.begins ++ words_of (access_at who place) =
-      fold_more (λ l (x : Taken). unless_begun l x.begins ++ words_of x.access) [] (acc p) t ∙ ap (λ (a : Access). unless_begun (call_writes (acc p)) t.begins ++ words_of a) turn.is in (
+      let writes : call_writes (acc p ++ called t ∷ []) ≡ unless_call (call_writes (acc p)) t.begins ++ words_of (access_at who place) =
+      fold_more (λ l (x : Deed Taken). unless_begun l x ++ words_of (access_of x)) [] (acc p) (called t) ∙ ap (λ (a : Access). unless_call (call_writes (acc p)) t.begins ++ words_of a) turn.is in (
         λ w c. ⊎_elim (λ h. had.0 w h) (λ h. stored_at memory (end_by key acc p) place t.value job w turn.alone e' h)
-            (Contains-append_cases (unless_begun (call_writes (acc p)) t.begins) (words_of (access_at who place)) w (subst (λ l. Contains l w) writes c)),
+            (Contains-append_cases (unless_call (call_writes (acc p)) t.begins) (words_of (access_at who place)) w (subst (λ l. Contains l w) writes c)),
         λ r. let reads = reading_on who place t.value (subst IsReading turn.next_place r) in writes ∙ (ap (λ l. l ++ words_of (access_at who place)) (had.1 reads) ∙ reads_words who place reads),
       )
 
-  stored_is : (memory : ℕ → ℕ) (acc : ℕ → List Taken) → Made key memory acc → Stored (acc p)
+  stored_is : (memory words : ℕ → ℕ) (acc : ℕ → List (Deed Taken)) → Made key memory words acc → Stored (acc p)
   stored_is = along key fit p hp Stored (λ job e. absurd (none_some job (ap (λ (s : Stance). offered_at s.place) (sym (standing_none key p)) ∙ e))) stored_more
+      (λ list d quiet was job e. subst (λ l. Had l (standing key p (list ++ d ∷ [])).place job) (sym (fold_more (λ l (x : Deed Taken). unless_begun l x ++ words_of (access_of x)) [] list d ∙ quiet_writes (call_writes list) d quiet.kind))
+      (subst (λ (x : Place). Had (call_writes list) x job) (sym quiet.place) (was job (ap offered_at (sym quiet.place) ∙ e))))
+      (λ memory after list reset was job e. absurd (none_some job (ap offered_at (sym reset.place) ∙ e)))
 
-  pub offers_lem : (memory : ℕ → ℕ) (acc : ℕ → List Taken) → Made key memory acc → OpenOfferStores key memory acc p
-  offers_lem memory acc m job e = let ground = ground_of key in let end = end_by key acc p in let place = place_by key acc p in let a = alone_at key fit memory acc m p hp in let st = stored_is memory acc m job e in
+  pub offers_lem : (memory words : ℕ → ℕ) (acc : ℕ → List (Deed Taken)) → Made key memory words acc → OpenOfferStores key memory acc p
+  offers_lem memory words acc m job e = let ground = ground_of key in let end = end_by key acc p in let place = place_by key acc p in let a = alone_at key fit memory words acc m p hp in let st = stored_is memory words acc m job e in
       let number = number_is ground memory p end place job a e in let lengths = lengths_are ground memory p end place job a e in let is = is_ground key fit in record {
         number = number;
         lengths = lengths;

@@ -1,17 +1,19 @@
 -- What the acts of a scenario in running form say of a peer.
 use Rattle.std.proofs.Common.{◌≡◌, ℕ, zero, suc, ◌+◌, ◌<◌, ◌≤◌, nat_le, nat_lt, Bool, true, false, ◌&&◌, ◌||◌, All, List, [], ◌∷◌, ◌++◌, length, take, drop, refl, sym, ap, ◌∙◌, subst, arith, append-nil, append_assoc, ⊎_elim, ◌⊎◌, inl, inr, get_or}
-use Rattle.std.specs.Prelude.{Option, Some, None, ◌==◌, not, if◌then◌else◌, slice_get, slice_index, slice_index_or, is_some, unwrap_or}
-use Rattle.std.specs.List.{list_any, list_all, AllByRecursion}
+use Rattle.std.specs.Prelude.{Option, Some, None, ◌==◌, ◌^◌, not, if◌then◌else◌, slice_get, slice_index, slice_index_or, sum}
+use Rattle.std.specs.List.{list_any, AllByRecursion}
 use Rattle.std.proofs.lemmas.Bool.{eqb-true}
 use Rattle.std.proofs.lemmas.Bool.Decides.{nat_tests}
-use Rattle.std.proofs.lemmas.List.{at_drop_more, take_more}
+use Rattle.std.proofs.lemmas.List.{take_more}
 use Rattle.std.proofs.lemmas.Option.{slice_get_read}
 use Rattle.std.proofs.lemmas.List.Folds.{list_any-append}
 use Rattle.std.proofs.lemmas.List.Elements.{All-append, All-from_recursion}
+use Rattle.std.proofs.lemmas.List.Sums.{sum_by-append, sum_by-cons}
+use Rattle.std.proofs.lemmas.Grind.{flat_map-append}
 use Rattle.scenario_text.specs.declared.acts.Act.{Act}
 use Rattle.scenario_text.specs.declared.acts.Act.TheVariants as act
-use Rattle.scenario_text.specs.Acts.{is_auto, is_storm, has_auto, has_storm}
-use Rattle.scenario_text.specs.Running.{is_turn, is_turn_of, has_turn, breaks, first_break, first_line, not_running}
+use Rattle.scenario_text.specs.Acts.{cost, turns_of, is_auto, is_storm, has_auto, has_storm}
+use Rattle.scenario_text.specs.Running.{is_turn_of, is_reset_of, has_turn, has_other, is_reset_last, is_turn_last, breaks, first_break, first_line, not_running}
 use Rattle.scenario_text.specs.Scenario.{World, IsAllowed, IsWorld, is_link, is_hostile}
 use Rattle.section_map.specs.Geometry.{Shape}
 use Rattle.split_ring.specs.Layout.{Sizes}
@@ -26,7 +28,9 @@ use Rattle.lawful_history.specs.Sides.{traffic_vector}
 use Rattle.lawful_history.specs.Peers.{Storms, Peer, at_start}
 use Rattle.peer_runner.specs.declared.key.Key.{Key}
 use Rattle.peer_runner.specs.Keys.{who_in, honest_of, IsMadeFor}
-use Rattle.peer_runner.specs.OwnRecord.{told, told_all, turn_in, first_of, turn_line, start_of, turns_of}
+use Rattle.peer_runner.specs.Interrupts.{one_if}
+use Rattle.peer_runner.specs.Turns.{all_turns}
+use Rattle.peer_runner.specs.OwnRecord.{told, told_all, span_in, spans_of, start_of}
 use Rattle.peer_runner.specs.Runners.{IsFrame}
 use Rattle.peer_runner.specs.Drives.{automatic, storming, MayBeAuto, gathered, seeded, Gathers, Seeds}
 use Rattle.peer_runner.proofs.Keys.{clash}
@@ -86,7 +90,7 @@ not_not false is = absurd (cc)
 
 turn_drives : (before later : List Act) (a : Act) (p : ℕ) → breaks before a later ≡ false → is_turn_of p a ≡ true → (has_auto before p || has_storm before p) ≡ true
 turn_drives before later (act.Turn q steps) p goes is = let same : q ≡ p = eqb-true q p is in
-    subst (λ k. (has_auto before k || has_storm before k) ≡ true) same (third (not (list_all is_turn later)) (has_turn before q) (has_auto before q || has_storm before q) goes)
+    subst (λ k. (has_auto before k || has_storm before k) ≡ true) same (third (has_other later) (is_turn_last before q) (has_auto before q || has_storm before q) goes)
 turn_drives before later a p goes is = absurd (cc)
 
 either_turn : (b rest : Bool) → (b || rest) ≡ true → (b ≡ true) ⊎ (rest ≡ true)
@@ -257,37 +261,126 @@ gathers_at w p i a plan is running link inside at g = let found = slice_get_read
 pub seeds_at : (w : World) (p i : ℕ) (a : Act) (seed : ℕ) → IsWorld w → is_link w p ≡ false → i < length w.acts → a ≡ get_or w.acts i a → Seeds p (take i w.acts) seed → Seeds p (take i w.acts ++ a ∷ []) (seeded p seed a)
 seeds_at w p i a seed is hostile inside at g = seeds_on w p (take i w.acts) a seed hostile (is.allowed i a (slice_get_read w.acts (length w.acts) i a refl inside at)) g
 
--- The turn line
-
-pub line_at : (acts : List Act) (p i : ℕ) (a : Act) → i < length acts → a ≡ get_or acts i a → turn_line (drop i acts) p ≡ first_of (turn_in p a) (turn_line (drop (i + 1) acts) p)
-unfolding turn_line
-line_at acts p i a inside at = at_drop_more (λ l. turn_line l p) acts i a inside ∙ ap (λ (b : Act). first_of (turn_in p b) (turn_line (drop (i + 1) acts) p)) (sym at)
-
-turn_some : (p : ℕ) (a : Act) → is_some (turn_in p a) ≡ is_turn_of p a
-turn_some p (act.Turn q steps) = elim (q == p) as (λ b. is_some (if b then Some steps else None) ≡ b) [ true ↦ refl | false ↦ refl ]
-turn_some p a = refl
-
-some_or : (a b : Option ℕ) → is_some (first_of a b) ≡ (is_some a || is_some b)
-some_or (Some n) b = refl
-some_or None b = refl
-
-pub has_line : (p : ℕ) (acts : List Act) → is_some (turn_line acts p) ≡ has_turn acts p
-unfolding turn_line has_turn
-has_line p [] = refl
-has_line p (a ∷ acts) = some_or (turn_in p a) (turn_line acts p) ∙ (λ i. (turn_some p a i || has_line p acts i))
+-- The spans
 
 pub taken_more : (acts : List Act) (i : ℕ) (a : Act) → i < length acts → a ≡ get_or acts i a → take (i + 1) acts ≡ take i acts ++ a ∷ []
 taken_more acts i a inside at = take_more acts i a inside ∙ ap (λ (b : Act). take i acts ++ b ∷ []) (sym at)
 
-pub no_line : (p : ℕ) → turn_line [] p ≡ None
-unfolding turn_line
-no_line p = refl
+pub spans_none : (p : ℕ) → [] ≡ spans_of [] p
+unfolding spans_of
+spans_none p = refl
 
-pub some_turns : (acts : List Act) (p turns : ℕ) → turn_line acts p ≡ Some turns → (has_turn acts p ≡ true) × (turns ≡ turns_of acts p)
-some_turns acts p turns is = (sym (has_line p acts) ∙ ap is_some is, sym (ap (λ o. unwrap_or o 0) is))
+pub spans_at : (acts : List Act) (p i : ℕ) (a : Act) → i < length acts → a ≡ get_or acts i a → spans_of (take i acts) p ++ span_in p a ≡ spans_of (take (i + 1) acts) p
+unfolding spans_of
+spans_at acts p i a inside at = sym (ap (λ l. spans_of l p) (taken_more acts i a inside at) ∙ (flat_map-append (span_in p) (take i acts) (a ∷ []) ∙ ap (λ l. spans_of (take i acts) p ++ l) (append-nil (span_in p a))))
 
-pub no_turns : (acts : List Act) (p : ℕ) → turn_line acts p ≡ None → has_turn acts p ≡ false
-no_turns acts p is = sym (has_line p acts) ∙ ap is_some is
+-- a peer has a turn line just where it has a span
+abbrev has_any : List ℕ → Bool
+has_any [] = false
+has_any (span ∷ spans) = true
+
+span_line : (p : ℕ) (a : Act) → is_turn_of p a ≡ has_any (span_in p a)
+span_line p (act.Turn q steps) = elim (q == p) as (λ b. b ≡ has_any (if b then steps ∷ [] else [])) [ true ↦ refl | false ↦ refl ]
+span_line p a = refl
+
+more_lines : (one more : List ℕ) → (has_any one || has_any more) ≡ has_any (one ++ more)
+more_lines [] more = refl
+more_lines (span ∷ one) more = refl
+
+has_span : (acts : List Act) (p : ℕ) → has_turn acts p ≡ has_any (spans_of acts p)
+unfolding has_turn spans_of
+has_span [] p = refl
+has_span (a ∷ acts) p = (λ i. (span_line p a i || has_span acts p i)) ∙ more_lines (span_in p a) (spans_of acts p)
+
+pub no_turns : (acts : List Act) (p : ℕ) (spans : List ℕ) → spans ≡ spans_of acts p → (length spans == 0) ≡ true → has_turn acts p ≡ false
+no_turns acts p spans are none = has_span acts p ∙ (ap has_any (sym are) ∙ empty spans (eqb-true (length spans) 0 none))
+  where
+    empty : (l : List ℕ) → length l ≡ 0 → has_any l ≡ false
+    empty [] none = refl
+    empty (span ∷ l) none = absurd (omega arith)
+
+pub some_turns : (acts : List Act) (p : ℕ) (spans : List ℕ) → spans ≡ spans_of acts p → (length spans == 0) ≡ false → has_turn acts p ≡ true
+some_turns acts p spans are some = has_span acts p ∙ (ap has_any (sym are) ∙ filled spans some)
+  where
+    filled : (l : List ℕ) → (length l == 0) ≡ false → has_any l ≡ true
+    filled [] some = absurd (clash (sym some))
+    filled (span ∷ l) some = refl
+
+-- How many turns a peer has: between each two of its turn lines stands a reset of it, which counts
+
+abbrev resets_in : ℕ → List Act → ℕ
+resets_in p [] = 0
+resets_in p (a ∷ acts) = one_if (is_reset_of p a) + resets_in p acts
+
+turn_snoc : (acts : List Act) (a : Act) (p : ℕ) → has_turn (acts ++ a ∷ []) p ≡ (has_turn acts p || is_turn_of p a)
+unfolding has_turn
+turn_snoc acts a p = list_any-append (is_turn_of p) acts (a ∷ []) ∙ ap (λ b. has_turn acts p || b) (or_false (is_turn_of p a))
+
+-- a turn line behind all resets
+turned_last : (acts : List Act) (a : Act) (p : ℕ) → is_turn_of p a ≡ true → is_reset_of p a ≡ false → is_reset_last (acts ++ a ∷ []) p ≡ false
+unfolding is_reset_last has_turn
+turned_last [] a p turns resets = ap (λ (b : Bool). (b && true) || false) resets
+turned_last (b ∷ acts) a p turns resets = (λ i. (is_reset_of p b && not ((turn_snoc acts a p ∙ (ap (λ x. has_turn acts p || x) turns ∙ or_true (has_turn acts p))) i)) || turned_last acts a p turns resets i)
+    ∙ none (is_reset_of p b)
+  where
+    none : (x : Bool) → ((x && false) || false) ≡ false
+    none true = refl
+    none false = refl
+
+turn_is_last : (acts : List Act) (a : Act) (p : ℕ) → is_turn_of p a ≡ true → is_reset_of p a ≡ false → is_turn_last (acts ++ a ∷ []) p ≡ true
+turn_is_last acts a p turns resets = λ i. ((turn_snoc acts a p ∙ (ap (λ x. has_turn acts p || x) turns ∙ or_true (has_turn acts p))) i && not (turned_last acts a p turns resets i))
+
+-- an act that is neither
+still_last : (acts : List Act) (a : Act) (p : ℕ) → is_turn_of p a ≡ false → is_reset_of p a ≡ false → is_reset_last (acts ++ a ∷ []) p ≡ is_reset_last acts p
+unfolding is_reset_last has_turn
+still_last [] a p turns resets = ap (λ (b : Bool). (b && true) || false) resets
+still_last (b ∷ acts) a p turns resets = λ i. (is_reset_of p b && not ((turn_snoc acts a p ∙ (ap (λ x. has_turn acts p || x) turns ∙ or_false (has_turn acts p))) i)) || still_last acts a p turns resets i
+
+last_stays : (acts : List Act) (a : Act) (p : ℕ) → is_turn_of p a ≡ false → is_reset_of p a ≡ false → is_turn_last (acts ++ a ∷ []) p ≡ is_turn_last acts p
+last_stays acts a p turns resets = λ i. ((turn_snoc acts a p ∙ (ap (λ x. has_turn acts p || x) turns ∙ or_false (has_turn acts p))) i && not (still_last acts a p turns resets i))
+
+second : (a b c : Bool) → ((a || b) || c) ≡ false → b ≡ false
+second true b c is = absurd (clash (sym is))
+second false true c is = absurd (clash (sym is))
+second false false c is = refl
+
+one_most : (b : Bool) → one_if b ≤ 1
+one_most true = omega arith
+one_most false = omega arith
+
+spans_few : (acts before : List Act) (line p : ℕ) → first_break before acts line ≡ None → length (spans_of acts p) + one_if (is_turn_last before p) ≤ resets_in p acts + 1
+unfolding spans_of
+spans_few [] before line p none = let one = one_most (is_turn_last before p) in omega arith
+spans_few (act.Turn q steps ∷ acts) before line p none = let g = goes_on (breaks before (act.Turn q steps) acts) line _ none in
+    let rest = spans_few acts (before ++ act.Turn q steps ∷ []) (line + 1) p g.1 in by_test (q == p)
+    (λ is. let last : is_turn_last (before ++ act.Turn q steps ∷ []) p ≡ true = turn_is_last before (act.Turn q steps) p is refl in
+    let was : is_turn_last before p ≡ false = subst (λ k. is_turn_last before k ≡ false) (eqb-true q p is) (second (has_other acts) (is_turn_last before q) (not (has_auto before q || has_storm before q)) g.0) in
+    let a : one_if (is_turn_last (before ++ act.Turn q steps ∷ []) p) ≡ 1 = ap one_if last in let b : one_if (is_turn_last before p) ≡ 0 = ap one_if was in
+    let c : length ((if q == p then steps ∷ [] else []) ++ spans_of acts p) ≡ suc (length (spans_of acts p)) = ap (λ (x : Bool). length ((if x then steps ∷ [] else []) ++ spans_of acts p)) is in omega arith)
+    (λ isnt. let a : one_if (is_turn_last (before ++ act.Turn q steps ∷ []) p) ≡ one_if (is_turn_last before p) = ap one_if (last_stays before (act.Turn q steps) p isnt refl) in
+    let c : length ((if q == p then steps ∷ [] else []) ++ spans_of acts p) ≡ length (spans_of acts p) = ap (λ (x : Bool). length ((if x then steps ∷ [] else []) ++ spans_of acts p)) isnt in omega arith)
+spans_few (act.Reset q ∷ acts) before line p none = let g = goes_on (breaks before (act.Reset q) acts) line _ none in
+    let rest = spans_few acts (before ++ act.Reset q ∷ []) (line + 1) p g.1 in by_test (q == p)
+    (λ is. let a : one_if (q == p) ≡ 1 = ap one_if is in let b = one_most (is_turn_last before p) in omega arith)
+    (λ isnt. let a : one_if (is_turn_last (before ++ act.Reset q ∷ []) p) ≡ one_if (is_turn_last before p) = ap one_if (last_stays before (act.Reset q) p refl isnt) in omega arith)
+spans_few (a ∷ acts) before line p none = let g = goes_on (breaks before a acts) line _ none in
+    let rest = spans_few acts (before ++ a ∷ []) (line + 1) p g.1 in let same : one_if (is_turn_last (before ++ a ∷ []) p) ≡ one_if (is_turn_last before p) = ap one_if (last_stays before a p refl refl) in omega arith
+
+-- what its spans count is counted by its acts
+span_cost : (p : ℕ) (a : Act) → sum (span_in p a) + one_if (is_reset_of p a) ≤ cost a
+span_cost p (act.Turn q steps) = elim (q == p) as (λ b. sum (if b then steps ∷ [] else []) + 0 ≤ steps) [ true ↦ omega arith | false ↦ omega arith ]
+span_cost p (act.Reset q) = let one = one_most (q == p) in omega arith
+span_cost p a = omega arith
+
+spans_cost : (acts : List Act) (p : ℕ) → sum (spans_of acts p) + resets_in p acts ≤ turns_of acts
+unfolding spans_of
+spans_cost [] p = omega arith
+spans_cost (a ∷ acts) p = let rest = spans_cost acts p in let here = span_cost p a in let one : sum (span_in p a ++ spans_of acts p) ≡ sum (span_in p a) + sum (spans_of acts p) = sum_by-append (λ n. n) (span_in p a) (spans_of acts p) in
+    let all : turns_of (a ∷ acts) ≡ cost a + turns_of acts = sum_by-cons cost a acts in omega arith
+
+pub few_turns : (w : World) (p : ℕ) (spans : List ℕ) → IsWorld w → not_running w ≡ None → spans ≡ spans_of w.acts p → all_turns spans < 2 ^ 32
+few_turns w p spans is running are = let most = is.turns in let count = spans_cost w.acts p in let few = spans_few w.acts [] (first_line w) p running in
+    let a : sum spans ≡ sum (spans_of w.acts p) = ap sum are in let b : length spans ≡ length (spans_of w.acts p) = ap length are in omega arith
 
 -- What drives a peer
 

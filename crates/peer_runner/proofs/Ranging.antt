@@ -13,22 +13,23 @@ use Rattle.peer_runner.specs.declared.key.Key.{Key}
 use Rattle.peer_runner.specs.declared.driving.PeerPlan.{PeerPlan}
 use Rattle.peer_runner.specs.Held.{Held}
 use Rattle.peer_runner.specs.Keys.{IsMadeFor}
-use Rattle.peer_runner.specs.Standings.{Taken}
+use Rattle.peer_runner.specs.Standings.{Taken, Deed}
 use Rattle.peer_runner.specs.Actions.{Action}
 use Rattle.peer_runner.specs.Passes.{IsOf, held, lower_pass, upper_pass, join_passes}
-use Rattle.peer_runner.specs.OwnRecord.{IsToldBy, start_of, turns_of}
+use Rattle.peer_runner.specs.Turns.{all_turns}
+use Rattle.peer_runner.specs.OwnRecord.{IsToldBy, start_of, spans_of}
 use Rattle.peer_runner.specs.Drives.{starting, MayDrive, IsPlan, Did, RanIf, RanOne, RanAll, BothOk}
 
 pub plan_may : (world : World) (key : Key) (me : ℕ) (plan : PeerPlan) → IsPlan world me plan → IsMadeFor world key → MayDrive key plan.peer plan.driver
 plan_may world key me plan is made = subst (λ p. MayDrive key p plan.driver) (sym is.peer) (is.driver.1 key made)
 
 -- a peer that was driven
-pub ran_one : (world : World) (key : Key) (me : ℕ) (plan : PeerPlan) (list : List (Action Taken)) (trace : OwnTrace) (traces : List OwnTrace) → IsPlan world me plan → traces ≡ trace ∷ [] →
-    (did : Did key plan.routes.items plan.peer (starting plan.driver) list) × IsToldBy plan.peer plan.turns did.turns did.after (part_of trace) → RanOne world key me list traces
+pub ran_one : (world : World) (key : Key) (me : ℕ) (plan : PeerPlan) (list : List (Action (Deed Taken))) (trace : OwnTrace) (traces : List OwnTrace) → IsPlan world me plan → traces ≡ trace ∷ [] →
+    (did : Did key plan.routes.items plan.peer (starting plan.driver) plan.spans list) × IsToldBy plan.peer (all_turns plan.spans) did.turns did.after (part_of trace) → RanOne world key me list traces
 ran_one world key me plan list trace traces is one did =
-    let P : ℕ → ℕ → Peer → Type 0 = λ p turns start. (d : Did key plan.routes.items p start list) × IsToldBy p turns d.turns d.after (part_of trace) in
-    let here : P me (turns_of world.acts me) (start_of world.acts me) = subst (λ p. P p (turns_of world.acts me) (start_of world.acts me)) is.peer
-    (subst (λ n. P plan.peer n (start_of world.acts me)) is.turns (subst (P plan.peer plan.turns) is.driver.0 did)) in
+    let P : ℕ → List ℕ → Peer → Type 0 = λ p spans start. (d : Did key plan.routes.items p start spans list) × IsToldBy p (all_turns spans) d.turns d.after (part_of trace) in
+    let here : P me (spans_of world.acts me) (start_of world.acts me) = subst (λ p. P p (spans_of world.acts me) (start_of world.acts me)) is.peer
+    (subst (λ l. P plan.peer l (start_of world.acts me)) is.spans (subst (P plan.peer plan.spans) is.driver.0 did)) in
     subst (λ (b : Bool). RanIf b world key me list traces) (sym is.runs) (trace, one, plan.routes.items, is.routed, here)
 
 pub ran_none : (world : World) (key : Key) (me : ℕ) (traces : List OwnTrace) → has_turn world.acts me ≡ false → traces ≡ [] → RanOne world key me [] traces
@@ -39,12 +40,12 @@ pub range_none : (world : World) (key : Key) (from : ℕ) (traces : List OwnTrac
 unfolding RanAll
 range_none world key from traces empty = empty
 
-pub range_one : (world : World) (key : Key) (from : ℕ) (list : List (Action Taken)) (traces : List OwnTrace) → RanOne world key from list traces → RanAll world key from (list ∷ []) traces
+pub range_one : (world : World) (key : Key) (from : ℕ) (list : List (Action (Deed Taken))) (traces : List OwnTrace) → RanOne world key from list traces → RanAll world key from (list ∷ []) traces
 unfolding RanAll
 range_one world key from list traces ran = (traces, [], sym (append-nil traces), ran, refl)
 
 -- the peers of two ranges of which one begins where the other ends
-pub range_append : (world : World) (key : Key) (from : ℕ) (lists more : List (List (Action Taken))) (traces others : List OwnTrace) → RanAll world key from lists traces → RanAll world key (from + length lists) more others → RanAll world key from (lists ++ more) (traces ++ others)
+pub range_append : (world : World) (key : Key) (from : ℕ) (lists more : List (List (Action (Deed Taken)))) (traces others : List OwnTrace) → RanAll world key from lists traces → RanAll world key (from + length lists) more others → RanAll world key from (lists ++ more) (traces ++ others)
 unfolding RanAll
 range_append world key from [] more traces others none ran = let at : from + 0 ≡ from = omega arith in
     subst (λ ts. RanAll world key from more (ts ++ others)) (sym none) (subst (λ f. RanAll world key f more others) at ran)
@@ -57,7 +58,7 @@ range_append world key from (list ∷ lists) more traces others one ran = let at
 )
 
 -- the pass of a range
-pub range_pass : (h : Held) (from : ℕ) (lists : List (List (Action Taken))) → h.from ≡ from → h.lists ≡ lists → h ≡ held h.table_id from lists
+pub range_pass : (h : Held) (from : ℕ) (lists : List (List (Action (Deed Taken)))) → h.from ≡ from → h.lists ≡ lists → h ≡ held h.table_id from lists
 range_pass h from lists one other = λ k. record { table_id = h.table_id; from = one k; lists = other k }
 
 -- the two halves of a pass without actions
@@ -85,24 +86,24 @@ module _ (id : TableId) (key : Key) (h : Held) (from count half : ℕ) (le : hal
   )
 
   size : length h.lists ≡ count
-  size = ap length lists ∙ (let nil : List (Action Taken) = [] in length-replicate count nil)
+  size = ap length lists ∙ (let nil : List (Action (Deed Taken)) = [] in length-replicate count nil)
 
   pub lower_of : (low : Held) → low ≡ lower_pass (from + half) h → IsOf id key low
-  lower_of low at = let whole = lower_whole low at in let first = whole.0 in let nil : List (Action Taken) = [] in let n : length low.lists ≡ half = ap length whole.1 ∙ length-replicate half nil in let all = size in let inside = is.2 in
+  lower_of low at = let whole = lower_whole low at in let first = whole.0 in let nil : List (Action (Deed Taken)) = [] in let n : length low.lists ≡ half = ap length whole.1 ∙ length-replicate half nil in let all = size in let inside = is.2 in
       (ap (λ (x : Held). x.table_id) at ∙ is.0, is.1, omega arith, is.3)
 
   pub upper_of : (up : Held) → up ≡ upper_pass (from + half) h → IsOf id key up
-  upper_of up at = let whole = upper_whole up at in let first = whole.0 in let nil : List (Action Taken) = [] in let n : length up.lists ≡ count - half = ap length whole.1 ∙ length-replicate (count - half) nil in let all = size in let inside = is.2 in
+  upper_of up at = let whole = upper_whole up at in let first = whole.0 in let nil : List (Action (Deed Taken)) = [] in let n : length up.lists ≡ count - half = ap length whole.1 ∙ length-replicate (count - half) nil in let all = size in let inside = is.2 in
       (ap (λ (x : Held). x.table_id) at ∙ is.0, is.1, omega arith, is.3)
 
 if_ok : {A : Type 0} (P Q : A → Type 0) (r : Result A NoMemory) → ((x : A) → P x → Q x) → IfOk r P → IfOk r Q
 if_ok P Q (Ok x) f is = f x is
 if_ok P Q (Err e) f is = tt
 
-pub one_ranged : {A : Type 0} (items : A → List OwnTrace) (world : World) (key : Key) (from : ℕ) (list : List (Action Taken)) (r : Result A NoMemory) → IfOk r (λ t. RanOne world key from list (items t)) → IfOk r (λ t. RanAll world key from (list ∷ []) (items t))
+pub one_ranged : {A : Type 0} (items : A → List OwnTrace) (world : World) (key : Key) (from : ℕ) (list : List (Action (Deed Taken))) (r : Result A NoMemory) → IfOk r (λ t. RanOne world key from list (items t)) → IfOk r (λ t. RanAll world key from (list ∷ []) (items t))
 one_ranged items world key from list r ran = if_ok (λ t. RanOne world key from list (items t)) (λ t. RanAll world key from (list ∷ []) (items t)) r (λ t one. range_one world key from list (items t) one) ran
 
-pub both_ranged : {A : Type 0} (items : A → List OwnTrace) (world : World) (key : Key) (from half middle : ℕ) (lists more : List (List (Action Taken))) (first second all : Result A NoMemory) → middle ≡ from + half → length lists ≡ half →
+pub both_ranged : {A : Type 0} (items : A → List OwnTrace) (world : World) (key : Key) (from half middle : ℕ) (lists more : List (List (Action (Deed Taken)))) (first second all : Result A NoMemory) → middle ≡ from + half → length lists ≡ half →
     IfOk first (λ t. RanAll world key from lists (items t)) → IfOk second (λ t. RanAll world key middle more (items t)) → IfOk all (λ t. BothOk first second (λ a b. items t ≡ items a ++ items b)) → IfOk all (λ t. RanAll world key from (lists ++ more) (items t))
 both_ranged items world key from half middle lists more (Ok a) (Ok b) (Ok t) at size one other is = let begins : middle ≡ from + length lists = at ∙ ap (λ n. from + n) (sym size) in
     subst (λ ts. RanAll world key from (lists ++ more) ts) (sym is) (range_append world key from lists more (items a) (items b) one (subst (λ f. RanAll world key f more (items b)) begins other))
@@ -110,5 +111,5 @@ both_ranged items world key from half middle lists more (Ok a) (Err e) (Ok t) at
 both_ranged items world key from half middle lists more (Err e) second (Ok t) at size one other is = absurd is
 both_ranged items world key from half middle lists more first second (Err e) at size one other is = tt
 
-pub both_pass : (id other : TableId) (from middle : ℕ) (lists more : List (List (Action Taken))) (low up all : Held) → id ≡ other → low ≡ held id from lists → up ≡ held other middle more → all ≡ join_passes low up → all ≡ held id from (lists ++ more)
+pub both_pass : (id other : TableId) (from middle : ℕ) (lists more : List (List (Action (Deed Taken)))) (low up all : Held) → id ≡ other → low ≡ held id from lists → up ≡ held other middle more → all ≡ join_passes low up → all ≡ held id from (lists ++ more)
 both_pass id other from middle lists more low up all same one two is = is ∙ λ i. join_passes (one i) (two i)

@@ -1,22 +1,24 @@
--- What the lines of a running peer tell of doorbells is what its calls leave.
-use Rattle.std.proofs.Common.{◌≡◌, ◌≢◌, ℕ, zero, suc, ◌+◌, ◌-◌, ◌⊎◌, inl, inr, ⊎_elim, Bool, true, false, List, [], ◌∷◌, ◌++◌, length, length-append, refl, sym, ap, ◌∙◌, subst, arith, append-nil}
-use Rattle.std.specs.Prelude.{Option, Some, None, ◌&&◌, ◌==◌, not, nat_le, if◌then◌else◌, map}
+-- What the lines of a running peer tell of its end, its sessions and its doorbells is what its turns leave.
+use Rattle.std.proofs.Common.{◌≡◌, ◌≢◌, ℕ, zero, suc, ◌-◌, ◌⊎◌, inl, inr, ⊎_elim, Bool, true, false, List, [], ◌∷◌, ◌++◌, length, refl, sym, ap, ◌∙◌, subst}
+use Rattle.std.specs.Prelude.{Option, Some, None, ◌==◌, not, nat_le, if◌then◌else◌, map}
 use Rattle.std.specs.Int.{bit_at}
 use Rattle.split_ring.specs.declared.steps.Access.{Access}
 use Rattle.split_ring.specs.declared.steps.Access.TheVariants as access
 use Rattle.split_ring.specs.declared.ranges.FieldName.TheVariants as field_name
 use Rattle.split_ring.specs.Layout.{has_events, size_of}
 use Rattle.split_ring.specs.Spelling.{low_half, high_half}
-use Rattle.call_grammar.specs.Steps.{Mark, Step, value_given, Saw, Reclaim, Full, Accept, Look, Deliver, Over}
+use Rattle.call_grammar.specs.Steps.{Mark, value_given, Saw, Reclaim, Full, Accept, Look, Deliver, Over}
 use Rattle.call_grammar.specs.Steps as mark
-use Rattle.call_grammar.specs.Ends.{End}
+use Rattle.call_grammar.specs.Ends.{End, stated, noted, noted_all}
 use Rattle.call_grammar.specs.Calls.{Who, Call, in_run, job_of}
 use Rattle.call_grammar.specs.Calls as calls
 use Rattle.call_grammar.specs.Automatic.{choice_of}
-use Rattle.call_grammar.specs.Automatic as automatic
 use Rattle.call_grammar.specs.Offers.{asks_for, refusal}
 use Rattle.call_grammar.specs.Polls.{published_by, is_last, look_marks}
 use Rattle.call_grammar.specs.Places.{Place, Closed, Setting, Refusing, Downed, AtUsedIndex, WritingIndex, AtEvent, RingingOffer, AtAvailIndex, Arming, RingingPoll, first_place, access_at, next_place, marks_at, step_at, is_open, none_place, items_place}
+use Rattle.link_handshake.specs.PhaseTable.{state_of}
+use Rattle.link_machine.specs.LinkMachine.{Side, fresh_side, Wrote, WasReset, Log, no_sessions, log_after}
+use Rattle.pair_sessions.specs.Numbers.{Numbers, number_of, own_side, numbers_after}
 use Rattle.lawful_history.specs.declared.line.Line.{Line}
 use Rattle.lawful_history.specs.declared.line.Line.TheVariants as line
 use Rattle.lawful_history.specs.Entries.{access_lines, mark_line}
@@ -24,12 +26,14 @@ use Rattle.doorbell_irq.specs.declared.route.Route.{Route}
 use Rattle.peer_runner.specs.declared.ways.Done.{Done}
 use Rattle.peer_runner.specs.declared.ways.Done.TheVariants.{Stepped, Cleared, Rung}
 use Rattle.peer_runner.specs.Ways.{is_guarded, way_in}
-use Rattle.peer_runner.specs.Standings.{Asked, Nowhere, Asking, At, asked_on, asked_last, asked_by, missed_by, Wake, wake_after, accepted_by, delivered_by}
-use Rattle.peer_runner.specs.Turns.{Turn, Looks, is_set, heard_bit, heard, finds_nothing, is_quiet, lines_of, told_in}
-use Rattle.peer_runner.specs.RunningRecord.{Telling, untold, asked_now, missed_now, tells, tells_all, telling_in}
-use Rattle.peer_runner.specs.Runners.{Runner, beginning, chosen, call_chosen, place_for, place_in, value_done, turn_of, IsDone, holds_on, is_first, marks_in, looked_on, held_on, stepped_on, turned, told_on, woken_on}
+use Rattle.peer_runner.specs.Standings.{Asked, Nowhere, Asking, At, asked_on, asked_last, asked_by, Wake, wake_after}
+use Rattle.peer_runner.specs.Turns.{Turn, Looks, Enters, Restarts, heard_bit, heard, finds_nothing, is_quiet, lines_of, told_in}
+use Rattle.peer_runner.specs.RunningRecord.{Telling, untold, side_in, asked_now, with_carried, tells, tells_all, IsTold}
+use Rattle.peer_runner.specs.Runners.{Runner, beginning, chosen, call_chosen, place_for, place_in, value_done, IsDone, holds_on, due_word, turn_met, met_on, restarted_on, is_first, looked_on, held_on, stepped_on, turned, told_on, woken_on, stance_of, HasMet}
+use Rattle.peer_runner.specs.declared.sessions.SessionWord.{SessionWord}
+use Rattle.peer_runner.specs.declared.sessions.SessionWord.TheVariants.{Own, Others}
 use Rattle.peer_runner.proofs.Keys.{clash}
-use Rattle.peer_runner.proofs.Turning.{shut, marks_snoc, accepted_on, delivered_on, held_same, held_guards, held_line, turned_held, turned_stepped}
+use Rattle.peer_runner.proofs.Turning.{shut, held_guards, held_line, turned_held, turned_stepped, IsEntering, IsMaking, stepped_kind}
 use Rattle.peer_runner.proofs.Waking.{HasNoLook, IsPlain, plain_marks, plain_wake, kept_wake, event_asked, more_than, empty_marks, is_still, next_still, last_ne, on_ne}
 
 -- Lines one after another
@@ -43,100 +47,132 @@ unfolding tells_all
 tells_both t [] ys = refl
 tells_both t (x ∷ xs) ys = tells_both (tells t x) xs ys
 
--- a quiet call tells no frame
-nothing_none : (marks : List Mark) → finds_nothing marks ≡ true → (accepted_by marks ≡ []) × (delivered_by marks ≡ [])
-unfolding accepted_by delivered_by
-nothing_none (Saw value ∷ Over ∷ []) is = (refl, refl)
-nothing_none (Look zero ∷ mark.Done ∷ []) is = (refl, refl)
-nothing_none (Reclaim zero ∷ Full ∷ []) is = (refl, refl)
-nothing_none marks is = absurd (cc)
+-- What they tell of an end and of its sessions
+record Keeps (t : Telling) (end : End) (own : Log) : Type 0 where
+  state : t.state ≡ state_of end.handshake.phase
+  accepted : t.accepted ≡ end.accepted
+  delivered : t.delivered ≡ end.delivered
+  log : t.log ≡ own
 
-pub quiet_none : (first : Bool) (a : Access) (marks : List Mark) → is_quiet first a marks ≡ true → (accepted_by marks ≡ []) × (delivered_by marks ≡ [])
-quiet_none true (access.Read word) marks is = nothing_none marks is
-quiet_none false (access.Read word) marks is = absurd (clash is)
-quiet_none first (access.Write word written) marks is = absurd (clash is)
-quiet_none first (access.State state) marks is = absurd (clash is)
-quiet_none first (access.Ring target vector) marks is = absurd (clash is)
-quiet_none first access.Nothing marks is = absurd (clash is)
+abbrev side_kept : {t : Telling} {end : End} {log : Log} → Keeps t end log → side_in t ≡ own_side end
+side_kept k = λ i. record fresh_side { state = k.state i; accepted = k.accepted i; delivered = k.delivered i }
 
 -- The lines of marks
 
--- the frames of the marks are counted, and else all stays
+-- the frames of the marks are told, and else all stays
 record Counts (t u : Telling) (marks : List Mark) : Type 0 where
-  accepted : u.accepted ≡ t.accepted + length (accepted_by marks)
-  delivered : u.delivered ≡ t.delivered + length (delivered_by marks)
+  kept : (end : End) (log : Log) → Keeps t end log → Keeps u (noted_all end marks) log
   asked : u.asked ≡ t.asked
   missed : u.missed ≡ t.missed
 
+-- a quiet call tells no frame
+nothing_counts : (t : Telling) (marks : List Mark) → finds_nothing marks ≡ true → Counts t t marks
+nothing_counts t (Saw value ∷ Over ∷ []) is = record { kept = λ end log k. k; asked = refl; missed = refl }
+nothing_counts t (Look zero ∷ mark.Done ∷ []) is = record { kept = λ end log k. record { state = k.state; accepted = k.accepted; delivered = k.delivered; log = k.log }; asked = refl; missed = refl }
+nothing_counts t (Reclaim zero ∷ Full ∷ []) is = record { kept = λ end log k. record { state = k.state; accepted = k.accepted; delivered = k.delivered; log = k.log }; asked = refl; missed = refl }
+nothing_counts t marks is = absurd (cc)
+
+quiet_counts : (first : Bool) (t : Telling) (a : Access) (marks : List Mark) → is_quiet first a marks ≡ true → Counts t t marks
+quiet_counts true t (access.Read word) marks is = nothing_counts t marks is
+quiet_counts false t (access.Read word) marks is = absurd (clash is)
+quiet_counts first t (access.Write word written) marks is = absurd (clash is)
+quiet_counts first t (access.State state) marks is = absurd (clash is)
+quiet_counts first t (access.Ring target vector) marks is = absurd (clash is)
+quiet_counts first t access.Nothing marks is = absurd (clash is)
+
 no_look : (p : ℕ) (t : Telling) (marks : List Mark) → t.read ≡ false → HasNoLook marks → Counts t (tells_all t (map (mark_line p) marks)) marks
-unfolding tells_all accepted_by delivered_by
-no_look p t [] still none = record { accepted = omega arith; delivered = omega arith; asked = refl; missed = refl }
+unfolding tells_all
+no_look p t [] still none = record { kept = λ end log k. k; asked = refl; missed = refl }
 no_look p t (Look count ∷ marks) still none = absurd none
-no_look p t (Accept frame ∷ marks) still none = let rest = no_look p (tells t (line.Accept p frame)) marks refl none in
-    let a = rest.accepted in let d = rest.delivered in record { accepted = omega arith; delivered = omega arith; asked = rest.asked; missed = rest.missed }
-no_look p t (Deliver frame ∷ marks) still none = let rest = no_look p (tells t (line.Deliver p frame)) marks refl none in
-    let a = rest.accepted in let d = rest.delivered in record { accepted = omega arith; delivered = omega arith; asked = rest.asked; missed = rest.missed }
-no_look p t (Over ∷ marks) still none = let rest = no_look p (tells t (line.Over p)) marks refl none in
-    let a = rest.accepted in let d = rest.delivered in record { accepted = omega arith; delivered = omega arith; asked = rest.asked; missed = rest.missed ∙ ap (λ (b : Bool). if b then t.missed ++ (t.accepted - 1) ∷ [] else t.missed) still }
-no_look p t (m ∷ marks) still none = let rest = no_look p (record t { read = false }) marks refl none in
-    let a = rest.accepted in let d = rest.delivered in record { accepted = omega arith; delivered = omega arith; asked = rest.asked; missed = rest.missed }
+no_look p t (Accept frame ∷ marks) still none = let rest = no_look p (tells t (line.Accept p frame)) marks refl none in record {
+  kept = λ end log k. rest.kept (noted end (Accept frame)) log (record { state = k.state; accepted = ap (λ l. l ++ frame ∷ []) k.accepted; delivered = k.delivered; log = k.log });
+  asked = rest.asked;
+  missed = rest.missed;
+}
+no_look p t (Deliver frame ∷ marks) still none = let rest = no_look p (tells t (line.Deliver p frame)) marks refl none in record {
+  kept = λ end log k. rest.kept (noted end (Deliver frame)) log (record { state = k.state; accepted = k.accepted; delivered = ap (λ l. l ++ frame ∷ []) k.delivered; log = k.log });
+  asked = rest.asked;
+  missed = rest.missed;
+}
+no_look p t (Over ∷ marks) still none = let rest = no_look p (tells t (line.Over p)) marks refl none in record {
+  kept = λ end log k. rest.kept end log (record { state = k.state; accepted = k.accepted; delivered = k.delivered; log = k.log });
+  asked = rest.asked;
+  missed = rest.missed ∙ ap (λ (b : Bool). if b then t.missed ++ (length t.accepted - 1) ∷ [] else t.missed) still;
+}
+no_look p t (m ∷ marks) still none = let rest = no_look p (record t { read = false }) marks refl none in record {
+  kept = λ end log k. rest.kept (noted end m) log (record { state = k.state; accepted = k.accepted; delivered = k.delivered; log = k.log });
+  asked = rest.asked;
+  missed = rest.missed;
+}
 
 plain : (p : ℕ) (t : Telling) (marks : List Mark) → IsPlain marks → Counts t (tells_all t (map (mark_line p) marks)) marks
-unfolding tells_all accepted_by delivered_by
-plain p t [] is = record { accepted = omega arith; delivered = omega arith; asked = refl; missed = refl }
+unfolding tells_all
+plain p t [] is = record { kept = λ end log k. k; asked = refl; missed = refl }
 plain p t (Look count ∷ marks) is = absurd is
 plain p t (Over ∷ marks) is = absurd is
-plain p t (Accept frame ∷ marks) is = let rest = no_look p (tells t (line.Accept p frame)) marks refl is in
-    let a = rest.accepted in let d = rest.delivered in record { accepted = omega arith; delivered = omega arith; asked = rest.asked; missed = rest.missed }
-plain p t (Deliver frame ∷ marks) is = let rest = no_look p (tells t (line.Deliver p frame)) marks refl is in
-    let a = rest.accepted in let d = rest.delivered in record { accepted = omega arith; delivered = omega arith; asked = rest.asked; missed = rest.missed }
-plain p t (m ∷ marks) is = let rest = no_look p (record t { read = false }) marks refl is in
-    let a = rest.accepted in let d = rest.delivered in record { accepted = omega arith; delivered = omega arith; asked = rest.asked; missed = rest.missed }
+plain p t (Accept frame ∷ marks) is = let rest = no_look p (tells t (line.Accept p frame)) marks refl is in record {
+  kept = λ end log k. rest.kept (noted end (Accept frame)) log (record { state = k.state; accepted = ap (λ l. l ++ frame ∷ []) k.accepted; delivered = k.delivered; log = k.log });
+  asked = rest.asked;
+  missed = rest.missed;
+}
+plain p t (Deliver frame ∷ marks) is = let rest = no_look p (tells t (line.Deliver p frame)) marks refl is in record {
+  kept = λ end log k. rest.kept (noted end (Deliver frame)) log (record { state = k.state; accepted = k.accepted; delivered = ap (λ l. l ++ frame ∷ []) k.delivered; log = k.log });
+  asked = rest.asked;
+  missed = rest.missed;
+}
+plain p t (m ∷ marks) is = let rest = no_look p (record t { read = false }) marks refl is in record {
+  kept = λ end log k. rest.kept (noted end m) log (record { state = k.state; accepted = k.accepted; delivered = k.delivered; log = k.log });
+  asked = rest.asked;
+  missed = rest.missed;
+}
 
 -- The lines of a step
 
 abbrev wake_of : Telling → Wake
 wake_of t = record { asked = t.asked; missed = t.missed }
 
--- they tell what the step leaves
-record Steps (t u : Telling) (a : Access) (marks : List Mark) : Type 0 where
-  accepted : u.accepted ≡ t.accepted + length (accepted_by marks)
-  delivered : u.delivered ≡ t.delivered + length (delivered_by marks)
-  asked : u.asked ≡ (wake_after t.accepted t.delivered (wake_of t) a marks).asked
-  missed : u.missed ≡ (wake_after t.accepted t.delivered (wake_of t) a marks).missed
+-- they tell what the step leaves of an end with these numbers
+record Steps (n : Numbers) (t u : Telling) (a : Access) (marks : List Mark) : Type 0 where
+  kept : (end : End) → Keeps t end n.log → Keeps u (noted_all (stated end a) marks) (numbers_after n end a).log
+  asked : u.asked ≡ (wake_after (length t.accepted) (length t.delivered) (wake_of t) a marks).asked
+  missed : u.missed ≡ (wake_after (length t.accepted) (length t.delivered) (wake_of t) a marks).missed
 
 -- an access that writes no State is counted nowhere
 access_counts : (p : ℕ) (t : Telling) (a : Access) (v : ℕ) → ((state : ℕ) → a ≢ access.State state) → Counts t (tells_all t (access_lines p a v)) []
-unfolding tells_all accepted_by delivered_by
+unfolding tells_all
 access_counts p t (access.State state) v ne = absurd (ne state refl)
-access_counts p t (access.Read word) v ne = record { accepted = omega arith; delivered = omega arith; asked = refl; missed = refl }
-access_counts p t (access.Write word written) v ne = record { accepted = omega arith; delivered = omega arith; asked = refl; missed = refl }
-access_counts p t (access.Ring target vector) v ne = record { accepted = omega arith; delivered = omega arith; asked = refl; missed = refl }
-access_counts p t access.Nothing v ne = record { accepted = omega arith; delivered = omega arith; asked = refl; missed = refl }
+access_counts p t access.Nothing v ne = record { kept = λ end log k. k; asked = refl; missed = refl }
+access_counts p t a v ne = record { kept = λ end log k. record { state = k.state; accepted = k.accepted; delivered = k.delivered; log = k.log }; asked = refl; missed = refl }
 
-no_frames : (length (accepted_by []) ≡ 0) × (length (delivered_by []) ≡ 0)
-unfolding accepted_by delivered_by
-no_frames = (refl, refl)
+access_kept : (t : Telling) (end : End) (n : Numbers) (a : Access) → ((state : ℕ) → a ≢ access.State state) → Keeps t end n.log → Keeps t (stated end a) (numbers_after n end a).log
+access_kept t end n (access.State state) ne k = absurd (ne state refl)
+access_kept t end n a ne k = record { state = k.state; accepted = k.accepted; delivered = k.delivered; log = k.log }
 
-counts_steps : (t u : Telling) (a : Access) (marks : List Mark) → wake_after t.accepted t.delivered (wake_of t) a marks ≡ wake_of t → Counts t u marks → Steps t u a marks
-counts_steps t u a marks same c = record { accepted = c.accepted; delivered = c.delivered; asked = c.asked ∙ sym (ap (λ (w : Wake). w.asked) same); missed = c.missed ∙ sym (ap (λ (w : Wake). w.missed) same) }
+counts_steps : (n : Numbers) (t u : Telling) (a : Access) (marks : List Mark) → ((state : ℕ) → a ≢ access.State state) → wake_after (length t.accepted) (length t.delivered) (wake_of t) a marks ≡ wake_of t → Counts t u marks → Steps n t u a marks
+counts_steps n t u a marks ne same c = record {
+  kept = λ end k. c.kept (stated end a) (numbers_after n end a).log (access_kept t end n a ne k);
+  asked = c.asked ∙ sym (ap (λ (w : Wake). w.asked) same);
+  missed = c.missed ∙ sym (ap (λ (w : Wake). w.missed) same);
+}
 
 counts_both : (t s u : Telling) (marks : List Mark) → Counts t s [] → Counts s u marks → Counts t u marks
-counts_both t s u marks c d = let none = no_frames in let a = c.accepted in let b = d.accepted in let e = c.delivered in let f = d.delivered in let n = none.0 in let m = none.1 in
-    record { accepted = omega arith; delivered = omega arith; asked = d.asked ∙ c.asked; missed = d.missed ∙ c.missed }
+counts_both t s u marks c d = record { kept = λ end log k. d.kept end log (c.kept end log k); asked = d.asked ∙ c.asked; missed = d.missed ∙ c.missed }
 
-plain_step : (p : ℕ) (first : Bool) (t : Telling) (a : Access) (v : ℕ) (marks : List Mark) → ((state : ℕ) → a ≢ access.State state) → IsPlain marks → Steps t (tells_all t (lines_of p first a v marks)) a marks
-plain_step p first t a v marks ne is = by (is_quiet first a marks) refl
+plain_step : (p : ℕ) (first : Bool) (n : Numbers) (t : Telling) (a : Access) (v : ℕ) (marks : List Mark) → ((state : ℕ) → a ≢ access.State state) → IsPlain marks → Steps n t (tells_all t (lines_of p first a v marks)) a marks
+plain_step p first n t a v marks ne is = by (is_quiet first a marks) refl
   where
     all : List Line
     all = access_lines p a v ++ map (mark_line p) marks
 
-    by : (b : Bool) → is_quiet first a marks ≡ b → Steps t (tells_all t (lines_of p first a v marks)) a marks
-    by true quiet = let none = quiet_none first a marks quiet in let told : tells_all t (lines_of p first a v marks) ≡ t = ap (λ (b : Bool). tells_all t (if b then [] else all)) quiet ∙ tells_none t in
-        subst (λ (u : Telling). Steps t u a marks) (sym told) (counts_steps t t a marks (plain_wake t.accepted t.delivered (wake_of t) a marks ne is) (let x = ap length none.0 in let y = ap length none.1 in record { accepted = omega arith; delivered = omega arith; asked = refl; missed = refl }))
+    same : wake_after (length t.accepted) (length t.delivered) (wake_of t) a marks ≡ wake_of t
+    same = plain_wake (length t.accepted) (length t.delivered) (wake_of t) a marks ne is
+
+    by : (b : Bool) → is_quiet first a marks ≡ b → Steps n t (tells_all t (lines_of p first a v marks)) a marks
+    by true quiet = let told : tells_all t (lines_of p first a v marks) ≡ t = ap (λ (b : Bool). tells_all t (if b then [] else all)) quiet ∙ tells_none t in
+        subst (λ (u : Telling). Steps n t u a marks) (sym told) (counts_steps n t t a marks ne same (quiet_counts first t a marks quiet))
     by false quiet = let s = tells_all t (access_lines p a v) in
         let told : tells_all t (lines_of p first a v marks) ≡ tells_all s (map (mark_line p) marks) = ap (λ (b : Bool). tells_all t (if b then [] else all)) quiet ∙ tells_both t (access_lines p a v) (map (mark_line p) marks) in
-        subst (λ (u : Telling). Steps t u a marks) (sym told) (counts_steps t _ a marks (plain_wake t.accepted t.delivered (wake_of t) a marks ne is) (counts_both t s _ marks (access_counts p t a v ne) (plain p s marks is)))
+        subst (λ (u : Telling). Steps n t u a marks) (sym told) (counts_steps n t _ a marks ne same (counts_both t s _ marks (access_counts p t a v ne) (plain p s marks is)))
 
 -- Where a step is taken
 
@@ -222,154 +258,229 @@ now_more n Asking d = refl
 now_more n (At number) d = refl
 
 -- the marks of a look, which are told, or quiet
-quiet_look : (p : ℕ) (t : Telling) (word v : ℕ) → t.asked ≢ Asking → Steps t (tells_all t (lines_of p true (access.Read word) v (Look 0 ∷ mark.Done ∷ []))) (access.Read word) (Look 0 ∷ mark.Done ∷ [])
-unfolding tells_all accepted_by delivered_by
-quiet_look p t word v ne = record { accepted = omega arith; delivered = omega arith; asked = sym (last_same t.delivered t.asked ne); missed = refl }
+quiet_look : (p : ℕ) (n : Numbers) (t : Telling) (word v : ℕ) → t.asked ≢ Asking → Steps n t (tells_all t (lines_of p true (access.Read word) v (Look 0 ∷ mark.Done ∷ []))) (access.Read word) (Look 0 ∷ mark.Done ∷ [])
+unfolding tells_all
+quiet_look p n t word v ne = record { kept = λ end k. record { state = k.state; accepted = k.accepted; delivered = k.delivered; log = k.log }; asked = sym (last_same (length t.delivered) t.asked ne); missed = refl }
 
-armed_look : (p : ℕ) (t : Telling) (word v : ℕ) → t.asked ≡ Asking → Steps t (tells_all t (lines_of p false (access.Read word) v (Look 0 ∷ mark.Done ∷ []))) (access.Read word) (Look 0 ∷ mark.Done ∷ [])
-unfolding tells_all accepted_by delivered_by
-armed_look p t word v asking = record { accepted = omega arith; delivered = omega arith; asked = ap (λ (a : Asked). asked_now t.delivered a 0) asking ∙ sym (ap (asked_last t.delivered) asking); missed = refl }
+armed_look : (p : ℕ) (n : Numbers) (t : Telling) (word v : ℕ) → t.asked ≡ Asking → Steps n t (tells_all t (lines_of p false (access.Read word) v (Look 0 ∷ mark.Done ∷ []))) (access.Read word) (Look 0 ∷ mark.Done ∷ [])
+unfolding tells_all
+armed_look p n t word v asking = record {
+  kept = λ end k. record { state = k.state; accepted = k.accepted; delivered = k.delivered; log = k.log };
+  asked = ap (λ (a : Asked). asked_now (length t.delivered) a 0) asking ∙ sym (ap (asked_last (length t.delivered)) asking);
+  missed = refl;
+}
 
-first_look : (p : ℕ) (first : Bool) (t : Telling) (word v : ℕ) → t.asked ≢ Asking → Steps t (tells_all t (lines_of p first (access.Read word) v (Look 0 ∷ []))) (access.Read word) (Look 0 ∷ [])
-unfolding tells_all accepted_by delivered_by
-first_look p true t word v ne = record { accepted = omega arith; delivered = omega arith; asked = now_zero t.delivered t.asked ne; missed = refl }
-first_look p false t word v ne = record { accepted = omega arith; delivered = omega arith; asked = now_zero t.delivered t.asked ne; missed = refl }
+first_look : (p : ℕ) (first : Bool) (n : Numbers) (t : Telling) (word v : ℕ) → t.asked ≢ Asking → Steps n t (tells_all t (lines_of p first (access.Read word) v (Look 0 ∷ []))) (access.Read word) (Look 0 ∷ [])
+unfolding tells_all
+first_look p true n t word v ne = record { kept = λ end k. record { state = k.state; accepted = k.accepted; delivered = k.delivered; log = k.log }; asked = now_zero (length t.delivered) t.asked ne; missed = refl }
+first_look p false n t word v ne = record { kept = λ end k. record { state = k.state; accepted = k.accepted; delivered = k.delivered; log = k.log }; asked = now_zero (length t.delivered) t.asked ne; missed = refl }
 
-found_look : (p : ℕ) (first : Bool) (t : Telling) (word v d : ℕ) → Steps t (tells_all t (lines_of p first (access.Read word) v (Look (suc d) ∷ []))) (access.Read word) (Look (suc d) ∷ [])
-unfolding tells_all accepted_by delivered_by
-found_look p true t word v d = record { accepted = omega arith; delivered = omega arith; asked = now_more t.delivered t.asked d; missed = refl }
-found_look p false t word v d = record { accepted = omega arith; delivered = omega arith; asked = now_more t.delivered t.asked d; missed = refl }
+found_look : (p : ℕ) (first : Bool) (n : Numbers) (t : Telling) (word v d : ℕ) → Steps n t (tells_all t (lines_of p first (access.Read word) v (Look (suc d) ∷ []))) (access.Read word) (Look (suc d) ∷ [])
+unfolding tells_all
+found_look p true n t word v d = record { kept = λ end k. record { state = k.state; accepted = k.accepted; delivered = k.delivered; log = k.log }; asked = now_more (length t.delivered) t.asked d; missed = refl }
+found_look p false n t word v d = record { kept = λ end k. record { state = k.state; accepted = k.accepted; delivered = k.delivered; log = k.log }; asked = now_more (length t.delivered) t.asked d; missed = refl }
 
-look_step : (p : ℕ) (first : Bool) (t : Telling) (word v d value : ℕ) (last within : Bool) → ((first ≡ true) × (t.asked ≢ Asking)) ⊎ ((first ≡ false) × (last ≡ true) × (t.asked ≡ Asking)) →
-    Steps t (tells_all t (lines_of p first (access.Read word) v (if within then look_marks last d else refusal field_name.AvailIndex value))) (access.Read word) (if within then look_marks last d else refusal field_name.AvailIndex value)
-look_step p first t word v zero value true true (inl h) = subst (λ (b : Bool). Steps t (tells_all t (lines_of p b (access.Read word) v (Look 0 ∷ mark.Done ∷ []))) (access.Read word) (Look 0 ∷ mark.Done ∷ [])) (sym h.0) (quiet_look p t word v h.1)
-look_step p first t word v zero value true true (inr h) = subst (λ (b : Bool). Steps t (tells_all t (lines_of p b (access.Read word) v (Look 0 ∷ mark.Done ∷ []))) (access.Read word) (Look 0 ∷ mark.Done ∷ [])) (sym h.0) (armed_look p t word v h.2)
-look_step p first t word v zero value false true (inl h) = first_look p first t word v h.1
-look_step p first t word v zero value false true (inr h) = absurd (clash h.1)
-look_step p first t word v (suc d) value last true h = subst (λ (b : Bool). Steps t (tells_all t (lines_of p first (access.Read word) v (if b then empty_marks last else Look (suc d) ∷ []))) (access.Read word) (if b then empty_marks last else Look (suc d) ∷ [])) (sym (more_than d)) (found_look p first t word v d)
-look_step p first t word v d value last false h = plain_step p first t (access.Read word) v (refusal field_name.AvailIndex value) (λ state e. cc) tt
+look_step : (p : ℕ) (first : Bool) (n : Numbers) (t : Telling) (word v d value : ℕ) (last within : Bool) → ((first ≡ true) × (t.asked ≢ Asking)) ⊎ ((first ≡ false) × (last ≡ true) × (t.asked ≡ Asking)) →
+    Steps n t (tells_all t (lines_of p first (access.Read word) v (if within then look_marks last d else refusal field_name.AvailIndex value))) (access.Read word) (if within then look_marks last d else refusal field_name.AvailIndex value)
+look_step p first n t word v zero value true true (inl h) = subst (λ (b : Bool). Steps n t (tells_all t (lines_of p b (access.Read word) v (Look 0 ∷ mark.Done ∷ []))) (access.Read word) (Look 0 ∷ mark.Done ∷ [])) (sym h.0) (quiet_look p n t word v h.1)
+look_step p first n t word v zero value true true (inr h) = subst (λ (b : Bool). Steps n t (tells_all t (lines_of p b (access.Read word) v (Look 0 ∷ mark.Done ∷ []))) (access.Read word) (Look 0 ∷ mark.Done ∷ [])) (sym h.0) (armed_look p n t word v h.2)
+look_step p first n t word v zero value false true (inl h) = first_look p first n t word v h.1
+look_step p first n t word v zero value false true (inr h) = absurd (clash h.1)
+look_step p first n t word v (suc d) value last true h = subst (λ (b : Bool). Steps n t (tells_all t (lines_of p first (access.Read word) v (if b then empty_marks last else Look (suc d) ∷ []))) (access.Read word) (if b then empty_marks last else Look (suc d) ∷ [])) (sym (more_than d)) (found_look p first n t word v d)
+look_step p first n t word v d value last false h = plain_step p first n t (access.Read word) v (refusal field_name.AvailIndex value) (λ state e. cc) tt
 
 -- The lines of the read of an event
 
-event_step : (p : ℕ) (first b : Bool) (t : Telling) (word v : ℕ) → Steps t (tells_all t (lines_of p first (access.Read word) v (if b then [] else Over ∷ []))) (access.Read word) (if b then [] else Over ∷ [])
-unfolding tells_all accepted_by delivered_by
-event_step p true true t word v = record { accepted = omega arith; delivered = omega arith; asked = refl; missed = refl }
-event_step p false true t word v = record { accepted = omega arith; delivered = omega arith; asked = refl; missed = refl }
-event_step p true false t word v = record { accepted = omega arith; delivered = omega arith; asked = refl; missed = refl }
-event_step p false false t word v = record { accepted = omega arith; delivered = omega arith; asked = refl; missed = refl }
+event_step : (p : ℕ) (first b : Bool) (n : Numbers) (t : Telling) (word v : ℕ) → Steps n t (tells_all t (lines_of p first (access.Read word) v (if b then [] else Over ∷ []))) (access.Read word) (if b then [] else Over ∷ [])
+unfolding tells_all
+event_step p true true n t word v = record { kept = λ end k. record { state = k.state; accepted = k.accepted; delivered = k.delivered; log = k.log }; asked = refl; missed = refl }
+event_step p false true n t word v = record { kept = λ end k. record { state = k.state; accepted = k.accepted; delivered = k.delivered; log = k.log }; asked = refl; missed = refl }
+event_step p true false n t word v = record { kept = λ end k. record { state = k.state; accepted = k.accepted; delivered = k.delivered; log = k.log }; asked = refl; missed = refl }
+event_step p false false n t word v = record { kept = λ end k. record { state = k.state; accepted = k.accepted; delivered = k.delivered; log = k.log }; asked = refl; missed = refl }
 
-state_step : (p : ℕ) (first : Bool) (t : Telling) (state v : ℕ) → Steps t (tells_all t (lines_of p first (access.State state) v (Over ∷ []))) (access.State state) (Over ∷ [])
-unfolding tells_all accepted_by delivered_by
-state_step p first t state v = record { accepted = omega arith; delivered = omega arith; asked = refl; missed = refl }
+-- The lines of a State step
 
-ring_step : (p : ℕ) (first : Bool) (t : Telling) (target vector v : ℕ) → Steps t (tells_all t (lines_of p first (access.Ring target vector) v (Over ∷ []))) (access.Ring target vector) (Over ∷ [])
-unfolding tells_all accepted_by delivered_by
-ring_step p first t target vector v = record { accepted = omega arith; delivered = omega arith; asked = refl; missed = refl }
+-- the other's sessions matter to one with 3 alone
+others_free : (log one other : Log) (side : Side) (state : ℕ) → (state == 3) ≡ false → log_after log one side (Wrote state) ≡ log_after log other side (Wrote state)
+others_free log one other side state never = let carried : (if state == 3 then one.opened else log.carried) ≡ (if state == 3 then other.opened else log.carried) =
+    ap (λ (b : Bool). if b then one.opened else log.carried) never ∙ sym (ap (λ (b : Bool). if b then other.opened else log.carried) never) in
+    λ i. record (log_after log one side (Wrote state)) { carried = carried i }
 
--- a step of a turn
-told_step : (p : ℕ) (who : Who) (first : Bool) (t : Telling) (v value : ℕ) (place : Place) → TurnAsks first t.asked place → Steps t (tells_all t (lines_of p first (access_at who place) v (marks_at who place value))) (access_at who place) (marks_at who place value)
-told_step p who first t v value (AtAvailIndex taken last) asks = look_step p first t _ v (published_by taken value) (high_half value) last (nat_le (published_by taken value) (size_of who.sizes)) asks
-told_step p who first t v value (AtEvent number) asks = event_step p first (asks_for (low_half value) number) t _ v
-told_step p who first t v value (Setting state) asks = state_step p first t state v
-told_step p who first t v value Refusing asks = state_step p first t 0 v
-told_step p who first t v value RingingOffer asks = ring_step p first t who.other who.vector v
-told_step p who first t v value place asks = plain_step p first t (access_at who place) v (marks_at who place value) (λ state e. cc) (plain_marks who place value refl (λ e. cc))
+state_step : (p : ℕ) (first : Bool) (n : Numbers) (t : Telling) (state v : ℕ) → (state == 3) ≡ false → Steps n t (tells_all t (lines_of p first (access.State state) v (Over ∷ []))) (access.State state) (Over ∷ [])
+unfolding tells_all
+state_step p first n t state v never = record {
+  kept = λ end k. record {
+    state = refl;
+    accepted = ap (λ (l : List (List ℕ)). if state == 2 then [] else l) k.accepted;
+    delivered = ap (λ (l : List (List ℕ)). if state == 2 then [] else l) k.delivered;
+    log = (λ i. log_after (k.log i) no_sessions (side_kept k i) (Wrote state)) ∙ others_free n.log no_sessions (record no_sessions { opened = number_of n.loaded }) (own_side end) state never;
+  };
+  asked = refl;
+  missed = refl;
+}
+
+-- that with 3 is told with the number that was loaded
+enter_step : (p opened other : ℕ) (n : Numbers) (t : Telling) → n.loaded ≡ Some other → Steps n t (tells_all t (line.State p 3 ∷ line.Session p opened other ∷ line.Over p ∷ [])) (access.State 3) (Over ∷ [])
+unfolding tells_all
+enter_step p opened other n t loaded = record {
+  kept = λ end k. record {
+    state = refl;
+    accepted = k.accepted;
+    delivered = k.delivered;
+    log = λ i. with_carried (log_after (k.log i) no_sessions (side_kept k i) (Wrote 3)) (number_of (sym loaded i));
+  };
+  asked = refl;
+  missed = refl;
+}
+
+ring_step : (p : ℕ) (first : Bool) (n : Numbers) (t : Telling) (target vector v : ℕ) → Steps n t (tells_all t (lines_of p first (access.Ring target vector) v (Over ∷ []))) (access.Ring target vector) (Over ∷ [])
+unfolding tells_all
+ring_step p first n t target vector v = record { kept = λ end k. record { state = k.state; accepted = k.accepted; delivered = k.delivered; log = k.log }; asked = refl; missed = refl }
+
+-- a step of a turn that is no State step with 3
+told_step : (p : ℕ) (who : Who) (first : Bool) (n : Numbers) (t : Telling) (v value : ℕ) (place : Place) → TurnAsks first t.asked place → ((state : ℕ) → access_at who place ≡ access.State state → (state == 3) ≡ false) →
+    Steps n t (tells_all t (lines_of p first (access_at who place) v (marks_at who place value))) (access_at who place) (marks_at who place value)
+told_step p who first n t v value (AtAvailIndex taken last) asks never = look_step p first n t _ v (published_by taken value) (high_half value) last (nat_le (published_by taken value) (size_of who.sizes)) asks
+told_step p who first n t v value (AtEvent number) asks never = event_step p first (asks_for (low_half value) number) n t _ v
+told_step p who first n t v value (Setting state) asks never = state_step p first n t state v (never state refl)
+told_step p who first n t v value Refusing asks never = state_step p first n t 0 v refl
+told_step p who first n t v value RingingOffer asks never = ring_step p first n t who.other who.vector v
+told_step p who first n t v value place asks never = plain_step p first n t (access_at who place) v (marks_at who place value) (λ state e. cc) (plain_marks who place value refl (λ e. cc))
 
 -- The lines of a doorbell that takes two turns
 
-cleared_step : (p : ℕ) (who : Who) (routes : List Route) (t : Telling) (v value : ℕ) (place : Place) → is_guarded (way_in routes (access_at who place)) ≡ true →
-    Steps t (tells_all t (access_lines p (access_at who place) v ++ map (mark_line p) (marks_at who place value))) (access_at who place) (marks_at who place value)
-unfolding tells_all accepted_by delivered_by
-cleared_step p who routes t v value RingingOffer guarded = record { accepted = omega arith; delivered = omega arith; asked = refl; missed = refl }
-cleared_step p who routes t v value RingingPoll guarded = record { accepted = omega arith; delivered = omega arith; asked = refl; missed = refl }
-cleared_step p who routes t v value place guarded = absurd (clash guarded)
+cleared_step : (p : ℕ) (who : Who) (routes : List Route) (n : Numbers) (t : Telling) (v value : ℕ) (place : Place) → is_guarded (way_in routes (access_at who place)) ≡ true →
+    Steps n t (tells_all t (access_lines p (access_at who place) v ++ map (mark_line p) (marks_at who place value))) (access_at who place) (marks_at who place value)
+unfolding tells_all
+cleared_step p who routes n t v value RingingOffer guarded = record { kept = λ end k. record { state = k.state; accepted = k.accepted; delivered = k.delivered; log = k.log }; asked = refl; missed = refl }
+cleared_step p who routes n t v value RingingPoll guarded = record { kept = λ end k. record { state = k.state; accepted = k.accepted; delivered = k.delivered; log = k.log }; asked = refl; missed = refl }
+cleared_step p who routes n t v value place guarded = absurd (clash guarded)
 
-rung_step : (p : ℕ) (who : Who) (routes : List Route) (t : Telling) (value : ℕ) (place : Place) → t.read ≡ false → is_guarded (way_in routes (access_at who place)) ≡ true →
-    Steps t (tells_all t (map (mark_line p) (marks_at who place value))) (access_at who place) (marks_at who place value)
-unfolding tells_all accepted_by delivered_by
-rung_step p who routes t value RingingOffer still guarded = record { accepted = omega arith; delivered = omega arith; asked = refl; missed = ap (λ (b : Bool). if b then t.missed ++ (t.accepted - 1) ∷ [] else t.missed) still }
-rung_step p who routes t value RingingPoll still guarded = record { accepted = omega arith; delivered = omega arith; asked = refl; missed = refl }
-rung_step p who routes t value place still guarded = absurd (clash guarded)
+rung_step : (p : ℕ) (who : Who) (routes : List Route) (n : Numbers) (t : Telling) (value : ℕ) (place : Place) → t.read ≡ false → is_guarded (way_in routes (access_at who place)) ≡ true →
+    Steps n t (tells_all t (map (mark_line p) (marks_at who place value))) (access_at who place) (marks_at who place value)
+unfolding tells_all
+rung_step p who routes n t value RingingOffer still guarded = record {
+  kept = λ end k. record { state = k.state; accepted = k.accepted; delivered = k.delivered; log = k.log };
+  asked = refl;
+  missed = ap (λ (b : Bool). if b then t.missed ++ (length t.accepted - 1) ∷ [] else t.missed) still;
+}
+rung_step p who routes n t value RingingPoll still guarded = record { kept = λ end k. record { state = k.state; accepted = k.accepted; delivered = k.delivered; log = k.log }; asked = refl; missed = refl }
+rung_step p who routes n t value place still guarded = absurd (clash guarded)
 
 held_counts : (p : ℕ) (who : Who) (routes : List Route) (t : Telling) (v : ℕ) (place : Place) → is_guarded (way_in routes (access_at who place)) ≡ true →
     Counts t (tells_all t (access_lines p (access_at who place) v)) [] × ((tells_all t (access_lines p (access_at who place) v)).read ≡ false)
-unfolding tells_all accepted_by delivered_by
-held_counts p who routes t v RingingOffer guarded = (record { accepted = omega arith; delivered = omega arith; asked = refl; missed = refl }, refl)
-held_counts p who routes t v RingingPoll guarded = (record { accepted = omega arith; delivered = omega arith; asked = refl; missed = refl }, refl)
+unfolding tells_all
+held_counts p who routes t v RingingOffer guarded = (record { kept = λ end log k. record { state = k.state; accepted = k.accepted; delivered = k.delivered; log = k.log }; asked = refl; missed = refl }, refl)
+held_counts p who routes t v RingingPoll guarded = (record { kept = λ end log k. record { state = k.state; accepted = k.accepted; delivered = k.delivered; log = k.log }; asked = refl; missed = refl }, refl)
 held_counts p who routes t v place guarded = absurd (clash guarded)
 
 -- and those of a look
 bit_counts : (p bit found : ℕ) (t : Telling) → Counts t (tells_all t (heard_bit p bit found)) [] × (t.read ≡ false → (tells_all t (heard_bit p bit found)).read ≡ false)
-unfolding tells_all accepted_by delivered_by
+unfolding tells_all
 bit_counts p bit found t = by (bit_at found bit == 0)
   where
     by : (b : Bool) → Counts t (tells_all t (if b then [] else line.Interrupt p bit ∷ [])) [] × (t.read ≡ false → (tells_all t (if b then [] else line.Interrupt p bit ∷ [])).read ≡ false)
-    by true = (record { accepted = omega arith; delivered = omega arith; asked = refl; missed = refl }, λ still. still)
-    by false = (record { accepted = omega arith; delivered = omega arith; asked = refl; missed = refl }, λ still. refl)
+    by true = (record { kept = λ end log k. k; asked = refl; missed = refl }, λ still. still)
+    by false = (record { kept = λ end log k. record { state = k.state; accepted = k.accepted; delivered = k.delivered; log = k.log }; asked = refl; missed = refl }, λ still. refl)
 
 heard_counts : (n p found : ℕ) (t : Telling) → Counts t (tells_all t (heard n p found)) [] × (t.read ≡ false → (tells_all t (heard n p found)).read ≡ false)
 unfolding heard
-heard_counts zero p found t = let same = tells_none t in let none = no_frames in let n = none.0 in let m = none.1 in
-    (subst (λ (u : Telling). Counts t u []) (sym same) (record { accepted = omega arith; delivered = omega arith; asked = refl; missed = refl }), λ still. ap (λ (u : Telling). u.read) same ∙ still)
+heard_counts zero p found t = let same = tells_none t in
+    (subst (λ (u : Telling). Counts t u []) (sym same) (record { kept = λ end log k. k; asked = refl; missed = refl }), λ still. ap (λ (u : Telling). u.read) same ∙ still)
 heard_counts (suc n) p found t = let s = tells_all t (heard n p found) in let first = heard_counts n p found t in let then' = bit_counts p n found s in let same = tells_both t (heard n p found) (heard_bit p n found) in
     (subst (λ (u : Telling). Counts t u []) (sym same) (counts_both t s _ [] first.0 then'.0), λ still. ap (λ (u : Telling). u.read) same ∙ then'.1 (first.1 still))
 
 -- The lines of a runner
 
 pub record Told (r : Runner) (t : Telling) : Type 0 where
-  pub accepted : t.accepted ≡ length (accepted_by (marks_in r.turns))
-  pub delivered : t.delivered ≡ length (delivered_by (marks_in r.turns))
+  pub side : side_in t ≡ own_side r.end
+  pub log : t.log ≡ r.numbers.log
   pub asked : t.asked ≡ r.wake.asked
   pub missed : t.missed ≡ r.wake.missed
   pub quiet : r.ringing ≡ true → t.read ≡ false
   pub place : PlaceAsks r.wake.asked r.place
 
-pub told_first : (frames : List (List ℕ)) (expected : ℕ) → Told (beginning frames expected) untold
-unfolding marks_in accepted_by delivered_by
-told_first frames expected = record { accepted = refl; delivered = refl; asked = refl; missed = refl; quiet = λ e. absurd (clash e); place = λ e. cc }
+pub told_is : (r : Runner) (t : Telling) → Told r t → IsTold (stance_of r) t
+told_is r t told = record { side = told.side; log = told.log; asked = told.asked; missed = told.missed }
+
+keeps : (r : Runner) (t : Telling) → Told r t → Keeps t r.end r.numbers.log
+keeps r t told = record {
+  state = ap (λ (s : Side). s.state) told.side;
+  accepted = ap (λ (s : Side). s.accepted) told.side;
+  delivered = ap (λ (s : Side). s.delivered) told.side;
+  log = told.log;
+}
+
+pub told_first : (frames : List (List ℕ)) (expected : ℕ) (spans : List ℕ) → Told (beginning frames expected spans) untold
+told_first frames expected spans = record { side = refl; log = refl; asked = refl; missed = refl; quiet = λ e. absurd (clash e); place = λ e. cc }
 
 pub looked_told : (p found : ℕ) (r : Runner) (t : Telling) → Told r t → Told (looked_on r found) (tells_all t (told_in p (Looks found)))
-looked_told p found r t told = let c = heard_counts 64 p found t in let one = c.0 in let same : marks_in (looked_on r found).turns ≡ marks_in r.turns = marks_snoc r.turns (Looks found) ∙ append-nil (marks_in r.turns) in
-    let none = no_frames in let n = none.0 in let m = none.1 in let a = one.accepted in let d = one.delivered in let ta = told.accepted in let td = told.delivered in
-    let sa = ap (λ ms. length (accepted_by ms)) same in let sd = ap (λ ms. length (delivered_by ms)) same in
-    record { accepted = omega arith; delivered = omega arith; asked = one.asked ∙ told.asked; missed = one.missed ∙ told.missed; quiet = λ e. c.1 (told.quiet e); place = told.place }
+looked_told p found r t told = let c = heard_counts 64 p found t in let one = c.0 in let k = one.kept r.end r.numbers.log (keeps r t told) in
+    record { side = side_kept k; log = k.log; asked = one.asked ∙ told.asked; missed = one.missed ∙ told.missed; quiet = λ e. c.1 (told.quiet e); place = told.place }
 
-module _ (routes : List Route) (who : Who) (r : Runner) (done : Done) (t : Telling) (told : Told r t) (is : IsDone r.ringing (is_guarded (way_in routes (access_at who (place_in who r)))) done) where
+-- a turn at a session word tells nothing
+pub met_told : (p number : ℕ) (word : SessionWord) (r : Runner) (t : Telling) → Told r t → Told (met_on word r number) (tells_all t (told_in p (turn_met word number)))
+unfolding tells_all
+met_told p number Own r t told = record { side = told.side; log = told.log; asked = told.asked; missed = told.missed; quiet = told.quiet; place = told.place }
+met_told p number Others r t told = record { side = told.side; log = told.log; asked = told.asked; missed = told.missed; quiet = told.quiet; place = told.place }
+
+-- the line of a reset
+pub restarted_told : (p : ℕ) (r : Runner) (t : Telling) → Told r t → Told (restarted_on r) (tells_all t (told_in p Restarts))
+unfolding tells_all
+restarted_told p r t told = record {
+  side = λ i. record fresh_side { state = 0; accepted = (told.side i).accepted; delivered = (told.side i).delivered };
+  log = λ i. log_after (told.log i) no_sessions (told.side i) WasReset;
+  asked = refl;
+  missed = told.missed;
+  quiet = λ e. absurd (clash e);
+  place = λ e. cc;
+}
+
+module _ (routes : List Route) (who : Who) (r : Runner) (done : Done) (t : Telling) (told : Told r t) (is : IsDone r.ringing (is_guarded (way_in routes (access_at who (place_in who r)))) done) (has : HasMet r) (due : due_word r.place r.met ≡ None) where
   wake_same : wake_of t ≡ r.wake
   wake_same = λ i. record { asked = told.asked i; missed = told.missed i }
 
-  by_steps : Steps t (tells_all t (told_on who r done)) (access_at who (place_in who r)) (marks_at who (place_in who r) (value_done done)) → holds_on done ≡ false → Told (stepped_on routes who r done) (tells_all t (told_on who r done))
-  by_steps s goes = let a = s.accepted in let d = s.delivered in let ta = told.accepted in let td = told.delivered in let on = ap length (accepted_on routes who r done goes) in let off = ap length (delivered_on routes who r done goes) in
-      let la = length-append (accepted_by (marks_in r.turns)) (accepted_by (marks_at who (place_in who r) (value_done done))) in let ld = length-append (delivered_by (marks_in r.turns)) (delivered_by (marks_at who (place_in who r) (value_done done))) in
-      let same : wake_after t.accepted t.delivered (wake_of t) (access_at who (place_in who r)) (marks_at who (place_in who r) (value_done done)) ≡ woken_on who r done = λ i. wake_after (told.accepted i) (told.delivered i) (wake_same i) (access_at who (place_in who r)) (marks_at who (place_in who r) (value_done done)) in
+  by_steps : Steps r.numbers t (tells_all t (told_on who r done)) (access_at who (place_in who r)) (marks_at who (place_in who r) (value_done done)) → Told (stepped_on routes who r done) (tells_all t (told_on who r done))
+  by_steps s = let k = s.kept r.end (keeps r t told) in
+      let same : wake_after (length t.accepted) (length t.delivered) (wake_of t) (access_at who (place_in who r)) (marks_at who (place_in who r) (value_done done)) ≡ woken_on who r done =
+      λ i. wake_after (length (told.side i).accepted) (length (told.side i).delivered) (wake_same i) (access_at who (place_in who r)) (marks_at who (place_in who r) (value_done done)) in
       record {
-        accepted = omega arith;
-        delivered = omega arith;
+        side = side_kept k;
+        log = k.log;
         asked = s.asked ∙ ap (λ (w : Wake). w.asked) same;
         missed = s.missed ∙ ap (λ (w : Wake). w.missed) same;
         quiet = λ e. absurd (clash e);
-        place = place_after who (is_first r) (length (accepted_by (marks_in r.turns))) (length (delivered_by (marks_in r.turns))) (value_done done) r.wake (place_in who r) (turn_asks who r told.place);
+        place = place_after who (is_first r) (length r.end.accepted) (length r.end.delivered) (value_done done) r.wake (place_in who r) (turn_asks who r told.place);
       }
 
-  stepped_told : holds_on done ≡ false → Told (stepped_on routes who r done) (tells_all t (told_on who r done))
-  stepped_told goes = by_steps (by done goes is) goes
-    where
-      asks : TurnAsks (is_first r) t.asked (place_in who r)
-      asks = subst (λ (a : Asked). TurnAsks (is_first r) a (place_in who r)) (sym told.asked) (turn_asks who r told.place)
+  asks : TurnAsks (is_first r) t.asked (place_in who r)
+  asks = subst (λ (a : Asked). TurnAsks (is_first r) a (place_in who r)) (sym told.asked) (turn_asks who r told.place)
 
-      by : (d : Done) → holds_on d ≡ false → IsDone r.ringing (is_guarded (way_in routes (access_at who (place_in who r)))) d → Steps t (tells_all t (told_on who r d)) (access_at who (place_in who r)) (marks_at who (place_in who r) (value_done d))
-      by (Stepped value) free i = told_step who.me who (is_first r) t (value_given (access_at who (place_in who r)) value) value (place_in who r) asks
-      by (Cleared found) free i = subst (λ (b : Bool). Steps t (tells_all t (access_lines who.me (access_at who (place_in who r)) (value_given (access_at who (place_in who r)) 0) ++ map (mark_line who.me) (if b then [] else marks_at who (place_in who r) 0))) (access_at who (place_in who r)) (marks_at who (place_in who r) 0)) (sym free)
-          (cleared_step who.me who routes t (value_given (access_at who (place_in who r)) 0) 0 (place_in who r) i.1)
-      by Rung free i = rung_step who.me who routes t 0 (place_in who r) (told.quiet i.0) i.1
+  -- a step with its access, which is the State step with 3 or another one
+  enters_told : (value : ℕ) → IsEntering who r value → Steps r.numbers t (tells_all t (told_on who r (Stepped value))) (access_at who (place_in who r)) (marks_at who (place_in who r) value)
+  enters_told value e = let after = λ (turn : Turn). tells_all t (told_in who.me turn) in
+      subst (λ (turn : Turn). Steps r.numbers t (after turn) (access_at who (place_in who r)) (marks_at who (place_in who r) value)) (sym e.turn)
+      (subst (λ (p : Place). Steps r.numbers t (after (Enters (step_at who p value) r.numbers.log.opened e.other)) (access_at who p) (marks_at who p value)) (sym e.place) (enter_step who.me r.numbers.log.opened e.other r.numbers t e.loaded))
+
+  makes_told : (value : ℕ) → IsMaking who r value → Steps r.numbers t (tells_all t (told_on who r (Stepped value))) (access_at who (place_in who r)) (marks_at who (place_in who r) value)
+  makes_told value m = subst (λ (turn : Turn). Steps r.numbers t (tells_all t (told_in who.me turn)) (access_at who (place_in who r)) (marks_at who (place_in who r) value)) (sym m.turn)
+      (told_step who.me who (is_first r) r.numbers t (value_given (access_at who (place_in who r)) value) value (place_in who r) asks m.never)
+
+  stepped_told : holds_on done ≡ false → Told (stepped_on routes who r done) (tells_all t (told_on who r done))
+  stepped_told goes = by_steps (by done goes is)
+    where
+      by : (d : Done) → holds_on d ≡ false → IsDone r.ringing (is_guarded (way_in routes (access_at who (place_in who r)))) d → Steps r.numbers t (tells_all t (told_on who r d)) (access_at who (place_in who r)) (marks_at who (place_in who r) (value_done d))
+      by (Stepped value) free i = ⊎_elim (enters_told value) (makes_told value) (stepped_kind who r value has due)
+      by (Cleared found) free i = subst (λ (b : Bool). Steps r.numbers t (tells_all t (access_lines who.me (access_at who (place_in who r)) (value_given (access_at who (place_in who r)) 0) ++ map (mark_line who.me) (if b then [] else marks_at who (place_in who r) 0))) (access_at who (place_in who r)) (marks_at who (place_in who r) 0)) (sym free)
+          (cleared_step who.me who routes r.numbers t (value_given (access_at who (place_in who r)) 0) 0 (place_in who r) i.1)
+      by Rung free i = rung_step who.me who routes r.numbers t 0 (place_in who r) (told.quiet i.0) i.1
 
   held_told : holds_on done ≡ true → Told (held_on routes who r done) (tells_all t (told_on who r done))
-  held_told held = let line_is = held_line who.me (is_first r) (step_at who (place_in who r) (value_done done)) done held in
+  held_told held = let line_is = held_line who.me (is_first r) r.numbers.log.opened r.met (step_at who (place_in who r) (value_done done)) done held in
       subst (λ ls. Told (held_on routes who r done) (tells_all t ls)) (sym line_is) (
       let c = held_counts who.me who routes t (value_given (access_at who (place_in who r)) (value_done done)) (place_in who r) (held_guards r.ringing (is_guarded (way_in routes (access_at who (place_in who r)))) done is held) in let one = c.0 in
-      let same = held_same routes who r done held in let none = no_frames in let n = none.0 in let m = none.1 in let a = one.accepted in let d = one.delivered in let ta = told.accepted in let td = told.delivered in
-      let sa = ap (λ ms. length (accepted_by ms)) same in let sd = ap (λ ms. length (delivered_by ms)) same in
-      record { accepted = omega arith; delivered = omega arith; asked = one.asked ∙ told.asked; missed = one.missed ∙ told.missed; quiet = λ e. c.1; place = told.place })
+      let k = one.kept r.end r.numbers.log (keeps r t told) in
+      record { side = side_kept k; log = k.log; asked = one.asked ∙ told.asked; missed = one.missed ∙ told.missed; quiet = λ e. c.1; place = told.place })
 
   pub turned_told : Told (turned routes who r done) (tells_all t (told_on who r done))
   turned_told = by (holds_on done) refl

@@ -1,29 +1,32 @@
 -- A turn of an automatic peer.
-use Rattle.std.proofs.Common.{◌≡◌, ℕ, zero, suc, ◌+◌, ◌<◌, ◌≤◌, inl, inr, All, Bool, true, false, List, [], ◌∷◌, ◌++◌, length, refl, sym, ap, ◌∙◌, subst, arith, append-nil, append_assoc}
-use Rattle.std.specs.Prelude.{Option, Some, None, is_some, not, drop, map, if◌then◌else◌}
-use Rattle.std.proofs.lemmas.Grind.{flat_map-append}
+use Rattle.std.proofs.Common.{◌≡◌, ◌≢◌, ℕ, zero, suc, ◌+◌, ◌<◌, ◌≤◌, ◌⊎◌, inl, inr, ⊎_elim, All, Bool, true, false, List, [], ◌∷◌, ◌++◌, length, refl, sym, ap, ◌∙◌, subst, arith, append-nil, ne_eqb, eqb-true}
+use mathlib.Core.Logic.{dite}
+use native.Mathlib.Decide.{ℕ_discrete}
+use Rattle.std.specs.Prelude.{Option, Some, None, ◌==◌, is_some, not, drop, map, if◌then◌else◌}
 use Rattle.std.proofs.lemmas.List.Elements.{recursion_from_All, All-from_recursion}
 use Rattle.split_ring.specs.declared.steps.Access.{Access}
 use Rattle.split_ring.specs.declared.steps.Access.TheVariants as access
 use Rattle.split_ring.specs.declared.steps.Note.{Note}
 use Rattle.section_map.specs.Geometry.{section_start, word_count}
-use Rattle.call_grammar.specs.Steps.{Mark, Accept, Step, value_given}
-use Rattle.call_grammar.specs.Ends.{End, end_after}
+use Rattle.call_grammar.specs.Steps.{Mark, Accept, Step, value_given, step_of}
+use Rattle.call_grammar.specs.Ends.{End, after_reset, end_after}
 use Rattle.call_grammar.specs.Calls.{Who, Call}
 use Rattle.call_grammar.specs.Calls as calls
-use Rattle.call_grammar.specs.Automatic.{choice_of}
+use Rattle.call_grammar.specs.Automatic.{Anew, choice_of}
 use Rattle.call_grammar.specs.Automatic as automatic
 use Rattle.call_grammar.specs.Reach.{InReach}
 use Rattle.call_grammar.specs.Polls.{is_last}
-use Rattle.call_grammar.specs.Places.{Place, Closed, Downed, RingingOffer, RingingPoll, AtUsedIndex, AtAvailIndex, first_place, access_at, next_place, step_at, marks_at, is_open}
-use Rattle.link_endpoint.specs.Engine.{Engine, is_busy, offered, delivered}
+use Rattle.call_grammar.specs.Places.{Place, Closed, Setting, Refusing, Downed, RingingOffer, RingingPoll, AtUsedIndex, AtAvailIndex, first_place, access_at, next_place, step_at, marks_at, is_open}
+use Rattle.link_endpoint.specs.Engine.{Engine, offered, delivered}
 use Rattle.link_endpoint.specs.Stands.{StandsAt, Takes, marks_between}
 use Rattle.link_endpoint.specs.Plan.{Plan, IsChoice}
 use Rattle.link_endpoint.specs.declared.auto.Choice.{Choice}
 use Rattle.link_endpoint.specs.declared.auto.Choice.TheVariants.{Tick, Offer, Poll, Finished}
+use Rattle.lawful_history.specs.declared.line.Line.TheVariants as line
 use Rattle.lawful_history.specs.Entries.{access_lines, mark_line}
 use Rattle.lawful_history.specs.Peers.{Auto, counted, counted_all}
 use Rattle.ends_pair.specs.Ground.{IsOffered}
+use Rattle.pair_sessions.specs.Numbers.{Numbers, numbers_after, IsNumbered}
 use Rattle.step_lines.specs.Plans.{IsPlanOf}
 use Rattle.step_lines.specs.Places.{HasFrames}
 use Rattle.step_lines.proofs.Framing.{first_frames, next_frames}
@@ -31,7 +34,7 @@ use Rattle.step_lines.proofs.Marks.{busy_next, marks_now}
 use Rattle.peer_runner.specs.declared.key.Key.{Key}
 use Rattle.peer_runner.specs.Held.{Held}
 use Rattle.peer_runner.specs.Keys.{who_in, ground_of, honest_of, IsFit}
-use Rattle.peer_runner.specs.Standings.{Taken, taken, Wake, wake_after, Stance, begun_if, moved, settled_place, settled, after_access, accepted_once, delivered_once, accepted_by, delivered_by, standing, Begins, IsNext}
+use Rattle.peer_runner.specs.Standings.{Taken, Deed, called, numbered, carried, restarted, taken, Wake, wake_after, Stance, begun_if, moved, settled_place, settled, after_access, after_deed, standing, Begins, IsNext}
 use Rattle.peer_runner.specs.Actions.{Action, accessed, looked, accesses_in}
 use Rattle.peer_runner.specs.Passes.{added, held}
 use Rattle.doorbell_irq.specs.declared.route.Route.{Route}
@@ -41,8 +44,11 @@ use Rattle.peer_runner.specs.declared.ways.Done.{Done}
 use Rattle.peer_runner.specs.declared.ways.Done.TheVariants.{Stepped, Cleared, Rung}
 use Rattle.peer_runner.specs.Ways.{way_to, is_guarded, way_in, rung_by}
 use Rattle.peer_runner.specs.Rules.{front}
-use Rattle.peer_runner.specs.Turns.{Turn, Looks, Makes, is_end, is_quiet, lines_of, cleared_by, marks_of, told_in}
-use Rattle.peer_runner.specs.Runners.{Runner, IsFrame, chosen, round_on, call_chosen, finishes, has_finished, place_for, place_in, Matches, call_of, call_told, IsBegun, IsBegunIf, touches, taken_of, MayMake, made, value_done, done_of, turn_of, done_lines, IsDone, holds_on, MayRingBy, Closes, looked_on, is_first, held_on, woken_on, stepped_on, turned, told_on, marks_in, stance_of, Stands, IsThere, Turns}
+use Rattle.peer_runner.specs.Turns.{Makes, Clears, Enters, opens, is_end, cleared_by, marks_of, told_in}
+use Rattle.peer_runner.specs.Runners.{Runner, IsFrame, chosen, round_on, call_chosen, finishes, has_finished, place_for, place_in, Matches, call_of, call_told, IsBegun, IsBegunIf, touches, taken_of, MayMake, made, value_done, done_of, stepped_turn, turn_of, stepped_lines, done_lines, IsDone, holds_on, MayRingBy, Closes, looked_on, due_word, state_for, deed_met, met_on, restarted_on, is_first, turn_on, held_on, stepped_on, turned, told_on, stance_of, HasMet, Stands, IsThere, IsAutoPeer, Turns}
+use Rattle.peer_runner.specs.declared.sessions.SessionWord.{SessionWord}
+use Rattle.peer_runner.specs.declared.sessions.SessionWord.TheVariants.{Own, Others}
+use Rattle.peer_runner.specs.declared.turns.AutoPeer.{AutoPeer}
 use Rattle.peer_runner.proofs.Standings.{standing_snoc, stand_honest}
 use Rattle.peer_runner.proofs.Actions.{accesses_none, accesses_both, accesses_snoc}
 use Rattle.peer_runner.proofs.Keys.{clash, section_ends}
@@ -52,18 +58,18 @@ shut Closed is = refl
 shut place is = absurd (cc)
 
 -- the call that is told is the one that was chosen
-called : (answer : Choice) (frames : List (List ℕ)) (c : automatic.Choice) → IsChoice answer frames c → call_of answer frames ≡ call_chosen (Some c)
-called Tick frames c is = sym (ap (λ (x : automatic.Choice). call_chosen (Some x)) is)
-called Offer [] c is = absurd is
-called Offer (frame ∷ frames) c is = sym (ap (λ (x : automatic.Choice). call_chosen (Some x)) is)
-called Poll frames c is = sym (ap (λ (x : automatic.Choice). call_chosen (Some x)) is)
-called Finished frames c is = sym (ap (λ (x : automatic.Choice). call_chosen (Some x)) is)
+same_call : (answer : Choice) (frames : List (List ℕ)) (c : automatic.Choice) → IsChoice answer frames c → call_of answer frames ≡ call_chosen (Some c)
+same_call Tick frames c is = sym (ap (λ (x : automatic.Choice). call_chosen (Some x)) is)
+same_call Offer [] c is = absurd is
+same_call Offer (frame ∷ frames) c is = sym (ap (λ (x : automatic.Choice). call_chosen (Some x)) is)
+same_call Poll frames c is = sym (ap (λ (x : automatic.Choice). call_chosen (Some x)) is)
+same_call Finished frames c is = sym (ap (λ (x : automatic.Choice). call_chosen (Some x)) is)
 
 pub told_call : (answer : Option Choice) (frames : List (List ℕ)) (c : Option automatic.Choice) → Matches answer frames c → call_told answer frames ≡ call_chosen c
 told_call None frames None is = refl
 told_call None frames (Some c) is = absurd is
 told_call (Some answer) frames None is = absurd is
-told_call (Some answer) frames (Some c) is = called answer frames c is
+told_call (Some answer) frames (Some c) is = same_call answer frames c is
 
 -- a choice is made where no call is open
 chosen_where : (b : Bool) (c : automatic.Choice) (answer : Choice) (frames : List (List ℕ)) → Matches (Some answer) frames (if b then None else Some c) → (b ≡ false) × IsChoice answer frames c
@@ -85,21 +91,20 @@ unsettled who RingingOffer is = absurd (cc)
 unsettled who RingingPoll is = absurd (cc)
 unsettled who place is = refl
 
--- the other steps leave the end, and their call is closed; they mark no frame
+-- the other steps leave the end and its numbers, and their call is closed
 pub record Untouching (who : Who) (end : End) (place : Place) (value : ℕ) : Type 0 where
   pub end_is : end_after end (step_at who place value) ≡ end
   pub next : next_place who place value ≡ Closed
   pub settles : settled_place place ≡ Closed
-  pub accepts : accepted_by (marks_at who place value) ≡ []
-  pub delivers : delivered_by (marks_at who place value) ≡ []
+  pub numbered : (n : Numbers) → numbers_after n end (access_at who place) ≡ n
   pub wakes : (accepted delivered : ℕ) (wake : Wake) → wake_after accepted delivered wake (access_at who place) (marks_at who place value) ≡ wake
 
 untouching : (who : Who) (end : End) (place : Place) (value : ℕ) → is_open place ≡ true → touches (access_at who place) ≡ false → Untouching who end place value
-unfolding settled_place accepted_by delivered_by
+unfolding settled_place
 untouching who end Closed value is still = absurd (cc)
-untouching who end Downed value is still = record { end_is = refl; next = refl; settles = refl; accepts = refl; delivers = refl; wakes = λ accepted delivered wake. refl }
-untouching who end RingingOffer value is still = record { end_is = refl; next = refl; settles = refl; accepts = refl; delivers = refl; wakes = λ accepted delivered wake. refl }
-untouching who end RingingPoll value is still = record { end_is = refl; next = refl; settles = refl; accepts = refl; delivers = refl; wakes = λ accepted delivered wake. refl }
+untouching who end Downed value is still = record { end_is = refl; next = refl; settles = refl; numbered = λ n. refl; wakes = λ accepted delivered wake. refl }
+untouching who end RingingOffer value is still = record { end_is = refl; next = refl; settles = refl; numbered = λ n. refl; wakes = λ accepted delivered wake. refl }
+untouching who end RingingPoll value is still = record { end_is = refl; next = refl; settles = refl; numbered = λ n. refl; wakes = λ accepted delivered wake. refl }
 untouching who end place value is still = absurd (cc)
 
 pub settled_closed : settled_place Closed ≡ Closed
@@ -174,10 +179,56 @@ at_none who end place (Some call) is = absurd (cc)
 settled_same : (who : Who) (r : Runner) → touches (access_at who (place_in who r)) ≡ true → (begun_if who (stance_of r) (call_chosen (chosen r))).place ≡ place_in who r
 settled_same who r touch = same_place who r (call_chosen (chosen r)) (λ none. let here : place_in who r ≡ r.place = at_none who r.end r.place (call_chosen (chosen r)) none in unsettled who r.place (subst (λ (p : Place). touches (access_at who p) ≡ true) here touch))
 
+-- The number that is met for a State step
+
+-- at the place of a turn that meets none: for the step with 2 the session word is stored, and for the one with 3 the number that was loaded is met
+pub record IsMet (place : Place) (met : Option ℕ) (numbers : Numbers) : Type 0 where
+  pub two : place ≡ Setting 2 → (met ≢ None) × (numbers.stored ≡ true)
+  pub three : place ≡ Setting 3 → (other : ℕ) × (met ≡ Some other) × (numbers.loaded ≡ Some other)
+
+met_two : (met : Option ℕ) → due_word (Setting 2) met ≡ None → (number : ℕ) × (met ≡ Some number)
+met_two None due = absurd (cc)
+met_two (Some number) due = (number, refl)
+
+met_three : (met : Option ℕ) → due_word (Setting 3) met ≡ None → (number : ℕ) × (met ≡ Some number)
+met_three None due = absurd (cc)
+met_three (Some number) due = (number, refl)
+
+is_met : (r : Runner) → HasMet r → due_word r.place r.met ≡ None → IsMet r.place r.met r.numbers
+is_met r has due = record {
+  two = λ at. let m = met_two r.met (subst (λ (p : Place). due_word p r.met ≡ None) at due) in (λ e. some_none m.0 (sym m.1 ∙ e), has.stored m.0 at m.1);
+  three = λ at. let m = met_three r.met (subst (λ (p : Place). due_word p r.met ≡ None) at due) in (m.0, m.1, has.loaded m.0 at m.1);
+}
+  where
+    some_none : (number : ℕ) → Some number ≡ None → ⊥
+    some_none number e = cc
+
+-- no call begins at a State step with 2 or 3
+first_met : (who : Who) (end : End) (call : Call) (met : Option ℕ) (n : Numbers) → IsMet (first_place who end call) met n
+first_met who end calls.Tick met n = record { two = λ e. absurd (cc); three = λ e. absurd (cc) }
+first_met who end calls.Stop met n = record { two = λ e. absurd (cc); three = λ e. absurd (cc) }
+first_met who end (calls.Offer frame) met n = elim (calls.in_run end.handshake.phase) as (λ b. IsMet (if b then AtUsedIndex (calls.job_of who end frame) end.freed else Downed) met n) [ true ↦ record { two = λ e. absurd (cc); three = λ e. absurd (cc) } | false ↦ record { two = λ e. absurd (cc); three = λ e. absurd (cc) } ]
+first_met who end calls.Poll met n = elim (calls.in_run end.handshake.phase) as (λ b. IsMet (if b then AtAvailIndex (length end.delivered) (is_last who end.found_none) else Downed) met n) [ true ↦ record { two = λ e. absurd (cc); three = λ e. absurd (cc) } | false ↦ record { two = λ e. absurd (cc); three = λ e. absurd (cc) } ]
+
+met_for : (who : Who) (end : End) (place : Place) (call : Option Call) (met : Option ℕ) (n : Numbers) → IsMet place met n → IsMet (place_for who end place call) met n
+met_for who end place None met n is = is
+met_for who end place (Some call) met n is = first_met who end call met n
+
+pub met_in : (who : Who) (r : Runner) → HasMet r → due_word r.place r.met ≡ None → IsMet (place_in who r) r.met r.numbers
+met_in who r has due = met_for who r.end r.place (call_chosen (chosen r)) r.met r.numbers (is_met r has due)
+
+numbered_at : (who : Who) (place : Place) (met : Option ℕ) (n : Numbers) → IsMet place met n → IsNumbered n (access_at who place)
+numbered_at who (Setting state) met n is = (λ e. (is.two (ap Setting e)).1, λ e none. let t = is.three (ap Setting e) in some_none t.0 (sym t.2 ∙ none))
+  where
+    some_none : (number : ℕ) → Some number ≡ None → ⊥
+    some_none number e = cc
+numbered_at who Refusing met n is = (λ e. absurd (cc), λ e. absurd (cc))
+numbered_at who place met n is = tt
+
 -- the access to a word is the next one of the peer
-pub is_next : (key : Key) (me : ℕ) (r : Runner) (answer : Option Choice) (frames : List (List ℕ)) (a : Access) → Frames key frames → Matches answer frames (chosen r) → standing key me (accesses_in r.actions) ≡ stance_of r →
+pub is_next : (key : Key) (me : ℕ) (r : Runner) (answer : Option Choice) (frames : List (List ℕ)) (a : Access) → Frames key frames → Matches answer frames (chosen r) → standing key me (accesses_in r.actions) ≡ stance_of r → HasMet r → due_word r.place r.met ≡ None →
     is_open (place_in (who_in key me) r) ≡ true → a ≡ access_at (who_in key me) (place_in (who_in key me) r) → touches a ≡ true → IsNext key me (standing key me (accesses_in r.actions)) (call_told answer frames) a
-is_next key me r answer frames a are is stands opens at touching = let who = who_in key me in
+is_next key me r answer frames a are is stands has due opens at touching = let who = who_in key me in
     let call_is : call_told answer frames ≡ call_chosen (chosen r) = told_call answer frames (chosen r) is in
     let touch : touches (access_at who (place_in who r)) ≡ true = ap touches (sym at) ∙ touching in
     let same : (begun_if who (stance_of r) (call_told answer frames)).place ≡ place_in who r = ap (λ (c : Option Call). (begun_if who (stance_of r) c).place) call_is ∙ settled_same who r touch in
@@ -185,6 +236,7 @@ is_next key me r answer frames a are is stands opens at touching = let who = who
       at_call = begins_if key r (stance_of r) answer frames are is (λ closed. ap settled_place closed ∙ settled_closed);
       goes = subst (λ (p : Place). is_open p ≡ true) (sym same) opens;
       is = at ∙ ap (access_at who) (sym same);
+      numbered = subst (IsNumbered r.numbers) (sym at) (numbered_at who (place_in who r) r.met r.numbers (met_in who r has due));
     })
 
 -- the call that is chosen offers a frame that may be offered
@@ -220,7 +272,7 @@ may_make key me e end place a fit me2 stands reach = in_reach a (subst (λ (w : 
     in_reach (access.Ring target vector) at = tt
     in_reach access.Nothing at = tt
 
-touched : (routes : List Route) (call : Option Call) (a : Access) (value : ℕ) → touches a ≡ true → taken_of routes call a value ≡ accessed (taken call a value) ∷ []
+touched : (routes : List Route) (call : Option Call) (a : Access) (value : ℕ) → touches a ≡ true → taken_of routes call a value ≡ accessed (called (taken call a value)) ∷ []
 touched routes call (access.Read word) value is = refl
 touched routes call (access.Write word written) value is = refl
 touched routes call (access.State state) value is = refl
@@ -228,7 +280,7 @@ touched routes call (access.Ring target vector) value is = absurd (cc)
 touched routes call access.Nothing value is = absurd (cc)
 
 -- a doorbell makes no access to the region
-rung_none : (way : Way) (target : ℕ) → accesses_in {A = Taken} (rung_by way target) ≡ []
+rung_none : (way : Way) (target : ℕ) → accesses_in {A = Deed Taken} (rung_by way target) ≡ []
 unfolding accesses_in
 rung_none Silent target = refl
 rung_none (Direct bit) target = refl
@@ -241,7 +293,7 @@ taken_none routes call (access.State state) value is = absurd (cc)
 taken_none routes call (access.Ring target vector) value is = rung_none (way_to routes target vector) target
 taken_none routes call access.Nothing value is = accesses_none
 
-cleared_none : (a : Access) (found : ℕ) → accesses_in {A = Taken} (cleared_by a found) ≡ []
+cleared_none : (a : Access) (found : ℕ) → accesses_in {A = Deed Taken} (cleared_by a found) ≡ []
 unfolding accesses_in
 cleared_none (access.Read word) found = refl
 cleared_none (access.Write word written) found = refl
@@ -283,66 +335,38 @@ by_touch : {P : Type 0} → (b : Bool) → (b ≡ true → P) → (b ≡ false �
 by_touch true f g = f refl
 by_touch false f g = g refl
 
--- one turn more, and one list of marks more
-pub marks_snoc : (turns : List Turn) (turn : Turn) → marks_in (turns ++ turn ∷ []) ≡ marks_in turns ++ marks_of turn
-unfolding marks_in
-marks_snoc [] turn = append-nil (marks_of turn)
-marks_snoc (t ∷ turns) turn = ap (λ ms. marks_of t ++ ms) (marks_snoc turns turn) ∙ sym (append_assoc (marks_of t) (marks_in turns) (marks_of turn))
+-- the marks of a doorbell stand at the end of its step
+cleared_marks : (step : Step) (found : ℕ) → holds_on (Cleared found) ≡ false → marks_of (Clears step found) ≡ step.marks
+cleared_marks step found is = ap (λ (b : Bool). if b then [] else step.marks) is
 
--- the marks of a step stand at its end
-turn_marks : (first : Bool) (step : Step) (done : Done) → holds_on done ≡ false → marks_of (turn_of first step done) ≡ step.marks
-turn_marks first step (Stepped value) is = refl
-turn_marks first step (Cleared found) is = ap (λ (b : Bool). if b then [] else step.marks) is
-turn_marks first step Rung is = refl
-
-held_marks : (first : Bool) (step : Step) (done : Done) → holds_on done ≡ true → marks_of (turn_of first step done) ≡ []
-held_marks first step (Stepped value) is = absurd (clash is)
-held_marks first step (Cleared found) is = ap (λ (b : Bool). if b then [] else step.marks) is
-held_marks first step Rung is = absurd (clash is)
-
-pub accepted_append : (marks more : List Mark) → accepted_by (marks ++ more) ≡ accepted_by marks ++ accepted_by more
-unfolding accepted_by
-accepted_append marks more = flat_map-append accepted_once marks more
-
-pub delivered_append : (marks more : List Mark) → delivered_by (marks ++ more) ≡ delivered_by marks ++ delivered_by more
-unfolding delivered_by
-delivered_append marks more = flat_map-append delivered_once marks more
+held_marks : (step : Step) (found : ℕ) → holds_on (Cleared found) ≡ true → marks_of (Clears step found) ≡ []
+held_marks step found is = ap (λ (b : Bool). if b then [] else step.marks) is
 
 abbrev value_in : Who → Runner → Done → Step
 value_in who r done = step_at who (place_in who r) (value_done done)
 
-marks_on : (routes : List Route) (who : Who) (r : Runner) (done : Done) → holds_on done ≡ false → marks_in (stepped_on routes who r done).turns ≡ marks_in r.turns ++ marks_at who (place_in who r) (value_done done)
-marks_on routes who r done goes = marks_snoc r.turns (turn_of (is_first r) (value_in who r done) done) ∙ ap (λ ms. marks_in r.turns ++ ms) (turn_marks (is_first r) (value_in who r done) done goes)
-
-pub accepted_on : (routes : List Route) (who : Who) (r : Runner) (done : Done) → holds_on done ≡ false → (stance_of (stepped_on routes who r done)).accepted ≡ (stance_of r).accepted ++ accepted_by (marks_at who (place_in who r) (value_done done))
-accepted_on routes who r done goes = ap accepted_by (marks_on routes who r done goes) ∙ accepted_append (marks_in r.turns) (marks_at who (place_in who r) (value_done done))
-
-pub delivered_on : (routes : List Route) (who : Who) (r : Runner) (done : Done) → holds_on done ≡ false → (stance_of (stepped_on routes who r done)).delivered ≡ (stance_of r).delivered ++ delivered_by (marks_at who (place_in who r) (value_done done))
-delivered_on routes who r done goes = ap delivered_by (marks_on routes who r done goes) ∙ delivered_append (marks_in r.turns) (marks_at who (place_in who r) (value_done done))
-
-abbrev at : End → Place → List (List ℕ) → List (List ℕ) → Wake → Stance
-at end place one other wake = record { end = end; place = place; accepted = one; delivered = other; wake = wake }
+abbrev at : End → Place → Numbers → Wake → Stance
+at end place numbers wake = record { end = end; place = place; numbers = numbers; wake = wake }
 
 -- the stance after the turn
-begun_at : (who : Who) (r : Runner) (call : Option Call) (place : Place) → (begun_if who (stance_of r) call).place ≡ place → begun_if who (stance_of r) call ≡ at r.end place (stance_of r).accepted (stance_of r).delivered r.wake
-begun_at who r None place is = ap (λ (p : Place). at r.end p (stance_of r).accepted (stance_of r).delivered r.wake) is
-begun_at who r (Some call) place is = ap (λ (p : Place). at r.end p (stance_of r).accepted (stance_of r).delivered r.wake) is
+begun_at : (who : Who) (r : Runner) (call : Option Call) (place : Place) → (begun_if who (stance_of r) call).place ≡ place → begun_if who (stance_of r) call ≡ at r.end place r.numbers r.wake
+begun_at who r None place is = ap (λ (p : Place). at r.end p r.numbers r.wake) is
+begun_at who r (Some call) place is = ap (λ (p : Place). at r.end p r.numbers r.wake) is
 
 after_touch : (routes : List Route) (who : Who) (r : Runner) (value : ℕ) → touches (access_at who (place_in who r)) ≡ true →
     after_access who (stance_of r) (taken (call_chosen (chosen r)) (access_at who (place_in who r)) value) ≡ stance_of (stepped_on routes who r (Stepped value))
 after_touch routes who r value touch = let place = place_in who r in let here = begun_at who r (call_chosen (chosen r)) place (settled_same who r touch) in
-    ap (λ (s : Stance). settled (moved who s value)) here ∙
-    (λ i. at (end_after r.end (step_at who place value)) (settled_place (next_place who place value)) (sym (accepted_on routes who r (Stepped value) refl) i) (sym (delivered_on routes who r (Stepped value) refl) i) (woken_on who r (Stepped value)))
+    ap (λ (s : Stance). settled (moved who s value)) here
 
 -- an access to the region leads the peer where the turn does
 stands_touched : (key : Key) (me : ℕ) (routes : List Route) (value : ℕ) (r : Runner) → honest_of key me ≡ true → touches (access_at (who_in key me) (place_in (who_in key me) r)) ≡ true → standing key me (accesses_in r.actions) ≡ stance_of r →
     standing key me (accesses_in (stepped_on routes (who_in key me) r (Stepped value)).actions) ≡ stance_of (stepped_on routes (who_in key me) r (Stepped value))
 stands_touched key me routes value r hp touch stands = let who = who_in key me in let a = access_at who (place_in who r) in let call = call_chosen (chosen r) in
-    ap (λ l. standing key me (accesses_in (r.actions ++ l))) (touched routes call a value touch) ∙ (ap (standing key me) (accesses_snoc r.actions (accessed (taken call a value))) ∙ (standing_snoc key me (accesses_in r.actions) (taken call a value)
-    ∙ (stand_honest key me (standing key me (accesses_in r.actions)) (taken call a value) hp ∙ (ap (λ (s : Stance). after_access who s (taken call a value)) stands ∙ after_touch routes who r value touch))))
+    ap (λ l. standing key me (accesses_in (r.actions ++ l))) (touched routes call a value touch) ∙ (ap (standing key me) (accesses_snoc r.actions (accessed (called (taken call a value)))) ∙ (standing_snoc key me (accesses_in r.actions) (called (taken call a value))
+    ∙ (stand_honest key me (standing key me (accesses_in r.actions)) (called (taken call a value)) hp ∙ (ap (λ (s : Stance). after_access who s (taken call a value)) stands ∙ after_touch routes who r value touch))))
 
 -- what is no access to the region leaves it
-stays_standing : (key : Key) (me : ℕ) (r : Runner) (acts : List (Action Taken)) → accesses_in acts ≡ [] → standing key me (accesses_in r.actions) ≡ stance_of r → standing key me (accesses_in (r.actions ++ acts)) ≡ stance_of r
+stays_standing : (key : Key) (me : ℕ) (r : Runner) (acts : List (Action (Deed Taken))) → accesses_in acts ≡ [] → standing key me (accesses_in r.actions) ≡ stance_of r → standing key me (accesses_in (r.actions ++ acts)) ≡ stance_of r
 stays_standing key me r acts none stands = ap (standing key me) (accesses_both r.actions acts ∙ (ap (λ l. accesses_in r.actions ++ l) none ∙ append-nil (accesses_in r.actions))) ∙ stands
 
 -- the longer list leaves the peer where the turn does
@@ -353,32 +377,36 @@ stands_stepped key me routes ringing done r hp opens is goes stands = let who = 
     by_touch (touches a)
     (λ t. subst P (sym (touch_done routes ringing a done t is)) (stands_touched key me routes (value_done done) r hp t stands))
     (λ f. let u = untouching who r.end place (value_done done) opens f in
-    let one : (stance_of r).accepted ≡ (stance_of (stepped_on routes who r done)).accepted = sym (accepted_on routes who r done goes ∙ (ap (λ l. (stance_of r).accepted ++ l) u.accepts ∙ append-nil (stance_of r).accepted)) in
-    let other : (stance_of r).delivered ≡ (stance_of (stepped_on routes who r done)).delivered = sym (delivered_on routes who r done goes ∙ (ap (λ l. (stance_of r).delivered ++ l) u.delivers ∙ append-nil (stance_of r).delivered)) in
     let spot : settled_place r.place ≡ settled_place (next_place who place (value_done done)) = settled_before who r (is_open r.place) refl u.settles ∙ sym (ap settled_place u.next ∙ settled_closed) in
     stays_standing key me r (done_of routes call a done) (not_touched routes call a done f) stands
-    ∙ (λ i. at (sym u.end_is i) (spot i) (one i) (other i) (sym (u.wakes (length (stance_of r).accepted) (length (stance_of r).delivered) r.wake) i)))
-
--- a turn that is held has no marks
-pub held_same : (routes : List Route) (who : Who) (r : Runner) (done : Done) → holds_on done ≡ true → marks_in r.turns ≡ marks_in (held_on routes who r done).turns
-held_same routes who r done held = sym (marks_snoc r.turns (turn_of (is_first r) (value_in who r done) done) ∙ (ap (λ ms. marks_in r.turns ++ ms) (held_marks (is_first r) (value_in who r done) done held) ∙ append-nil (marks_in r.turns)))
+    ∙ (λ i. at (sym u.end_is i) (spot i) (sym (u.numbered r.numbers) i) (sym (u.wakes (length r.end.accepted) (length r.end.delivered) r.wake) i)))
 
 stands_held : (key : Key) (me : ℕ) (routes : List Route) (done : Done) (r : Runner) → touches (access_at (who_in key me) (place_in (who_in key me) r)) ≡ false → holds_on done ≡ true → standing key me (accesses_in r.actions) ≡ stance_of r →
     standing key me (accesses_in (held_on routes (who_in key me) r done).actions) ≡ stance_of (held_on routes (who_in key me) r done)
 stands_held key me routes done r still held stands = let who = who_in key me in let a = access_at who (place_in who r) in let call = call_chosen (chosen r) in
-    let same = held_same routes who r done held in
-    stays_standing key me r (done_of routes call a done) (not_touched routes call a done still) stands ∙ (λ i. at r.end (settled_place r.place) (accepted_by (same i)) (delivered_by (same i)) r.wake)
+    stays_standing key me r (done_of routes call a done) (not_touched routes call a done still) stands
 
 stands_looked : (key : Key) (me : ℕ) (r : Runner) (found : ℕ) → standing key me (accesses_in r.actions) ≡ stance_of r → standing key me (accesses_in (looked_on r found).actions) ≡ stance_of (looked_on r found)
-stands_looked key me r found stands = let same : marks_in r.turns ≡ marks_in (looked_on r found).turns = sym (marks_snoc r.turns (Looks found) ∙ append-nil (marks_in r.turns)) in
-    stays_standing key me r (looked found ∷ []) (looked_none found) stands ∙ (λ i. at r.end (settled_place r.place) (accepted_by (same i)) (delivered_by (same i)) r.wake)
+stands_looked key me r found stands = stays_standing key me r (looked found ∷ []) (looked_none found) stands
   where
-    looked_none : (found : ℕ) → accesses_in {A = Taken} (looked found ∷ []) ≡ []
+    looked_none : (found : ℕ) → accesses_in {A = Deed Taken} (looked found ∷ []) ≡ []
     looked_none found = accesses_snoc [] (looked found) ∙ ap (λ l. l ++ []) accesses_none
+
+-- what a peer does besides its calls leaves it where the runner is
+stands_snoc : (key : Key) (me : ℕ) (r : Runner) (d : Deed Taken) → honest_of key me ≡ true → standing key me (accesses_in r.actions) ≡ stance_of r → standing key me (accesses_in (r.actions ++ accessed d ∷ [])) ≡ after_deed (who_in key me) (stance_of r) d
+stands_snoc key me r d hp stands = ap (standing key me) (accesses_snoc r.actions (accessed d)) ∙ (standing_snoc key me (accesses_in r.actions) d
+    ∙ (stand_honest key me (standing key me (accesses_in r.actions)) d hp ∙ ap (λ (s : Stance). after_deed (who_in key me) s d) stands))
+
+stands_met : (key : Key) (me : ℕ) (word : SessionWord) (r : Runner) (number : ℕ) → honest_of key me ≡ true → standing key me (accesses_in r.actions) ≡ stance_of r → standing key me (accesses_in (met_on word r number).actions) ≡ stance_of (met_on word r number)
+stands_met key me Own r number hp stands = stands_snoc key me r (numbered number) hp stands
+stands_met key me Others r number hp stands = stands_snoc key me r (carried number) hp stands
+
+stands_restarted : (key : Key) (me : ℕ) (r : Runner) → honest_of key me ≡ true → standing key me (accesses_in r.actions) ≡ stance_of r → standing key me (accesses_in (restarted_on r).actions) ≡ stance_of (restarted_on r)
+stands_restarted key me r hp stands = let after = restarted_on r in stands_snoc key me r restarted hp stands ∙ (λ i. at after.end (sym settled_closed i) after.numbers after.wake)
 
 -- The pass after a turn
 
-rung_one : (way : Way) (target : ℕ) → length {A = Action Taken} (rung_by way target) ≤ 1
+rung_one : (way : Way) (target : ℕ) → length {A = Action (Deed Taken)} (rung_by way target) ≤ 1
 rung_one Silent target = omega arith
 rung_one (Direct bit) target = omega arith
 rung_one (Guarded bit) target = omega arith
@@ -403,20 +431,20 @@ done_one routes call (access.State state) Rung = omega arith
 done_one routes call (access.Ring target vector) Rung = rung_one (way_to routes target vector) target
 done_one routes call access.Nothing Rung = omega arith
 
-made_lists : (h : Held) (l acts : List (Action Taken)) → length acts ≤ 1 → h.lists ≡ l ∷ [] → (made h acts).lists ≡ (l ++ acts) ∷ []
+made_lists : (h : Held) (l acts : List (Action (Deed Taken))) → length acts ≤ 1 → h.lists ≡ l ∷ [] → (made h acts).lists ≡ (l ++ acts) ∷ []
 made_lists h l [] one is = is ∙ ap (λ m. m ∷ []) (sym (append-nil l))
 made_lists h l (t ∷ []) one is = ap (λ ls. (added (record h { lists = ls }) t).lists) is
 made_lists h l (t ∷ u ∷ acts) one is = absurd (omega arith)
 
-made_from : (h : Held) (acts : List (Action Taken)) → (made h acts).from ≡ h.from
+pub made_from : (h : Held) (acts : List (Action (Deed Taken))) → (made h acts).from ≡ h.from
 made_from h [] = refl
 made_from h (t ∷ acts) = refl
 
-pub made_id : (h : Held) (acts : List (Action Taken)) → (made h acts).table_id ≡ h.table_id
+pub made_id : (h : Held) (acts : List (Action (Deed Taken))) → (made h acts).table_id ≡ h.table_id
 made_id h [] = refl
 made_id h (t ∷ acts) = refl
 
-pub made_held : (h : Held) (l acts : List (Action Taken)) → length acts ≤ 1 → h.lists ≡ l ∷ [] → made h acts ≡ held h.table_id h.from ((l ++ acts) ∷ [])
+pub made_held : (h : Held) (l acts : List (Action (Deed Taken))) → length acts ≤ 1 → h.lists ≡ l ∷ [] → made h acts ≡ held h.table_id h.from ((l ++ acts) ∷ [])
 made_held h l acts one is = λ i. record { table_id = made_id h acts i; from = made_from h acts i; lists = made_lists h l acts one is i }
 
 -- the frames of the place in a turn
@@ -442,10 +470,10 @@ place_bytes who end place None fits has = has
 place_bytes who end place (Some call) fits has = call_bytes who end call who.sizes.mtu refl fits
 
 -- the frames of the place in a turn have their bytes
-pub bytes_in : (key : Key) (me : ℕ) (routes : List Route) (r : Runner) (answer : Option Choice) (ringing : Bool) (old : Held) (plan : Plan) (e0 : Engine) → Turns key me routes r answer ringing old plan e0 → HasFrames (place_in (who_in key me) r)
-bytes_in key me routes r answer ringing old plan e0 turns =
+pub bytes_in : (key : Key) (me : ℕ) (routes : List Route) (r : Runner) (answer : Option Choice) (old : Held) (p : AutoPeer) → Turns key me routes r answer old p → HasFrames (place_in (who_in key me) r)
+bytes_in key me routes r answer old p turns = let plan = p.auto in
     let frames : Frames key (round_on r.auto (chosen r)).frames = subst (Frames key) (sym (round_frames r.auto (chosen r))) turns.there.stands.frames in
-    let planned : Frames key plan.frames = subst (Frames key) (sym turns.planned.frames) frames in
+    let planned : Frames key plan.frames = subst (Frames key) (sym turns.is.planned.frames) frames in
     let fits : FitsIf key.queue.mtu (call_chosen (chosen r)) = subst (FitsIf key.queue.mtu) (told_call answer plan.frames (chosen r) turns.matches) (fits_told key.queue.mtu answer plan.frames planned) in
     place_bytes (who_in key me) r.end r.place (call_chosen (chosen r)) fits turns.there.stands.bytes
 
@@ -478,7 +506,7 @@ pub may_come : (key : Key) (me : ℕ) (routes : List Route) (ringing : Bool) (r 
 may_come key me routes ringing r end a s same at is = let who = who_in key me in let may : MayRingBy routes (access_at who r.place) r.actions = s.rings (same ∙ is) in
     subst (λ (x : Access). MayRingBy routes x r.actions) (ap (access_at who) (sym (same_open who r (opened_none r (rings_open who r.place r.actions may)))) ∙ sym at) may
   where
-    rings_open : (who : Who) (place : Place) (list : List (Action Taken)) → MayRingBy routes (access_at who place) list → is_open place ≡ true
+    rings_open : (who : Who) (place : Place) (list : List (Action (Deed Taken))) → MayRingBy routes (access_at who place) list → is_open place ≡ true
     rings_open who RingingOffer list may = refl
     rings_open who RingingPoll list may = refl
     rings_open who place list may = absurd may
@@ -487,44 +515,52 @@ may_come key me routes ringing r end a s same at is = let who = who_in key me in
     opened_none r open_is = ap (λ (b : Bool). if b then None else Some (choice_of r.end.handshake.phase r.auto.round r.auto.frames r.auto.delivered r.auto.expected)) open_is
 
 -- the list of the pass after a turn
-list_after : (old pass : Held) (l acts : List (Action Taken)) → length acts ≤ 1 → pass ≡ made old acts → old.lists ≡ l ∷ [] → pass.lists ≡ (l ++ acts) ∷ []
+list_after : (old pass : Held) (l acts : List (Action (Deed Taken))) → length acts ≤ 1 → pass ≡ made old acts → old.lists ≡ l ∷ [] → pass.lists ≡ (l ++ acts) ∷ []
 list_after old pass l acts one is was = ap (λ (h : Held). h.lists) is ∙ made_lists old l acts one was
 
+-- where nothing is met, nothing is to come of it
+none_met : (r : Runner) → r.met ≡ None → HasMet r
+none_met r none = record { stored = λ number at is. none_some number (sym none ∙ is); loaded = λ number at is. none_some number (sym none ∙ is) }
+  where
+    none_some : {P : Type 0} → (number : ℕ) → None ≡ Some number → P
+    none_some number e = absurd (cc)
+
 -- a turn that was taken to the end of its step: its call was opened, the step was done and taken, and its notes were counted
-pub turn_taken : (key : Key) (me : ℕ) (routes : List Route) (ringing : Bool) (done : Done) (r : Runner) (answer : Option Choice) (old pass : Held) (plan new : Plan) (e0 e1 e2 : Engine) (a : Access) (notes : List Note) → honest_of key me ≡ true →
-    Turns key me routes r answer ringing old plan e0 → StandsAt e1 (who_in key me) r.end (place_in (who_in key me) r) → is_open (place_in (who_in key me) r) ≡ true → a ≡ access_at (who_in key me) (place_in (who_in key me) r) →
-    IsDone ringing (is_guarded (way_in routes a)) done → holds_on done ≡ false → pass ≡ made old (done_of routes (call_told answer plan.frames) a done) → Takes e1 (value_done done) notes e2 →
-    ((auto : Auto) (one other : List ℕ) → IsPlanOf plan auto → IsPlanOf new (counted_all auto (marks_between one other notes))) →
+pub turn_taken : (key : Key) (me : ℕ) (routes : List Route) (done : Done) (r : Runner) (answer : Option Choice) (old pass : Held) (p : AutoPeer) (new : Plan) (e1 e2 : Engine) (a : Access) (notes : List Note) → honest_of key me ≡ true →
+    Turns key me routes r answer old p → StandsAt e1 (who_in key me) r.end (place_in (who_in key me) r) → is_open (place_in (who_in key me) r) ≡ true → a ≡ access_at (who_in key me) (place_in (who_in key me) r) →
+    IsDone p.ringing (is_guarded (way_in routes a)) done → holds_on done ≡ false → pass ≡ made old (done_of routes (call_told answer p.auto.frames) a done) → Takes e1 (value_done done) notes e2 →
+    ((auto : Auto) (one other : List ℕ) → IsPlanOf p.auto auto → IsPlanOf new (counted_all auto (marks_between one other notes))) →
     IsThere key me routes (stepped_on routes (who_in key me) r done) pass e2 × IsPlanOf new (stepped_on routes (who_in key me) r done).auto
-turn_taken key me routes ringing done r answer old pass plan new e0 e1 e2 a notes hp turns stands opens at is_done goes is took counts = let who = who_in key me in let place = place_in who r in let value = value_done done in
-    let list : done_of routes (call_told answer plan.frames) a done ≡ done_of routes (call_chosen (chosen r)) (access_at who place) done = (λ i. done_of routes (told_call answer plan.frames (chosen r) turns.matches i) (at i) done) in
+turn_taken key me routes done r answer old pass p new e1 e2 a notes hp turns stands opens at is_done goes is took counts = let who = who_in key me in let place = place_in who r in let value = value_done done in let frames_of = p.auto.frames in
+    let list : done_of routes (call_told answer frames_of) a done ≡ done_of routes (call_chosen (chosen r)) (access_at who place) done = (λ i. done_of routes (told_call answer frames_of (chosen r) turns.matches i) (at i) done) in
     let marked : marks_between (offered e1) (delivered e2) notes ≡ marks_at who place value = took.marked who r.end place stands in
     let frames : Frames key (round_on r.auto (chosen r)).frames = subst (Frames key) (sym (round_frames r.auto (chosen r))) turns.there.stands.frames in (
       record {
         stands = record {
           stands = took.stands who r.end place stands;
-          standing = stands_stepped key me routes ringing done r hp opens (subst (λ (x : Access). IsDone ringing (is_guarded (way_in routes x)) done) at is_done) goes turns.there.stands.standing;
-          bytes = next_frames who place value (bytes_in key me routes r answer ringing old plan e0 turns);
+          standing = stands_stepped key me routes p.ringing done r hp opens (subst (λ (x : Access). IsDone p.ringing (is_guarded (way_in routes x)) done) at is_done) goes turns.there.stands.standing;
+          bytes = next_frames who place value (bytes_in key me routes r answer old p turns);
           frames = offered_counted key.queue.mtu (round_on r.auto (chosen r)) (marks_at who place value) frames;
           rings = λ e. absurd (clash e);
+          met = none_met (stepped_on routes who r done) refl;
         };
-        from = ap (λ (h : Held). h.from) is ∙ (made_from old (done_of routes (call_told answer plan.frames) a done) ∙ turns.there.from);
-        lists = list_after old pass r.actions (done_of routes (call_told answer plan.frames) a done) (done_one routes (call_told answer plan.frames) a done) is turns.there.lists ∙ ap (λ l. (r.actions ++ l) ∷ []) list;
+        from = ap (λ (h : Held). h.from) is ∙ (made_from old (done_of routes (call_told answer frames_of) a done) ∙ turns.there.from);
+        lists = list_after old pass r.actions (done_of routes (call_told answer frames_of) a done) (done_one routes (call_told answer frames_of) a done) is turns.there.lists ∙ ap (λ l. (r.actions ++ l) ∷ []) list;
       },
-      subst (λ ms. IsPlanOf new (counted_all (round_on r.auto (chosen r)) ms)) marked (counts (round_on r.auto (chosen r)) (offered e1) (delivered e2) turns.planned),
+      subst (λ ms. IsPlanOf new (counted_all (round_on r.auto (chosen r)) ms)) marked (counts (round_on r.auto (chosen r)) (offered e1) (delivered e2) turns.is.planned),
     )
 
 -- a turn in which the clear of a doorbell found the bit
-pub turn_held : (key : Key) (me : ℕ) (routes : List Route) (ringing : Bool) (done : Done) (r : Runner) (answer : Option Choice) (old pass : Held) (plan : Plan) (e0 e1 : Engine) (a : Access) →
-    Turns key me routes r answer ringing old plan e0 → StandsAt e1 (who_in key me) r.end (place_in (who_in key me) r) → a ≡ access_at (who_in key me) (place_in (who_in key me) r) →
-    IsDone ringing (is_guarded (way_in routes a)) done → holds_on done ≡ true → pass ≡ made old (done_of routes (call_told answer plan.frames) a done) → MayRingBy routes a (front pass.lists) →
-    IsThere key me routes (held_on routes (who_in key me) r done) pass e1 × IsPlanOf plan (held_on routes (who_in key me) r done).auto
-turn_held key me routes ringing done r answer old pass plan e0 e1 a turns stands at is_done held is may = let who = who_in key me in let place = place_in who r in
-    let guarded : is_guarded (way_in routes a) ≡ true = held_guards ringing (is_guarded (way_in routes a)) done is_done held in
+pub turn_held : (key : Key) (me : ℕ) (routes : List Route) (done : Done) (r : Runner) (answer : Option Choice) (old pass : Held) (p : AutoPeer) (e1 : Engine) (a : Access) →
+    Turns key me routes r answer old p → StandsAt e1 (who_in key me) r.end (place_in (who_in key me) r) → a ≡ access_at (who_in key me) (place_in (who_in key me) r) →
+    IsDone p.ringing (is_guarded (way_in routes a)) done → holds_on done ≡ true → pass ≡ made old (done_of routes (call_told answer p.auto.frames) a done) → MayRingBy routes a (front pass.lists) →
+    IsThere key me routes (held_on routes (who_in key me) r done) pass e1 × IsPlanOf p.auto (held_on routes (who_in key me) r done).auto
+turn_held key me routes done r answer old pass p e1 a turns stands at is_done held is may = let who = who_in key me in let place = place_in who r in let frames_of = p.auto.frames in
+    let guarded : is_guarded (way_in routes a) ≡ true = held_guards p.ringing (is_guarded (way_in routes a)) done is_done held in
     let there : is_guarded (way_in routes (access_at who place)) ≡ true = ap (λ (x : Access). is_guarded (way_in routes x)) (sym at) ∙ guarded in
     let none : chosen r ≡ None = none_chosen routes who r turns.goes there in let spot : place ≡ r.place = same_open who r none in
-    let list : done_of routes (call_told answer plan.frames) a done ≡ done_of routes (call_chosen (chosen r)) (access_at who place) done = (λ i. done_of routes (told_call answer plan.frames (chosen r) turns.matches i) (at i) done) in
-    let lists : pass.lists ≡ (held_on routes who r done).actions ∷ [] = list_after old pass r.actions (done_of routes (call_told answer plan.frames) a done) (done_one routes (call_told answer plan.frames) a done) is turns.there.lists ∙ ap (λ l. (r.actions ++ l) ∷ []) list in (
+    let list : done_of routes (call_told answer frames_of) a done ≡ done_of routes (call_chosen (chosen r)) (access_at who place) done = (λ i. done_of routes (told_call answer frames_of (chosen r) turns.matches i) (at i) done) in
+    let lists : pass.lists ≡ (held_on routes who r done).actions ∷ [] = list_after old pass r.actions (done_of routes (call_told answer frames_of) a done) (done_one routes (call_told answer frames_of) a done) is turns.there.lists ∙ ap (λ l. (r.actions ++ l) ∷ []) list in (
       record {
         stands = record {
           stands = subst (λ (p : Place). StandsAt e1 who r.end p) spot stands;
@@ -532,11 +568,12 @@ turn_held key me routes ringing done r answer old pass plan e0 e1 a turns stands
           bytes = turns.there.stands.bytes;
           frames = turns.there.stands.frames;
           rings = λ e. subst (λ (x : Access). MayRingBy routes x (held_on routes who r done).actions) (at ∙ ap (access_at who) spot) (subst (λ ls. MayRingBy routes a (front ls)) lists may);
+          met = let was = turns.there.stands.met in record { stored = was.stored; loaded = was.loaded };
         };
-        from = ap (λ (h : Held). h.from) is ∙ (made_from old (done_of routes (call_told answer plan.frames) a done) ∙ turns.there.from);
+        from = ap (λ (h : Held). h.from) is ∙ (made_from old (done_of routes (call_told answer frames_of) a done) ∙ turns.there.from);
         lists = lists;
       },
-      subst (λ (c : Option automatic.Choice). IsPlanOf plan (round_on r.auto c)) none turns.planned,
+      subst (λ (c : Option automatic.Choice). IsPlanOf p.auto (round_on r.auto c)) none turns.is.planned,
     )
 
 -- a look
@@ -548,10 +585,88 @@ turn_looked key me routes r old pass end found is there still = record {
     bytes = there.stands.bytes;
     frames = there.stands.frames;
     rings = λ e. absurd (clash (sym still ∙ e));
+    met = let was = there.stands.met in record { stored = was.stored; loaded = was.loaded };
   };
   from = ap (λ (h : Held). h.from) is ∙ there.from;
   lists = list_after old pass r.actions (looked found ∷ []) (omega arith) is there.lists;
 }
+
+-- A turn at a session word
+
+word_by : (state : ℕ) (word : SessionWord) (b c : Bool) → (state == 2) ≡ b → (state == 3) ≡ c → (if b then Some Own else if c then Some Others else None) ≡ Some word → state ≡ state_for word
+word_by state Own true c two three is = eqb-true state 2 two
+word_by state Others true c two three is = absurd (cc)
+word_by state Own false true two three is = absurd (cc)
+word_by state Others false true two three is = eqb-true state 3 three
+word_by state word false false two three is = absurd (cc)
+
+pub met_place : (word : SessionWord) (place : Place) (met : Option ℕ) → due_word place met ≡ Some word → place ≡ Setting (state_for word)
+met_place word (Setting state) None is = ap Setting (word_by state word (state == 2) (state == 3) refl refl is)
+met_place word place met is = absurd (cc)
+
+pub met_before : (word : SessionWord) (place : Place) (met : Option ℕ) → due_word place met ≡ Some word → met ≡ None
+met_before word place None is = refl
+met_before word (Setting state) (Some number) is = absurd (cc)
+met_before word place (Some number) is = absurd (cc)
+
+-- where its list leaves the peer as the pass has it
+stance_in : (key : Key) (me : ℕ) (routes : List Route) (r : Runner) (old : Held) (end : Engine) → IsThere key me routes r old end → standing key me (accesses_in (front old.lists)) ≡ stance_of r
+stance_in key me routes r old end there = ap (λ ls. standing key me (accesses_in (front ls))) there.lists ∙ there.stands.standing
+
+pub meets_at : (key : Key) (me : ℕ) (routes : List Route) (r : Runner) (old : Held) (end : Engine) (word : SessionWord) → IsThere key me routes r old end → due_word r.place r.met ≡ Some word → (standing key me (accesses_in (front old.lists))).place ≡ Setting (state_for word)
+unfolding settled_place
+meets_at key me routes r old end word there due = ap (λ (s : Stance). s.place) (stance_in key me routes r old end there) ∙ ap settled_place (met_place word r.place r.met due)
+
+pub opened_at : (key : Key) (me : ℕ) (routes : List Route) (r : Runner) (old : Held) (end : Engine) → IsThere key me routes r old end → r.numbers.log.opened ≡ (standing key me (accesses_in (front old.lists))).numbers.log.opened
+opened_at key me routes r old end there = ap (λ (s : Stance). s.numbers.log.opened) (sym (stance_in key me routes r old end there))
+
+-- what was met is what its session word holds, or what it loaded
+met_has : (word : SessionWord) (r : Runner) (number : ℕ) → r.place ≡ Setting (state_for word) → HasMet (met_on word r number)
+met_has Own r number place = record { stored = λ n at is. refl; loaded = λ n at is. absurd (two_three (sym place ∙ at)) }
+  where
+    two_three : Setting 2 ≡ Setting 3 → ⊥
+    two_three e = cc
+met_has Others r number place = record { stored = λ n at is. absurd (three_two (sym place ∙ at)); loaded = λ n at is. is }
+  where
+    three_two : Setting 3 ≡ Setting 2 → ⊥
+    three_two e = cc
+
+pub turn_met : (key : Key) (me : ℕ) (routes : List Route) (word : SessionWord) (r : Runner) (old pass : Held) (end : Engine) (number : ℕ) → honest_of key me ≡ true → pass ≡ added old (accessed (deed_met word number)) → IsThere key me routes r old end →
+    due_word r.place r.met ≡ Some word → IsThere key me routes (met_on word r number) pass end
+turn_met key me routes word r old pass end number hp is there due = let place = met_place word r.place r.met due in record {
+  stands = record {
+    stands = there.stands.stands;
+    standing = stands_met key me word r number hp there.stands.standing;
+    bytes = there.stands.bytes;
+    frames = there.stands.frames;
+    rings = λ e. absurd (subst (λ (p : Place). MayRingBy routes (access_at (who_in key me) p) r.actions) place (there.stands.rings e));
+    met = met_has word r number place;
+  };
+  from = ap (λ (h : Held). h.from) is ∙ there.from;
+  lists = list_after old pass r.actions (accessed (deed_met word number) ∷ []) (omega arith) is there.lists;
+}
+
+-- A reset
+
+pub turn_restarted : (key : Key) (me : ℕ) (routes : List Route) (r : Runner) (old pass : Held) (e0 e1 : Engine) → honest_of key me ≡ true → pass ≡ added old (accessed restarted) →
+    ((who : Who) (end : End) (place : Place) → StandsAt e0 who end place → StandsAt e1 who (after_reset end) Closed) → IsThere key me routes r old e0 → IsThere key me routes (restarted_on r) pass e1
+turn_restarted key me routes r old pass e0 e1 hp is resets there = record {
+  stands = record {
+    stands = resets (who_in key me) r.end r.place there.stands.stands;
+    standing = stands_restarted key me r hp there.stands.standing;
+    bytes = tt;
+    frames = there.stands.frames;
+    rings = λ e. absurd (clash e);
+    met = none_met (restarted_on r) refl;
+  };
+  from = ap (λ (h : Held). h.from) is ∙ there.from;
+  lists = list_after old pass r.actions (accessed restarted ∷ []) (omega arith) is there.lists;
+}
+
+pub plan_cut : (plan : Plan) (r : Runner) → IsPlanOf plan r.auto → IsPlanOf (record plan { round = Anew }) (restarted_on r).auto
+plan_cut plan r is = record { frames = is.frames; expected = is.expected; delivered = is.delivered; round = refl }
+
+-- The lines of a turn
 
 -- the line of an access takes its value from a read alone
 given_line : (me : ℕ) (a : Access) (value : ℕ) → access_lines me a value ≡ access_lines me a (value_given a value)
@@ -567,24 +682,28 @@ first_is None busy r closes same = ap not (sym closes ∙ same)
 first_is (Some answer) busy r closes same = ap not (sym closes ∙ same)
 
 -- the lines that were told are those of the turn
-step_lines : (who : Who) (first : Bool) (place : Place) (value : ℕ) → lines_of who.me first (access_at who place) value (marks_at who place value) ≡ told_in who.me (Makes first (step_at who place value))
-step_lines who first place value = ap (λ ls. if is_quiet first (access_at who place) (marks_at who place value) then [] else ls ++ map (mark_line who.me) (marks_at who place value)) (given_line who.me (access_at who place) value)
+step_told : (me : ℕ) (first : Bool) (opened : ℕ) (met : Option ℕ) (a : Access) (value : ℕ) (marks : List Mark) → stepped_lines me first opened met a value marks ≡ told_in me (stepped_turn first opened met (step_of a value marks) a)
+step_told me first opened None (access.Read word) value marks = refl
+step_told me first opened (Some other) (access.Read word) value marks = refl
+step_told me first opened (Some other) (access.State state) value marks = elim (state == 3) as (λ b. (line.State me state ∷ (if b then line.Session me opened other ∷ [] else []) ++ map (mark_line me) marks) ≡ told_in me (if b then Enters (step_of (access.State state) value marks) opened other else Makes first (step_of (access.State state) value marks))) [ true ↦ refl | false ↦ refl ]
+step_told me first opened met a value marks = refl
 
-done_told : (who : Who) (first : Bool) (place : Place) (done : Done) → holds_on done ≡ false → done_lines who.me first (access_at who place) done (marks_at who place (value_done done)) ≡ told_in who.me (turn_of first (step_at who place (value_done done)) done)
-done_told who first place (Stepped value) goes = step_lines who first place value
-done_told who first place (Cleared found) goes = (λ i. given_line who.me (access_at who place) 0 i ++ map (mark_line who.me) (sym (turn_marks first (step_at who place 0) (Cleared found) goes) i))
-done_told who first place Rung goes = refl
+done_told : (who : Who) (first : Bool) (opened : ℕ) (met : Option ℕ) (place : Place) (done : Done) → holds_on done ≡ false →
+    done_lines who.me first opened met (access_at who place) done (marks_at who place (value_done done)) ≡ told_in who.me (turn_of first opened met (step_at who place (value_done done)) done)
+done_told who first opened met place (Stepped value) goes = step_told who.me first opened met (access_at who place) value (marks_at who place value)
+done_told who first opened met place (Cleared found) goes = (λ i. given_line who.me (access_at who place) 0 i ++ map (mark_line who.me) (sym (cleared_marks (step_at who place 0) found goes) i))
+done_told who first opened met place Rung goes = refl
 
-pub lines_told : (who : Who) (r : Runner) (done : Done) (e1 e2 : Engine) (a : Access) (notes : List Note) → holds_on done ≡ false → Takes e1 (value_done done) notes e2 → StandsAt e1 who r.end (place_in who r) → a ≡ access_at who (place_in who r) →
-    done_lines who.me (is_first r) a done (marks_between (offered e2) (delivered e2) notes) ≡ told_on who r done
-lines_told who r done e1 e2 a notes goes took stands at = let place = place_in who r in let value = value_done done in
-    ap (λ ms. done_lines who.me (is_first r) a done ms) (marks_now e1 e2 value notes who r.end place took stands (busy_next e1 e2 value notes who r.end place took stands))
-    ∙ (ap (λ (x : Access). done_lines who.me (is_first r) x done (marks_at who place value)) at ∙ done_told who (is_first r) place done goes)
+pub lines_told : (who : Who) (r : Runner) (done : Done) (e1 e2 : Engine) (opened : ℕ) (met : Option ℕ) (a : Access) (notes : List Note) → holds_on done ≡ false → Takes e1 (value_done done) notes e2 → StandsAt e1 who r.end (place_in who r) → a ≡ access_at who (place_in who r) →
+    opened ≡ r.numbers.log.opened → met ≡ r.met → done_lines who.me (is_first r) opened met a done (marks_between (offered e2) (delivered e2) notes) ≡ told_on who r done
+lines_told who r done e1 e2 opened met a notes goes took stands at number is = let place = place_in who r in let value = value_done done in
+    ap (λ ms. done_lines who.me (is_first r) opened met a done ms) (marks_now e1 e2 value notes who r.end place took stands (busy_next e1 e2 value notes who r.end place took stands))
+    ∙ ((λ i. done_lines who.me (is_first r) (number i) (is i) (at i) done (marks_at who place value)) ∙ done_told who (is_first r) r.numbers.log.opened r.met place done goes)
 
-pub held_line : (me : ℕ) (first : Bool) (step : Step) (done : Done) → holds_on done ≡ true → told_in me (turn_of first step done) ≡ access_lines me step.access step.value
-held_line me first step (Stepped value) held = absurd (clash held)
-held_line me first step (Cleared found) held = ap (λ ms. access_lines me step.access step.value ++ map (mark_line me) ms) (held_marks first step (Cleared found) held) ∙ append-nil (access_lines me step.access step.value)
-held_line me first step Rung held = absurd (clash held)
+pub held_line : (me : ℕ) (first : Bool) (opened : ℕ) (met : Option ℕ) (step : Step) (done : Done) → holds_on done ≡ true → told_in me (turn_of first opened met step done) ≡ access_lines me step.access step.value
+held_line me first opened met step (Stepped value) held = absurd (clash held)
+held_line me first opened met step (Cleared found) held = ap (λ ms. access_lines me step.access step.value ++ map (mark_line me) ms) (held_marks step found held) ∙ append-nil (access_lines me step.access step.value)
+held_line me first opened met step Rung held = absurd (clash held)
 
 held_value : (done : Done) → holds_on done ≡ true → value_done done ≡ 0
 held_value (Stepped value) held = absurd (clash held)
@@ -593,7 +712,70 @@ held_value Rung held = absurd (clash held)
 
 pub lines_held : (who : Who) (r : Runner) (done : Done) (a : Access) → holds_on done ≡ true → a ≡ access_at who (place_in who r) → access_lines who.me a 0 ≡ told_on who r done
 lines_held who r done a held at = let place = place_in who r in ap (λ (x : Access). access_lines who.me x 0) at ∙ (given_line who.me (access_at who place) 0
-    ∙ (ap (λ n. access_lines who.me (access_at who place) (value_given (access_at who place) n)) (sym (held_value done held)) ∙ sym (held_line who.me (is_first r) (value_in who r done) done held)))
+    ∙ (ap (λ n. access_lines who.me (access_at who place) (value_given (access_at who place) n)) (sym (held_value done held)) ∙ sym (held_line who.me (is_first r) r.numbers.log.opened r.met (value_in who r done) done held)))
+
+-- Which turn a step is: the State step with 3, which bears the numbers of its session, or another
+
+pub record IsEntering (who : Who) (r : Runner) (value : ℕ) : Type 0 where
+  pub other : ℕ
+  pub place : place_in who r ≡ Setting 3
+  pub met : r.met ≡ Some other
+  pub loaded : r.numbers.loaded ≡ Some other
+  pub turn : turn_on who r (Stepped value) ≡ Enters (step_at who (place_in who r) value) r.numbers.log.opened other
+
+pub record IsMaking (who : Who) (r : Runner) (value : ℕ) : Type 0 where
+  pub turn : turn_on who r (Stepped value) ≡ Makes (is_first r) (step_at who (place_in who r) value)
+  pub never : (state : ℕ) → access_at who (place_in who r) ≡ access.State state → (state == 3) ≡ false
+  pub met : access_at who (place_in who r) ≡ access.State 2 → r.met ≢ None
+
+-- a State step is that of its place, or the one of a refusal
+state_at : (who : Who) (place : Place) (state : ℕ) → access_at who place ≡ access.State state → (place ≡ Setting state) ⊎ (state ≡ 0)
+state_at who (Setting value) state e = inl (ap Setting (same e))
+  where
+    same : {n m : ℕ} → access.State n ≡ access.State m → n ≡ m
+    same e = cc
+state_at who Refusing state e = inr (sym (same e))
+  where
+    same : {n m : ℕ} → access.State n ≡ access.State m → n ≡ m
+    same e = cc
+state_at who place state e = absurd (cc)
+
+setting_three : (place : Place) → (place ≡ Setting 3) ⊎ (place ≢ Setting 3)
+setting_three (Setting state) = dite (ℕ_discrete state 3) (λ e. inl (ap Setting e)) (λ ne. inr (λ e. ne (same e)))
+  where
+    same : {n m : ℕ} → Setting n ≡ Setting m → n ≡ m
+    same e = cc
+setting_three place = inr (λ e. absurd (cc))
+
+makes_at : (first : Bool) (opened : ℕ) (met : Option ℕ) (step : Step) (a : Access) → ((state : ℕ) → a ≡ access.State state → (state == 3) ≡ false) → stepped_turn first opened met step a ≡ Makes first step
+makes_at first opened None step (access.State state) never = refl
+makes_at first opened (Some other) step (access.State state) never = ap (λ (b : Bool). if b then Enters step opened other else Makes first step) (never state refl)
+makes_at first opened met step a never = refl
+
+pub stepped_kind : (who : Who) (r : Runner) (value : ℕ) → HasMet r → due_word r.place r.met ≡ None → IsEntering who r value ⊎ IsMaking who r value
+stepped_kind who r value has due = let is = met_in who r has due in ⊎_elim (λ three. inl (enters is three)) (λ ne. inr (makes is ne)) (setting_three (place_in who r))
+  where
+    step : Step
+    step = step_at who (place_in who r) value
+
+    enters : IsMet (place_in who r) r.met r.numbers → place_in who r ≡ Setting 3 → IsEntering who r value
+    enters is three = let t = is.three three in record {
+      other = t.0;
+      place = three;
+      met = t.1;
+      loaded = t.2;
+      turn = λ i. stepped_turn (is_first r) r.numbers.log.opened (t.1 i) (step_at who (place_in who r) value) (access_at who (three i));
+    }
+
+    never_at : place_in who r ≢ Setting 3 → (state : ℕ) → access_at who (place_in who r) ≡ access.State state → (state == 3) ≡ false
+    never_at ne state e = ⊎_elim (λ at. ne_eqb state 3 (λ three. ne (at ∙ ap Setting three))) (λ zero. ap (λ n. n == 3) zero) (state_at who (place_in who r) state e)
+
+    makes : IsMet (place_in who r) r.met r.numbers → place_in who r ≢ Setting 3 → IsMaking who r value
+    makes is ne = record {
+      turn = makes_at (is_first r) r.numbers.log.opened r.met (step_at who (place_in who r) value) (access_at who (place_in who r)) (never_at ne);
+      never = never_at ne;
+      met = λ e. ⊎_elim (λ at. (is.two at).0) (λ none. absurd (omega arith)) (state_at who (place_in who r) 2 e);
+    }
 
 -- the runner after a turn, as it was held or not
 pub turned_held : (routes : List Route) (who : Who) (r : Runner) (done : Done) → holds_on done ≡ true → turned routes who r done ≡ held_on routes who r done
@@ -602,18 +784,43 @@ turned_held routes who r done is = ap (λ (b : Bool). if b then held_on routes w
 pub turned_stepped : (routes : List Route) (who : Who) (r : Runner) (done : Done) → holds_on done ≡ false → turned routes who r done ≡ stepped_on routes who r done
 turned_stepped routes who r done is = ap (λ (b : Bool). if b then held_on routes who r done else stepped_on routes who r done) is
 
+-- a State step with 2 opens a session
+pub opened_on : (n : Numbers) (end : End) (a : Access) → n.log.opened + opens a ≡ (numbers_after n end a).log.opened
+opened_on n end (access.State state) = elim (state == 2) as (λ b. n.log.opened + (if b then 1 else 0) ≡ (if b then n.log.opened + 1 else n.log.opened)) [ true ↦ refl | false ↦ omega arith ]
+opened_on n end (access.Read word) = omega arith
+opened_on n end (access.Write word written) = omega arith
+opened_on n end (access.Ring target vector) = omega arith
+opened_on n end access.Nothing = omega arith
+
 -- the same of the runner as it is turned
-module _ (key : Key) (me : ℕ) (routes : List Route) (ringing : Bool) (done : Done) (r : Runner) (answer : Option Choice) (old pass : Held) (plan : Plan) (e0 e1 : Engine) (a : Access) (turns : Turns key me routes r answer ringing old plan e0)
-    (stands : StandsAt e1 (who_in key me) r.end (place_in (who_in key me) r)) (at_is : a ≡ access_at (who_in key me) (place_in (who_in key me) r)) (is_done : IsDone ringing (is_guarded (way_in routes a)) done) (is : pass ≡ made old (done_of routes (call_told answer plan.frames) a done)) where
-  pub done_there : IsDone ringing (is_guarded (way_in routes (access_at (who_in key me) (place_in (who_in key me) r)))) done
-  done_there = subst (λ (x : Access). IsDone ringing (is_guarded (way_in routes x)) done) at_is is_done
+module _ (key : Key) (me : ℕ) (routes : List Route) (done : Done) (r : Runner) (answer : Option Choice) (old pass : Held) (p : AutoPeer) (e1 : Engine) (a : Access) (turns : Turns key me routes r answer old p)
+    (stands : StandsAt e1 (who_in key me) r.end (place_in (who_in key me) r)) (at_is : a ≡ access_at (who_in key me) (place_in (who_in key me) r)) (is_done : IsDone p.ringing (is_guarded (way_in routes a)) done) (is : pass ≡ made old (done_of routes (call_told answer p.auto.frames) a done)) where
+  pub done_there : IsDone p.ringing (is_guarded (way_in routes (access_at (who_in key me) (place_in (who_in key me) r)))) done
+  done_there = subst (λ (x : Access). IsDone p.ringing (is_guarded (way_in routes x)) done) at_is is_done
 
-  pub held_turn : holds_on done ≡ true → (holds_on done ≡ true → MayRingBy routes a (front pass.lists)) → IsThere key me routes (turned routes (who_in key me) r done) pass e1 × IsPlanOf plan (turned routes (who_in key me) r done).auto
-  held_turn held may = let both = turn_held key me routes ringing done r answer old pass plan e0 e1 a turns stands at_is is_done held is (may held) in let same = sym (turned_held routes (who_in key me) r done held) in
-      (subst (λ (x : Runner). IsThere key me routes x pass e1) same both.0, subst (λ (x : Runner). IsPlanOf plan x.auto) same both.1)
+  pub held_turn : (q : AutoPeer) → holds_on done ≡ true → (holds_on done ≡ true → MayRingBy routes a (front pass.lists)) → q.auto ≡ p.auto → q.looks ≡ 0 → q.ringing ≡ true → q.opened ≡ p.opened → q.met ≡ p.met →
+      IsThere key me routes (turned routes (who_in key me) r done) pass e1 × IsAutoPeer q (turned routes (who_in key me) r done)
+  held_turn q held may auto looks ringing opened met = let both = turn_held key me routes done r answer old pass p e1 a turns stands at_is is_done held is (may held) in let same = sym (turned_held routes (who_in key me) r done held) in (
+    subst (λ (x : Runner). IsThere key me routes x pass e1) same both.0,
+    subst (IsAutoPeer q) same (record {
+      planned = subst (λ (plan : Plan). IsPlanOf plan (held_on routes (who_in key me) r done).auto) (sym auto) both.1;
+      looks = looks;
+      ringing = ringing;
+      opened = opened ∙ turns.is.opened;
+      met = met ∙ turns.is.met;
+    }),
+  )
 
-  pub stepped_turn : (new : Plan) (e2 : Engine) (notes : List Note) → honest_of key me ≡ true → is_open (place_in (who_in key me) r) ≡ true → holds_on done ≡ false → Takes e1 (value_done done) notes e2 →
-      ((auto : Auto) (one other : List ℕ) → IsPlanOf plan auto → IsPlanOf new (counted_all auto (marks_between one other notes))) →
-      IsThere key me routes (turned routes (who_in key me) r done) pass e2 × IsPlanOf new (turned routes (who_in key me) r done).auto
-  stepped_turn new e2 notes hp opens goes took counts = let both = turn_taken key me routes ringing done r answer old pass plan new e0 e1 e2 a notes hp turns stands opens at_is is_done goes is took counts in let same = sym (turned_stepped routes (who_in key me) r done goes) in
-      (subst (λ (x : Runner). IsThere key me routes x pass e2) same both.0, subst (λ (x : Runner). IsPlanOf new x.auto) same both.1)
+  pub step_turn : (q : AutoPeer) (e2 : Engine) (notes : List Note) → honest_of key me ≡ true → is_open (place_in (who_in key me) r) ≡ true → holds_on done ≡ false → Takes e1 (value_done done) notes e2 →
+      ((auto : Auto) (one other : List ℕ) → IsPlanOf p.auto auto → IsPlanOf q.auto (counted_all auto (marks_between one other notes))) → q.looks ≡ 0 → q.ringing ≡ false → q.opened ≡ p.opened + opens a → q.met ≡ None →
+      IsThere key me routes (turned routes (who_in key me) r done) pass e2 × IsAutoPeer q (turned routes (who_in key me) r done)
+  step_turn q e2 notes hp opens_is goes took counts looks ringing opened met = let both = turn_taken key me routes done r answer old pass p q.auto e1 e2 a notes hp turns stands opens_is at_is is_done goes is took counts in let same = sym (turned_stepped routes (who_in key me) r done goes) in (
+    subst (λ (x : Runner). IsThere key me routes x pass e2) same both.0,
+    subst (IsAutoPeer q) same (record {
+      planned = both.1;
+      looks = looks;
+      ringing = ringing;
+      opened = opened ∙ ((λ i. turns.is.opened i + opens (at_is i)) ∙ opened_on r.numbers r.end (access_at (who_in key me) (place_in (who_in key me) r)));
+      met = met;
+    }),
+  )

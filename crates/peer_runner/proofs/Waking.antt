@@ -1,30 +1,26 @@
 -- A doorbell that a running peer asked for is rung: what two honest ends keep between them of what one asks for and what the other missed.
-use Rattle.std.proofs.Common.{◌≡◌, ◌≢◌, ℕ, zero, suc, ◌+◌, ◌-◌, ◌/◌, ◌%◌, ◌<◌, ◌≤◌, ◌⊎◌, inl, inr, ⊎_elim, Bool, true, false, List, [], ◌∷◌, ◌++◌, length, length-append, refl, sym, ap, ◌∙◌, subst, arith, ne_eqb}
-use mathlib.Core.Logic.{dite}
-use native.Mathlib.Decide.{ℕ_discrete}
+use Rattle.std.proofs.Common.{◌≡◌, ◌≢◌, ℕ, zero, suc, ◌+◌, ◌-◌, ◌≤◌, ◌⊎◌, inl, inr, ⊎_elim, Bool, true, false, List, [], ◌∷◌, ◌++◌, length, length-append, refl, sym, ap, ◌∙◌, subst, arith, eq-eqb, ne_eqb}
 use Rattle.std.specs.Prelude.{◌==◌, nat_le, if◌then◌else◌, Contains}
 use Rattle.std.proofs.lemmas.List.Elements.{Contains-append_cases}
 use Rattle.split_ring.specs.declared.steps.Access.{Access}
 use Rattle.split_ring.specs.declared.steps.Access.TheVariants as access
-use Rattle.split_ring.specs.Layout.{has_events, size_of, word_place, Address, Length, Flags, Entry, UsedIndex, Id}
+use Rattle.split_ring.specs.Layout.{has_events, size_of}
 use Rattle.split_ring.specs.Spelling.{low_half, high_half}
 use Rattle.split_ring.specs.declared.ranges.FieldName.TheVariants as field_name
 use Rattle.link_handshake.specs.declared.Move.{Move}
 use Rattle.link_handshake.specs.declared.Move.TheVariants.{Stay, Set, ClearThenSet}
-use Rattle.link_handshake.specs.declared.Phase.{Phase}
-use Rattle.link_handshake.specs.declared.Phase.TheVariants.{Init, Run}
 use Rattle.link_handshake.specs.Standing.{move_of}
 use Rattle.call_grammar.specs.Steps.{Mark, Reclaim, Full, Accept, Look, Deliver, Refuse, Done, Over}
-use Rattle.call_grammar.specs.Ends.{End, fresh, stated, noted, noted_all, end_after}
+use Rattle.call_grammar.specs.Ends.{End, stated, noted, noted_all, end_after}
 use Rattle.call_grammar.specs.Calls.{Who, Call, Tick, Stop, Offer, Poll, in_run, job_of}
-use Rattle.call_grammar.specs.Ticks.{tick_marks, other_state}
+use Rattle.call_grammar.specs.Ticks.{tick_marks}
 use Rattle.call_grammar.specs.Words.{words_for, address_of, frame_in}
-use Rattle.call_grammar.specs.Offers.{Job, finds_room, asks_for, refusal, full_marks, returned_by, reclaim_marks, used_marks, id_marks, descriptor_of, entry_of}
-use Rattle.call_grammar.specs.Polls.{is_entry, is_address, is_length, entry_in, entry_marks, address_marks, length_marks, flags_marks, published_by, is_last, look_marks, available_marks}
+use Rattle.call_grammar.specs.Offers.{Job, finds_room, asks_for, refusal, full_marks, returned_by, reclaim_marks, used_marks, id_marks, descriptor_of}
+use Rattle.call_grammar.specs.Polls.{is_entry, is_address, is_length, entry_in, published_by, is_last, look_marks}
 use Rattle.ends_pair.specs.Ground.{Ground, who_of}
 use Rattle.ends_pair.specs.Wake.{EventStands}
-use Rattle.peer_runner.specs.Standings.{Asked, Nowhere, Asking, At, asked_on, asked_last, asked_by, missed_by, Wake, wake_after, accepted_by}
-use Rattle.call_grammar.specs.Places.{Place, Closed, AtState, Clearing, Setting, Refusing, Downed, AtUsedIndex, AtUsedId, Filling, WritingLow, WritingHigh, WritingLength, WritingFlags, WritingEntry, WritingIndex, AtEvent, RingingOffer, AtAvailIndex, Arming, AtEntry, AtLow, AtHigh, AtLength, AtFlags, AtWord, GivingId, GivingLength, GivingIndex, RingingPoll, first_place, access_at, next_place, marks_at, step_at, is_open, clear_place, tick_place, fill_place, ids_place, none_place, items_place, words_place}
+use Rattle.peer_runner.specs.Standings.{Asked, Nowhere, Asking, At, asked_on, asked_last, asked_by, missed_by, Wake, wake_after}
+use Rattle.call_grammar.specs.Places.{Place, Closed, AtState, Clearing, Setting, Refusing, Downed, AtUsedIndex, AtUsedId, Filling, WritingIndex, AtEvent, RingingOffer, AtAvailIndex, Arming, AtEntry, AtLow, AtHigh, AtLength, AtFlags, AtWord, GivingIndex, first_place, access_at, next_place, marks_at, step_at, is_open, clear_place, tick_place, fill_place, ids_place, none_place, items_place, words_place}
 
 -- Which steps change what is asked for and what is missed
 
@@ -292,6 +288,9 @@ asked_from who n m k value w place e = inl (sym (ap (λ (x : Wake). x.asked) (ke
 
 -- What it missed
 
+none_in : (k : ℕ) → Contains [] k → ⊥
+none_in k (i, lt, e) = omega arith
+
 event_missed : (n : ℕ) (was : List ℕ) (b : Bool) (k : ℕ) → Contains (missed_by n was (if b then [] else Over ∷ [])) k → Contains was k ⊎ ((b ≡ false) × (k ≡ n - 1))
 event_missed n was true k c = inl c
 event_missed n was false k c = ⊎_elim (λ h. inl h) (λ h. inr (refl, one_in (n - 1) k h)) (Contains-append_cases was ((n - 1) ∷ []) k c)
@@ -299,6 +298,23 @@ event_missed n was false k c = ⊎_elim (λ h. inl h) (λ h. inr (refl, one_in (
     one_in : (a b : ℕ) → Contains (a ∷ []) b → b ≡ a
     one_in a b (zero, lt, e) = sym e
     one_in a b (suc k, lt, e) = absurd (omega arith)
+
+-- a write of State misses nothing more, and one of 2 leaves nothing missed
+kept_missed : (state : ℕ) (was : List ℕ) (k : ℕ) → Contains (if state == 2 then [] else was) k → Contains was k
+kept_missed state was k c = elim (state == 2) as (λ (b : Bool). Contains (if b then [] else was) k → Contains was k) [ true ↦ λ h. absurd (none_in k h) | false ↦ λ h. h ] c
+
+opens_none : (state : ℕ) (was : List ℕ) (k : ℕ) → Contains (if state == 2 then [] else was) k → state ≢ 2
+opens_none state was k c two = none_in k (subst (λ (b : Bool). Contains (if b then [] else was) k) (eq-eqb state 2 two) c)
+
+state_is : {m n : ℕ} → access.State m ≡ access.State n → m ≡ n
+state_is e = cc
+
+pub missed_stays : (n m k : ℕ) (w : Wake) (a : Access) (marks : List Mark) → Contains (wake_after n m w a marks).missed k → a ≢ access.State 2
+missed_stays n m k w (access.State state) marks c e = opens_none state w.missed k c (state_is e)
+missed_stays n m k w (access.Read word) marks c e = absurd (cc)
+missed_stays n m k w (access.Write word written) marks c e = absurd (cc)
+missed_stays n m k w (access.Ring target vector) marks c e = absurd (cc)
+missed_stays n m k w access.Nothing marks c e = absurd (cc)
 
 -- what was missed before, or the frame whose event is read now and doesn't ask for it
 abbrev pub IsMissed : (n value k : ℕ) → Place → Type 0
@@ -311,7 +327,7 @@ looked_missed n was (suc d) value last true = ap (λ (b : Bool). missed_by n was
 looked_missed n was d value last false = refl
 
 pub missed_from : (who : Who) (n m k value : ℕ) (w : Wake) (place : Place) → Contains (wake_after n m w (access_at who place) (marks_at who place value)).missed k → Contains w.missed k ⊎ IsMissed n value k place
-missed_from who n m k value w (Setting state) c = inl c
+missed_from who n m k value w (Setting state) c = inl (kept_missed state w.missed k c)
 missed_from who n m k value w Refusing c = inl c
 missed_from who n m k value w (AtEvent number) c = ⊎_elim (λ h. inl h) (λ h. inr (number, refl, h.0, h.1)) (event_missed n w.missed (asks_for (low_half value) number) k c)
 missed_from who n m k value w (AtAvailIndex taken last) c = inl (subst (λ l. Contains l k) (looked_missed n w.missed (published_by taken value) (high_half value) last (nat_le (published_by taken value) (size_of who.sizes))) c)
@@ -384,16 +400,32 @@ look_pending taken zero false true = refl
 look_pending taken (suc d) last true = subst (λ (b : Bool). pending (if b then none_place taken last else items_place taken (suc d)) ≡ 0) (sym (more_than d)) refl
 look_pending taken d last false = refl
 
-one_accepted : (frame : List ℕ) → length (accepted_by (Accept frame ∷ [])) ≡ 1
-unfolding accepted_by
-one_accepted frame = refl
+-- a session's list of frames grows, but where a session opens
+never_shorter : (end : End) (marks : List Mark) → length end.accepted ≤ length (noted_all end marks).accepted
+never_shorter end [] = omega arith
+never_shorter end (mark ∷ marks) = let more = never_shorter (noted end mark) marks in let one = once end mark in omega arith
+  where
+    once : (end : End) (mark : Mark) → length end.accepted ≤ length (noted end mark).accepted
+    once end (Accept frame) = let n = length-append end.accepted (frame ∷ []) in omega arith
+    once end mark = omega arith
+
+stated_accepted : (end : End) (a : Access) → a ≢ access.State 2 → (stated end a).accepted ≡ end.accepted
+stated_accepted end (access.State state) ne = ap (λ (b : Bool). if b then [] else end.accepted) (ne_eqb state 2 (λ e. ne (ap access.State e)))
+stated_accepted end (access.Read word) ne = refl
+stated_accepted end (access.Write word written) ne = refl
+stated_accepted end (access.Ring target vector) ne = refl
+stated_accepted end access.Nothing ne = refl
+
+grows : (who : Who) (end : End) (place : Place) (value : ℕ) → access_at who place ≢ access.State 2 → length end.accepted ≤ length (end_after end (step_at who place value)).accepted
+grows who end place value ne = let same = ap length (stated_accepted end (access_at who place) ne) in let more = never_shorter (stated end (access_at who place)) (marks_at who place value) in omega arith
 
 -- a frame that was accepted and whose event is read stays so
-pub bound_on : (who : Who) (place : Place) (value n k : ℕ) → k + 1 + pending place ≤ n → k + 1 + pending (next_place who place value) ≤ n + length (accepted_by (marks_at who place value))
-bound_on who (WritingIndex job) value n k h = let one = one_accepted job.frame in let most = pending_most (next_place who (WritingIndex job) value) in omega arith
-bound_on who (AtAvailIndex taken last) value n k h = let none = look_pending taken (published_by taken value) last (nat_le (published_by taken value) (size_of who.sizes)) in omega arith
-bound_on who (Arming taken) value n k h = omega arith
-bound_on who place value n k h = let none = still_pending (next_place who place value) (next_still who place value refl) in omega arith
+pub bound_on : (who : Who) (end : End) (place : Place) (value k : ℕ) → access_at who place ≢ access.State 2 → k + 1 + pending place ≤ length end.accepted →
+    k + 1 + pending (next_place who place value) ≤ length (end_after end (step_at who place value)).accepted
+bound_on who end (WritingIndex job) value k ne h = let n = length-append end.accepted (job.frame ∷ []) in let most = pending_most (next_place who (WritingIndex job) value) in omega arith
+bound_on who end (AtAvailIndex taken last) value k ne h = let none = look_pending taken (published_by taken value) last (nat_le (published_by taken value) (size_of who.sizes)) in let more = grows who end (AtAvailIndex taken last) value ne in omega arith
+bound_on who end (Arming taken) value k ne h = omega arith
+bound_on who end place value k ne h = let none = still_pending (next_place who place value) (next_still who place value refl) in let more = grows who end place value ne in omega arith
 
 noted_phase : (end : End) (marks : List Mark) → (noted_all end marks).handshake.phase ≡ end.handshake.phase
 noted_phase end [] = refl

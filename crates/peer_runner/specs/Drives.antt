@@ -1,5 +1,6 @@
 -- What drives a peer, and what it did.
-use Rattle.std.specs.Prelude.{ℕ, suc, ◌≡◌, ◌<◌, ◌≤◌, ◌==◌, Bool, true, false, if◌then◌else◌, Option, Some, None, All, List, [], ◌∷◌, ◌++◌, length, Result, Ok, IfOk}
+use Rattle.std.specs.Prelude.{ℕ, suc, ◌≡◌, ◌<◌, ◌≤◌, ◌==◌, ◌^◌, Bool, true, false, if◌then◌else◌, Option, Some, None, All, List, [], ◌∷◌, ◌++◌, length, Result, Ok, IfOk}
+use Rattle.std.specs.List.{list_any}
 use Rattle.ivs_base.specs.declared.NoMemory.{NoMemory}
 use Rattle.scenario_text.specs.declared.acts.Act.{Act}
 use Rattle.scenario_text.specs.declared.acts.Act.TheVariants as act
@@ -21,16 +22,16 @@ use Rattle.peer_runner.specs.declared.driving.PeerPlan.{PeerPlan}
 use Rattle.peer_runner.specs.declared.driving.Driver.{Driver}
 use Rattle.peer_runner.specs.declared.driving.Driver.TheVariants.{Auto, Storm}
 use Rattle.peer_runner.specs.Keys.{world_in, who_in, honest_of, IsMadeFor}
-use Rattle.peer_runner.specs.Standings.{Taken, accepted_by, delivered_by, standing}
+use Rattle.peer_runner.specs.Standings.{Taken, Deed, standing, NeverMarked}
 use Rattle.peer_runner.specs.Actions.{Action, accesses_in}
 use Rattle.peer_runner.specs.Passes.{shown}
 use Rattle.doorbell_irq.specs.declared.route.Route.{Route}
 use Rattle.peer_runner.specs.declared.ways.Done.{Done}
 use Rattle.peer_runner.specs.Ways.{AreRoutesOf}
-use Rattle.peer_runner.specs.Turns.{Turn, Running, comes_to, TakesTurns, actions_in, told_of}
-use Rattle.peer_runner.specs.RunningRecord.{telling_in}
-use Rattle.peer_runner.specs.OwnRecord.{IsToldBy, told_all, start_of, turns_of}
-use Rattle.peer_runner.specs.Runners.{IsFrame, start_auto, holds_on, marks_in}
+use Rattle.peer_runner.specs.Turns.{Turn, Running, comes_to, all_turns, TakesTurns, actions_in, told_of}
+use Rattle.peer_runner.specs.RunningRecord.{refuses, telling_in, IsTold}
+use Rattle.peer_runner.specs.OwnRecord.{IsToldBy, told_all, start_of, spans_of}
+use Rattle.peer_runner.specs.Runners.{IsFrame, start_auto, holds_on}
 
 -- the steps of a storm in a region of these sizes
 abbrev pub storm_in : Key → ℕ → ℕ → Step
@@ -64,24 +65,23 @@ abbrev pub MayDrive : Key → ℕ → Driver → Type 0
 MayDrive key p (Auto plan end) = MayBeAuto key p plan end
 MayDrive key p (Storm seed geometry queue) = (p < key.geometry.peers) × (honest_of key p ≡ false) × (geometry ≡ key.geometry) × (queue ≡ key.queue)
 
--- its list leaves an honest peer where its turns did
-pub record IsLeft (key : Key) (p : ℕ) (list : List (Action Taken)) (taken : List Turn) (after : Peer) : Type 0 where
+-- its list leaves an honest peer where its turns did, and its lines tell of that; and where it never bore the mark of a refusal, they tell none
+pub record IsLeft (key : Key) (p : ℕ) (list : List (Action (Deed Taken))) (taken : List Turn) (after : Peer) : Type 0 where
   pub end : (standing key p (accesses_in list)).end ≡ after.end
-  pub accepted : (standing key p (accesses_in list)).accepted ≡ accepted_by (marks_in taken)
-  pub delivered : (standing key p (accesses_in list)).delivered ≡ delivered_by (marks_in taken)
-  pub asked : (standing key p (accesses_in list)).wake.asked ≡ (telling_in (told_of p taken)).asked
-  pub missed : (standing key p (accesses_in list)).wake.missed ≡ (telling_in (told_of p taken)).missed
+  pub told : IsTold (standing key p (accesses_in list)) (telling_in (told_of p taken))
+  pub refused : NeverMarked key p (accesses_in list) → list_any refuses (told_of p taken) ≡ false
 
 -- In a scenario
 
--- what drives the peer of a scenario, and its turns
+-- what drives the peer of a scenario, and its spans
 abbrev pub IsDriver : World → ℕ → Driver → Type 0
 IsDriver world p driver = (starting driver ≡ start_of world.acts p) × ((key : Key) → IsMadeFor world key → MayDrive key p driver)
 
 pub record IsPlan (world : World) (p : ℕ) (plan : PeerPlan) : Type 0 where
   pub runs : has_turn world.acts p ≡ true
   pub peer : plan.peer ≡ p
-  pub turns : plan.turns ≡ turns_of world.acts p
+  pub spans : plan.spans ≡ spans_of world.acts p
+  pub few : all_turns plan.spans < 2 ^ 32
   pub driver : IsDriver world p plan.driver
   pub routed : AreRoutesOf world plan.routes.items
 
@@ -113,34 +113,35 @@ pub record Seeds (p : ℕ) (acts : List Act) (seed : ℕ) : Type 0 where
 
 -- What was done
 
--- the peer took these turns, and did this to the words
-pub record Did (key : Key) (routes : List Route) (p : ℕ) (start : Peer) (list : List (Action Taken)) : Type 0 where
+-- the peer took these turns of its spans, and did this to the words
+pub record Did (key : Key) (routes : List Route) (p : ℕ) (start : Peer) (spans : List ℕ) (list : List (Action (Deed Taken))) : Type 0 where
   pub turns : List Turn
   pub after : Running
-  pub takes : TakesTurns (who_in key p) (storm_in key p) routes (comes_to start) turns after
+  pub takes : TakesTurns (who_in key p) (storm_in key p) routes (comes_to start spans) turns after
   pub made : shown list ≡ actions_in routes turns
   pub left : honest_of key p ≡ true → IsLeft key p list turns after.peer
 
--- it took at most so many, and tells them where memory was enough
-abbrev pub Drove : Key → List Route → (p turns : ℕ) → Peer → List (Action Taken) → Result OwnTrace NoMemory → Type 0
-Drove key routes p turns start list answer = (did : Did key routes p start list) × (length did.turns ≤ turns)
-    × IfOk answer (λ (t : OwnTrace). IsToldBy p turns did.turns did.after (part_of t))
+-- it took at most all of them, and tells them where memory was enough
+abbrev pub Drove : Key → List Route → (p : ℕ) → (spans : List ℕ) → Peer → List (Action (Deed Taken)) → Result OwnTrace NoMemory → Type 0
+Drove key routes p spans start list answer = (did : Did key routes p start spans list) × (length did.turns ≤ all_turns spans)
+    × IfOk answer (λ (t : OwnTrace). IsToldBy p (all_turns spans) did.turns did.after (part_of t))
 
 -- a peer of a scenario did this to the words, and these are the traces of it: one, or none where it has no turns
-abbrev pub HasRun : World → Key → ℕ → List (Action Taken) → List OwnTrace → Type 0
+abbrev pub HasRun : World → Key → ℕ → List (Action (Deed Taken)) → List OwnTrace → Type 0
 HasRun world key p list traces =
     (t : OwnTrace) × (traces ≡ t ∷ []) × (routes : List Route) × AreRoutesOf world routes ×
-    ((did : Did key routes p (start_of world.acts p) list) × IsToldBy p (turns_of world.acts p) did.turns did.after (part_of t))
+    ((did : Did key routes p (start_of world.acts p) (spans_of world.acts p) list) ×
+    IsToldBy p (all_turns (spans_of world.acts p)) did.turns did.after (part_of t))
 
-abbrev pub RanIf : Bool → World → Key → ℕ → List (Action Taken) → List OwnTrace → Type 0
+abbrev pub RanIf : Bool → World → Key → ℕ → List (Action (Deed Taken)) → List OwnTrace → Type 0
 RanIf true world key p list traces = HasRun world key p list traces
 RanIf false world key p list traces = (list ≡ []) × (traces ≡ [])
 
-abbrev pub RanOne : World → Key → ℕ → List (Action Taken) → List OwnTrace → Type 0
+abbrev pub RanOne : World → Key → ℕ → List (Action (Deed Taken)) → List OwnTrace → Type 0
 RanOne world key p list traces = RanIf (has_turn world.acts p) world key p list traces
 
 -- and so the peers from p on
-unfoldable pub RanAll : World → Key → ℕ → List (List (Action Taken)) → List OwnTrace → Type 0
+unfoldable pub RanAll : World → Key → ℕ → List (List (Action (Deed Taken))) → List OwnTrace → Type 0
 RanAll world key p [] traces = traces ≡ []
 RanAll world key p (list ∷ lists) traces =
     (mine rest : List OwnTrace) × (traces ≡ mine ++ rest) × RanOne world key p list mine × RanAll world key (suc p) lists rest

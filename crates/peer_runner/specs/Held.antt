@@ -1,10 +1,10 @@
 -- What a contract sees of a pass: its words, the first peer of its range, and the list of each peer's actions.
 use Rattle.std.specs.Prelude.{ℕ, List}
 use Rattle.atomic_table.specs.Seated.{TableId}
-use Rattle.peer_runner.specs.Standings.{Taken}
+use Rattle.peer_runner.specs.Standings.{Taken, Deed}
 use Rattle.peer_runner.specs.Actions.{Action}
 
 pub record Held : Type 0 where
   pub table_id : TableId
   pub from : ℕ
-  pub lists : List (List (Action Taken))
+  pub lists : List (List (Action (Deed Taken)))

@@ -14,17 +14,21 @@ interrupt_word key target = word_count key.geometry + 2 * target
 abbrev pub control_word : Key → ℕ → ℕ
 control_word key target = word_count key.geometry + 2 * target + 1
 
+-- behind these words of all peers, the session word of each of the two link peers
+abbrev pub session_word : Key → ℕ → ℕ
+session_word key p = word_count key.geometry + 2 * key.geometry.peers + p
+
 -- how many words there are
 abbrev pub all_words : Key → ℕ
-all_words key = word_count key.geometry + 2 * key.geometry.peers
+all_words key = word_count key.geometry + 2 * key.geometry.peers + 2
 
--- these words of the peers below n before any action, and all words
+-- the words for interrupts of the peers below n before any action, and all words
 unfoldable pub interrupts_at_start : (enabled n : ℕ) → List ℕ
 interrupts_at_start enabled zero = []
 interrupts_at_start enabled (suc n) = interrupts_at_start enabled n ++ 0 ∷ bit_at enabled n ∷ []
 
 abbrev pub words_at_start : Key → List ℕ
-words_at_start key = replicate (word_count key.geometry) 0 ++ interrupts_at_start key.enabled key.geometry.peers
+words_at_start key = (replicate (word_count key.geometry) 0 ++ interrupts_at_start key.enabled key.geometry.peers) ++ 0 ∷ 0 ∷ []
 
 abbrev pub IsOneShot : Key → ℕ → Type 0
 IsOneShot key target = bit_at key.one_shot target ≡ 1

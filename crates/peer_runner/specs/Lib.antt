@@ -11,6 +11,7 @@ pub mod Turns
 pub mod OwnRecord
 pub mod RunningRecord
 pub mod Runners
+pub mod Courses
 pub mod Drives
 pub mod ListSays
 pub mod RunningLaws

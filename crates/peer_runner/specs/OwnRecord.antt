@@ -1,6 +1,7 @@
--- The own record of a running peer: its turns are the steps of its calls, or the first steps of its storm, with its looks and its doorbells; its list has what
--- it did to the words by them, and its trace tells them.
-use Rattle.std.specs.Prelude.{ℕ, ◌≡◌, ◌≤◌, ◌==◌, false, if◌then◌else◌, List, [], ◌∷◌, length, Option, Some, None, unwrap_or}
+-- The own record of a running peer: its turns are the steps of its calls, or the first steps of its storm, with its looks, its doorbells, the accesses to session
+-- words and its resets; its list has what it did to the words by them, and its trace tells them.
+use Rattle.std.specs.Prelude.{ℕ, ◌≡◌, ◌≤◌, ◌==◌, false, if◌then◌else◌, List, [], ◌∷◌, length}
+use Rattle.std.specs.List.{flat_map}
 use Rattle.scenario_text.specs.declared.acts.Act.{Act}
 use Rattle.scenario_text.specs.declared.acts.Act.TheVariants as act
 use Rattle.scenario_text.specs.Scenario.{World}
@@ -10,10 +11,10 @@ use Rattle.lawful_history.specs.Peers.{Peer, at_start, asked, automated, stormed
 use Rattle.lawful_history.specs.Storm.{storm_step}
 use Rattle.record_text.specs.Parts.{Part}
 use Rattle.doorbell_irq.specs.declared.route.Route.{Route}
-use Rattle.peer_runner.specs.Standings.{Touch}
+use Rattle.peer_runner.specs.Standings.{Touch, Deed}
 use Rattle.peer_runner.specs.Actions.{Action}
 use Rattle.peer_runner.specs.Ways.{AreRoutesOf}
-use Rattle.peer_runner.specs.Turns.{Turn, Running, comes_to, TakesTurns, is_finished, actions_in, told_of}
+use Rattle.peer_runner.specs.Turns.{Turn, Running, comes_to, all_turns, TakesTurns, is_finished, actions_in, told_of}
 
 -- the trace of these turns, which led the peer there: it took all of its turns, or fewer and is finished
 pub record IsToldBy (p turns : ℕ) (taken : List Turn) (after : Running) (part : Part) : Type 0 where
@@ -37,31 +38,23 @@ unfoldable pub told_all : ℕ → Peer → List Act → Peer
 told_all p peer [] = peer
 told_all p peer (a ∷ acts) = told_all p (told p peer a) acts
 
--- the peer before its turns, and how many turns its line gives it
+-- the peer before its turns, and its spans: how many turns each of its lines gives it
 abbrev pub start_of : List Act → ℕ → Peer
 start_of acts p = told_all p at_start acts
 
-abbrev pub turn_in : ℕ → Act → Option ℕ
-turn_in p (act.Turn q steps) = if q == p then Some steps else None
-turn_in p _ = None
+abbrev pub span_in : ℕ → Act → List ℕ
+span_in p (act.Turn q steps) = if q == p then steps ∷ [] else []
+span_in p _ = []
 
-abbrev pub first_of : Option ℕ → Option ℕ → Option ℕ
-first_of (Some n) other = Some n
-first_of None other = other
-
-unfoldable pub turn_line : List Act → ℕ → Option ℕ
-turn_line [] p = None
-turn_line (a ∷ acts) p = first_of (turn_in p a) (turn_line acts p)
-
-abbrev pub turns_of : List Act → ℕ → ℕ
-turns_of acts p = unwrap_or (turn_line acts p) 0
+unfoldable pub spans_of : List Act → ℕ → List ℕ
+spans_of acts p = flat_map (span_in p) acts
 
 -- the part of a running record that a peer of the scenario has with these actions, by the routes of the peers
-pub record IsOwnRecord (world : World) (actions : List (Action Touch)) (part : Part) : Type 0 where
+pub record IsOwnRecord (world : World) (actions : List (Action (Deed Touch))) (part : Part) : Type 0 where
   pub routes : List Route
   pub routed : AreRoutesOf world routes
   pub taken : List Turn
   pub after : Running
-  pub takes : TakesTurns (who_of world part.peer) (storm_step world part.peer) routes (comes_to (start_of world.acts part.peer)) taken after
+  pub takes : TakesTurns (who_of world part.peer) (storm_step world part.peer) routes (comes_to (start_of world.acts part.peer) (spans_of world.acts part.peer)) taken after
   pub made : actions ≡ actions_in routes taken
-  pub told : IsToldBy part.peer (turns_of world.acts part.peer) taken after part
+  pub told : IsToldBy part.peer (all_turns (spans_of world.acts part.peer)) taken after part

@@ -5,7 +5,7 @@ use Rattle.scenario_text.specs.Scenario.{World}
 use Rattle.peer_runner.specs.declared.key.Key.{Key}
 use Rattle.peer_runner.specs.Held.{Held}
 use Rattle.peer_runner.specs.Keys.{IsFit, IsMadeFor}
-use Rattle.peer_runner.specs.Standings.{Taken, Touch, touch_of}
+use Rattle.peer_runner.specs.Standings.{Taken, Touch, touch_of, Deed, deed_by}
 use Rattle.peer_runner.specs.Actions.{Action, seen_by}
 use Rattle.peer_runner.specs.Interrupts.{all_words}
 use Rattle.peer_runner.specs.Rules.{added_to}
@@ -23,17 +23,17 @@ abbrev pub IsUnused : Key → Held → Type 0
 IsUnused key h = h.lists ≡ replicate key.geometry.peers []
 
 -- what a peer did to the words, by a pass that has all peers
-abbrev pub shown : List (Action Taken) → List (Action Touch)
-shown list = map (seen_by touch_of) list
+abbrev pub shown : List (Action (Deed Taken)) → List (Action (Deed Touch))
+shown list = map (seen_by (deed_by touch_of)) list
 
-abbrev pub actions_of : Held → ℕ → List (Action Touch)
+abbrev pub actions_of : Held → ℕ → List (Action (Deed Touch))
 actions_of h p = shown (get_or h.lists p [])
 
-abbrev pub held : TableId → ℕ → List (List (Action Taken)) → Held
+abbrev pub held : TableId → ℕ → List (List (Action (Deed Taken))) → Held
 held id from lists = record { table_id = id; from = from; lists = lists }
 
 -- the pass, with one action more of its first peer
-abbrev pub added : Held → Action Taken → Held
+abbrev pub added : Held → Action (Deed Taken) → Held
 added h t = held h.table_id h.from (added_to h.lists t)
 
 abbrev pub lower_pass : ℕ → Held → Held

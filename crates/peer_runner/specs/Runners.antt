@@ -1,22 +1,24 @@
 -- An automatic peer between two turns, as the code steps it: its place in the open call, where the own record has what is left of it.
-use Rattle.std.specs.Prelude.{ℕ, ◌≡◌, ◌+◌, ◌<◌, ◌≤◌, ◌&&◌, not, nat_lt, Bool, true, false, if◌then◌else◌, Option, Some, None, All, List, [], ◌∷◌, ◌++◌, length, map}
+use Rattle.std.specs.Prelude.{ℕ, ◌≡◌, ◌+◌, ◌<◌, ◌≤◌, ◌==◌, ◌&&◌, not, nat_lt, Bool, true, false, if◌then◌else◌, Option, Some, None, All, List, [], ◌∷◌, ◌++◌, length, map}
 use Rattle.split_ring.specs.declared.steps.Access.{Access}
 use Rattle.split_ring.specs.declared.steps.Access.TheVariants as access
 use Rattle.section_map.specs.Geometry.{word_count}
 use Rattle.section_map.specs.MayWrite.{MayWrite}
 use Rattle.call_grammar.specs.Steps.{Mark, Step}
-use Rattle.call_grammar.specs.Ends.{End, fresh, end_after}
+use Rattle.call_grammar.specs.Ends.{End, fresh, after_reset, end_after}
 use Rattle.call_grammar.specs.Calls.{Who, Call}
 use Rattle.call_grammar.specs.Calls as calls
 use Rattle.call_grammar.specs.Automatic.{Anew, AfterOffer, AfterPoll, choice_of}
 use Rattle.call_grammar.specs.Automatic as automatic
-use Rattle.call_grammar.specs.Places.{Place, Closed, remaining, first_place, access_at, next_place, step_at, marks_at, is_open}
+use Rattle.pair_sessions.specs.Numbers.{Numbers, no_numbers, numbers_after, numbers_reset, with_stored, with_loaded}
+use Rattle.call_grammar.specs.Places.{Place, Closed, Setting, remaining, first_place, access_at, next_place, step_at, marks_at, is_open}
 use Rattle.link_endpoint.specs.Engine.{Engine, is_busy}
 use Rattle.link_endpoint.specs.Stands.{StandsAt}
-use Rattle.link_endpoint.specs.Plan.{Plan, IsChoice}
+use Rattle.link_endpoint.specs.Plan.{IsChoice}
 use Rattle.link_endpoint.specs.declared.auto.Choice.{Choice}
 use Rattle.link_endpoint.specs.declared.auto.Choice.TheVariants.{Tick, Offer, Poll, Finished}
 use Rattle.lawful_history.specs.declared.line.Line.{Line}
+use Rattle.lawful_history.specs.declared.line.Line.TheVariants as line
 use Rattle.lawful_history.specs.Entries.{access_lines, mark_line}
 use Rattle.lawful_history.specs.Peers.{Auto, Chooses, Peer, counted_all}
 use Rattle.step_lines.specs.Plans.{IsPlanOf}
@@ -24,13 +26,16 @@ use Rattle.step_lines.specs.Places.{HasFrames}
 use Rattle.peer_runner.specs.declared.key.Key.{Key}
 use Rattle.peer_runner.specs.Held.{Held}
 use Rattle.peer_runner.specs.Keys.{who_in}
-use Rattle.peer_runner.specs.Standings.{Taken, taken, Wake, at_rest, wake_after, Stance, settled_place, accepted_by, delivered_by, standing}
+use Rattle.peer_runner.specs.Standings.{Taken, taken, Deed, called, numbered, carried, restarted, Nowhere, Wake, at_rest, wake_after, Stance, settled_place, standing}
 use Rattle.peer_runner.specs.Actions.{Action, accessed, looked, accesses_in}
 use Rattle.peer_runner.specs.Passes.{added}
 use Rattle.peer_runner.specs.Ways.{way_to, is_guarded, rung_by}
 use Rattle.peer_runner.specs.Interrupts.{MayRing}
-use Rattle.peer_runner.specs.Turns.{Turn, Looks, Makes, Clears, Rings, Running, sleeps, looks_after, is_end, is_set, cleared_by, lines_of, marks_of, told_in}
+use Rattle.peer_runner.specs.Turns.{Turn, Looks, Makes, Clears, Rings, Stores, Loads, Enters, Restarts, Running, sleeps, looks_after, spent, later, is_end, is_set, cleared_by, is_quiet, told_in}
+use Rattle.peer_runner.specs.declared.sessions.SessionWord.{SessionWord}
+use Rattle.peer_runner.specs.declared.sessions.SessionWord.TheVariants.{Own, Others}
 use Rattle.peer_runner.specs.declared.ways.Done.{Done}
+use Rattle.peer_runner.specs.declared.turns.AutoPeer.{AutoPeer}
 use Rattle.peer_runner.specs.declared.ways.Done.TheVariants.{Stepped, Cleared, Rung}
 use Rattle.doorbell_irq.specs.declared.route.Route.{Route}
 
@@ -38,30 +43,46 @@ use Rattle.doorbell_irq.specs.declared.route.Route.{Route}
 abbrev pub IsFrame : ℕ → List ℕ → Type 0
 IsFrame mtu frame = (14 ≤ length frame) × (length frame ≤ mtu + 18) × All (λ byte. byte < 256) frame
 
--- its end, its place in the open call, what it has to do, how many looks it has taken since its last step, whether a ring is to come, its list of actions, the
--- turns that it took, and which doorbells it asks for and didn't ring
+-- its end, its place in the open call, what it has to do, how many looks it has taken since its last step, whether a ring is to come, its sessions by their
+-- numbers, the number that it stored or loaded for the State step that comes next, the turns left of its span and those of the spans to come, its list of
+-- actions, the turns that it took, and which doorbells it asks for and didn't ring
 pub record Runner : Type 0 where
   pub end : End
   pub place : Place
   pub auto : Auto
   pub looks : ℕ
   pub ringing : Bool
-  pub actions : List (Action Taken)
+  pub numbers : Numbers
+  pub met : Option ℕ
+  pub spans : List ℕ
+  pub actions : List (Action (Deed Taken))
   pub turns : List Turn
   pub wake : Wake
 
 abbrev pub start_auto : List (List ℕ) → ℕ → Auto
 start_auto frames expected = record { frames = frames; expected = expected; delivered = 0; round = Anew }
 
-abbrev pub beginning : List (List ℕ) → ℕ → Runner
-beginning frames expected = record { end = fresh; place = Closed; auto = start_auto frames expected; looks = 0; ringing = false; actions = []; turns = []; wake = at_rest }
+abbrev pub beginning : List (List ℕ) → (expected : ℕ) → (spans : List ℕ) → Runner
+beginning frames expected spans = record {
+  end = fresh;
+  place = Closed;
+  auto = start_auto frames expected;
+  looks = 0;
+  ringing = false;
+  numbers = no_numbers;
+  met = None;
+  spans = spans;
+  actions = [];
+  turns = [];
+  wake = at_rest;
+}
 
 -- the peer of the own record
 abbrev pub peer_of : Who → Runner → Peer
 peer_of who r = record { end = r.end; left = remaining who r.place; waiting = []; driver = Chooses r.auto }
 
 abbrev pub running_of : Who → Runner → Running
-running_of who r = record { peer = peer_of who r; looks = r.looks; ringing = r.ringing }
+running_of who r = record { peer = peer_of who r; looks = r.looks; ringing = r.ringing; opened = r.numbers.log.opened; met = r.met; spans = r.spans }
 
 -- What it chooses where no call is open
 
@@ -149,10 +170,10 @@ touches (access.State state) = true
 touches (access.Ring target vector) = false
 touches access.Nothing = false
 
-abbrev pub taken_of : List Route → Option Call → Access → ℕ → List (Action Taken)
-taken_of routes begins (access.Read word) value = accessed (taken begins (access.Read word) value) ∷ []
-taken_of routes begins (access.Write word written) value = accessed (taken begins (access.Write word written) value) ∷ []
-taken_of routes begins (access.State state) value = accessed (taken begins (access.State state) value) ∷ []
+abbrev pub taken_of : List Route → Option Call → Access → ℕ → List (Action (Deed Taken))
+taken_of routes begins (access.Read word) value = accessed (called (taken begins (access.Read word) value)) ∷ []
+taken_of routes begins (access.Write word written) value = accessed (called (taken begins (access.Write word written) value)) ∷ []
+taken_of routes begins (access.State state) value = accessed (called (taken begins (access.State state) value)) ∷ []
 taken_of routes begins (access.Ring target vector) value = rung_by (way_to routes target vector) target
 taken_of routes begins access.Nothing value = []
 
@@ -163,7 +184,7 @@ MayMake key me (access.Write word value) = MayWrite key.geometry me word
 MayMake key me other = Unit {0}
 
 -- the pass with these actions more, of which there is one at most
-abbrev pub made : Held → List (Action Taken) → Held
+abbrev pub made : Held → List (Action (Deed Taken)) → Held
 made h [] = h
 made h (t ∷ more) = added h t
 
@@ -174,15 +195,20 @@ abbrev pub value_done : Done → ℕ
 value_done (Stepped value) = value
 value_done other = 0
 
-abbrev pub done_of : List Route → Option Call → Access → Done → List (Action Taken)
+abbrev pub done_of : List Route → Option Call → Access → Done → List (Action (Deed Taken))
 done_of routes begins a (Stepped value) = taken_of routes begins a value
 done_of routes begins a (Cleared found) = cleared_by a found
 done_of routes begins a Rung = taken_of routes begins a 0
 
-abbrev pub turn_of : (first : Bool) → Step → Done → Turn
-turn_of first step (Stepped value) = Makes first step
-turn_of first step (Cleared found) = Clears step found
-turn_of first step Rung = Rings step
+-- a State step with 3 bears the number of sessions opened and the number that was loaded
+abbrev pub stepped_turn : (first : Bool) → (opened : ℕ) → (met : Option ℕ) → Step → Access → Turn
+stepped_turn first opened (Some other) step (access.State state) = if state == 3 then Enters step opened other else Makes first step
+stepped_turn first opened met step _ = Makes first step
+
+abbrev pub turn_of : (first : Bool) → (opened : ℕ) → (met : Option ℕ) → Step → Done → Turn
+turn_of first opened met step (Stepped value) = stepped_turn first opened met step step.access
+turn_of first opened met step (Cleared found) = Clears step found
+turn_of first opened met step Rung = Rings step
 
 -- a clear is done first of a doorbell at a peer in one-shot mode, and then, where it found the bit, the ring
 abbrev pub IsDone : (ringing guarded : Bool) → Done → Type 0
@@ -190,11 +216,19 @@ IsDone ringing guarded (Stepped value) = (ringing ≡ false) × (guarded ≡ fal
 IsDone ringing guarded (Cleared found) = (ringing ≡ false) × (guarded ≡ true)
 IsDone ringing guarded Rung = (ringing ≡ true) × (guarded ≡ true)
 
--- the lines of it, with these marks
-abbrev pub done_lines : ℕ → (first : Bool) → Access → Done → List Mark → List Line
-done_lines p first a (Stepped value) marks = lines_of p first a value marks
-done_lines p first a (Cleared found) marks = access_lines p a 0 ++ map (mark_line p) marks
-done_lines p first a Rung marks = map (mark_line p) marks
+-- the lines of it, with these marks, where such numbers stand behind a State step with 3
+abbrev pub session_lines : ℕ → (opened : ℕ) → (met : Option ℕ) → Access → List Line
+session_lines p opened (Some other) (access.State state) = if state == 3 then line.Session p opened other ∷ [] else []
+session_lines p opened met _ = []
+
+abbrev pub stepped_lines : ℕ → (first : Bool) → (opened : ℕ) → (met : Option ℕ) → Access → ℕ → List Mark → List Line
+stepped_lines p first opened met a value marks =
+    if is_quiet first a marks then [] else access_lines p a value ++ session_lines p opened met a ++ map (mark_line p) marks
+
+abbrev pub done_lines : ℕ → (first : Bool) → (opened : ℕ) → (met : Option ℕ) → Access → Done → List Mark → List Line
+done_lines p first opened met a (Stepped value) marks = stepped_lines p first opened met a value marks
+done_lines p first opened met a (Cleared found) marks = access_lines p a 0 ++ map (mark_line p) marks
+done_lines p first opened met a Rung marks = map (mark_line p) marks
 
 -- and of a step without marks, whose access is no read
 abbrev pub drawn_lines : ℕ → Access → Done → List Line
@@ -207,7 +241,7 @@ holds_on (Cleared found) = is_set found
 holds_on other = false
 
 -- the ring of this doorbell may be made
-abbrev pub MayRingBy : List Route → Access → List (Action Taken) → Type 0
+abbrev pub MayRingBy : List Route → Access → List (Action (Deed Taken)) → Type 0
 MayRingBy routes (access.Ring target vector) list = (is_guarded (way_to routes target vector) ≡ true) × MayRing target list
 MayRingBy routes other list = ⊥
 
@@ -224,28 +258,81 @@ abbrev pub looks_now : Route → (due looks : ℕ) → Bool
 looks_now own due looks = own.enabled && nat_lt looks due
 
 abbrev pub looked_on : Runner → ℕ → Runner
-looked_on r found = record r { looks = looks_after r.looks found; actions = r.actions ++ looked found ∷ []; turns = r.turns ++ Looks found ∷ [] }
+looked_on r found = record r {
+  looks = looks_after r.looks found;
+  spans = spent r.spans;
+  actions = r.actions ++ looked found ∷ [];
+  turns = r.turns ++ Looks found ∷ [];
+}
+
+-- It meets a number for the State step to come, which is the next one: it stores the number of the session that it opens, or loads the other's
+
+-- the session word that it comes to before the State step with 2, or with 3, where it has met no number for it yet
+abbrev pub due_word : Place → Option ℕ → Option SessionWord
+due_word (Setting state) None = if state == 2 then Some Own else if state == 3 then Some Others else None
+due_word place met = None
+
+abbrev pub state_for : SessionWord → ℕ
+state_for Own = 2
+state_for Others = 3
+
+abbrev pub deed_met : {A : Type 0} → SessionWord → ℕ → Deed A
+deed_met Own number = numbered number
+deed_met Others number = carried number
+
+abbrev pub turn_met : SessionWord → ℕ → Turn
+turn_met Own number = Stores number
+turn_met Others number = Loads number
+
+abbrev pub numbers_met : SessionWord → Numbers → ℕ → Numbers
+numbers_met Own n number = with_stored n
+numbers_met Others n number = with_loaded n number
+
+abbrev pub met_on : SessionWord → Runner → ℕ → Runner
+met_on word r number = record r {
+  numbers = numbers_met word r.numbers number;
+  met = Some number;
+  spans = spent r.spans;
+  actions = r.actions ++ accessed (deed_met word number) ∷ [];
+  turns = r.turns ++ turn_met word number ∷ [];
+}
+
+-- it is reset
+abbrev pub restarted_on : Runner → Runner
+restarted_on r = record {
+  end = after_reset r.end;
+  place = Closed;
+  auto = record (r.auto) { round = Anew };
+  looks = 0;
+  ringing = false;
+  numbers = numbers_reset r.numbers r.end;
+  met = None;
+  spans = later r.spans;
+  actions = r.actions ++ accessed restarted ∷ [];
+  turns = r.turns ++ Restarts ∷ [];
+  wake = record (r.wake) { asked = Nowhere };
+}
 
 -- its step is the first of a call
 abbrev pub is_first : Runner → Bool
 is_first r = not (is_open r.place)
+
+-- the turn of a step
+abbrev pub turn_on : Who → Runner → Done → Turn
+turn_on who r done = turn_of (is_first r) r.numbers.log.opened r.met (step_at who (place_in who r) (value_done done)) done
 
 -- the step goes on, or is held for its ring
 abbrev pub held_on : List Route → Who → Runner → Done → Runner
 held_on routes who r done = record r {
   looks = 0;
   ringing = true;
+  spans = spent r.spans;
   actions = r.actions ++ done_of routes (call_chosen (chosen r)) (access_at who (place_in who r)) done;
-  turns = r.turns ++ turn_of (is_first r) (step_at who (place_in who r) (value_done done)) done ∷ [];
+  turns = r.turns ++ turn_on who r done ∷ [];
 }
 
--- all marks of turns
-unfoldable pub marks_in : List Turn → List Mark
-marks_in [] = []
-marks_in (turn ∷ turns) = marks_of turn ++ marks_in turns
-
 abbrev pub woken_on : Who → Runner → Done → Wake
-woken_on who r done = wake_after (length (accepted_by (marks_in r.turns))) (length (delivered_by (marks_in r.turns))) r.wake (access_at who (place_in who r))
+woken_on who r done = wake_after (length r.end.accepted) (length r.end.delivered) r.wake (access_at who (place_in who r))
     (marks_at who (place_in who r) (value_done done))
 
 abbrev pub stepped_on : List Route → Who → Runner → Done → Runner
@@ -255,8 +342,11 @@ stepped_on routes who r done = record {
   auto = counted_all (round_on r.auto (chosen r)) (marks_at who (place_in who r) (value_done done));
   looks = 0;
   ringing = false;
+  numbers = numbers_after r.numbers r.end (access_at who (place_in who r));
+  met = None;
+  spans = spent r.spans;
   actions = r.actions ++ done_of routes (call_chosen (chosen r)) (access_at who (place_in who r)) done;
-  turns = r.turns ++ turn_of (is_first r) (step_at who (place_in who r) (value_done done)) done ∷ [];
+  turns = r.turns ++ turn_on who r done ∷ [];
   wake = woken_on who r done;
 }
 
@@ -265,11 +355,16 @@ turned routes who r done = if holds_on done then held_on routes who r done else 
 
 -- the lines that it tells
 abbrev pub told_on : Who → Runner → Done → List Line
-told_on who r done = told_in who.me (turn_of (is_first r) (step_at who (place_in who r) (value_done done)) done)
+told_on who r done = told_in who.me (turn_on who r done)
 
 -- where its list leaves the runner
 abbrev pub stance_of : Runner → Stance
-stance_of r = record { end = r.end; place = settled_place r.place; accepted = accepted_by (marks_in r.turns); delivered = delivered_by (marks_in r.turns); wake = r.wake }
+stance_of r = record { end = r.end; place = settled_place r.place; numbers = r.numbers; wake = r.wake }
+
+-- what it met is what its session word holds, or what it loaded
+pub record HasMet (r : Runner) : Type 0 where
+  pub stored : (number : ℕ) → r.place ≡ Setting 2 → r.met ≡ Some number → r.numbers.stored ≡ true
+  pub loaded : (number : ℕ) → r.place ≡ Setting 3 → r.met ≡ Some number → r.numbers.loaded ≡ Some number
 
 -- the endpoint stands where the runner is, its list leaves it there, its frames may be offered, and a ring that is to come may be made
 pub record Stands (key : Key) (me : ℕ) (routes : List Route) (r : Runner) (end : Engine) : Type 0 where
@@ -278,6 +373,7 @@ pub record Stands (key : Key) (me : ℕ) (routes : List Route) (r : Runner) (end
   pub bytes : HasFrames r.place
   pub frames : All (IsFrame key.queue.mtu) r.auto.frames
   pub rings : r.ringing ≡ true → MayRingBy routes (access_at (who_in key me) r.place) r.actions
+  pub met : HasMet r
 
 -- the pass is that of this peer alone, with its list
 pub record IsThere (key : Key) (me : ℕ) (routes : List Route) (r : Runner) (pass : Held) (end : Engine) : Type 0 where
@@ -285,12 +381,19 @@ pub record IsThere (key : Key) (me : ℕ) (routes : List Route) (r : Runner) (pa
   pub from : pass.from ≡ me
   pub lists : pass.lists ≡ r.actions ∷ []
 
--- a turn is to come that is no look, for which this was chosen
-pub record Turns (key : Key) (me : ℕ) (routes : List Route) (r : Runner) (choice : Option Choice) (ringing : Bool)
-    (pass : Held) (plan : Plan) (end : Engine) : Type 0 where
-  pub there : IsThere key me routes r pass end
-  pub planned : IsPlanOf plan (round_on r.auto (chosen r))
-  pub matches : Matches choice plan.frames (chosen r)
-  pub closes : Closes choice (is_busy end)
+-- the code's peer is that of the runner
+pub record IsAutoPeer (auto_peer : AutoPeer) (r : Runner) : Type 0 where
+  pub planned : IsPlanOf auto_peer.auto r.auto
+  pub looks : auto_peer.looks ≡ r.looks
+  pub ringing : auto_peer.ringing ≡ r.ringing
+  pub opened : auto_peer.opened ≡ r.numbers.log.opened
+  pub met : auto_peer.met ≡ r.met
+
+-- a turn is to come that is no look and meets no number, for which this was chosen, with which the round went on
+pub record Turns (key : Key) (me : ℕ) (routes : List Route) (r : Runner) (choice : Option Choice) (pass : Held) (auto_peer : AutoPeer) : Type 0 where
+  pub there : IsThere key me routes r pass auto_peer.end
+  pub is : IsAutoPeer auto_peer (record r { auto = round_on r.auto (chosen r) })
+  pub matches : Matches choice auto_peer.auto.frames (chosen r)
+  pub closes : Closes choice (is_busy auto_peer.end)
   pub goes : has_finished r ≡ false
-  pub rings : r.ringing ≡ ringing
+  pub word : due_word r.place r.met ≡ None

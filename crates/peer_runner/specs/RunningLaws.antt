@@ -1,5 +1,5 @@
 -- What the rule says between any two accesses: of all peers, of each honest link peer whatever the other one stores, and of two honest ones. A part is stated
--- over the key, the words, the lists of accesses and one of the two link peers, p; the other one is 1 - p.
+-- over the key, the words, the lists of deeds and one of the two link peers, p; the other one is 1 - p.
 use Rattle.std.specs.Prelude.{ℕ, suc, ◌≡◌, ◌≢◌, ◌+◌, ◌-◌, ◌/◌, ◌%◌, ◌^◌, ◌<◌, ◌≤◌, ◌⊎◌, true, false, Option, Some, None, List, [], ◌∷◌, ◌++◌, length, slice_index, set, Contains}
 use Rattle.atomic_table.specs.Table.{State}
 use Rattle.section_map.specs.Geometry.{section_start, word_count}
@@ -17,26 +17,26 @@ use Rattle.call_grammar.specs.Places.{Place, Clearing, Setting, Refusing, AtUsed
 use Rattle.ends_pair.specs.Ground.{first_words}
 use Rattle.ends_pair.specs.Alone.{frame_at}
 use Rattle.ends_pair.specs.Pair.{freed_at, Attends, OpensNone, EitherAttends}
-use Rattle.pair_sessions.specs.Once.{IsStill}
+use Rattle.pair_sessions.specs.Numbers.{Numbers, WordIs, IsPaired}
 use Rattle.peer_runner.specs.declared.key.Key.{Key}
 use Rattle.peer_runner.specs.declared.view.View.{View}
 use Rattle.peer_runner.specs.Keys.{honest_of}
-use Rattle.peer_runner.specs.Standings.{At, Taken, standing, IsNext}
+use Rattle.peer_runner.specs.Standings.{At, Taken, Deed, called, standing, IsNext}
 use Rattle.peer_runner.specs.Made.{IsOwned, Made}
 use Rattle.peer_runner.specs.Actions.{Action}
 use Rattle.peer_runner.specs.Interrupts.{Interrupts}
-use Rattle.peer_runner.specs.Rules.{region, accesses_by, Memory, Kept}
-use Rattle.peer_runner.specs.ListSays.{last_written, last_state, has_written, sessions_opened, call_writes}
+use Rattle.peer_runner.specs.Rules.{region, session_words, accesses_by, Memory, Kept}
+use Rattle.peer_runner.specs.ListSays.{last_written, last_state, has_written, call_writes}
 
 -- The end and the place in which its list leaves a peer, and how many frames it has freed: one more with each id that it read
 
-abbrev pub end_by : Key → (ℕ → List Taken) → ℕ → End
+abbrev pub end_by : Key → (ℕ → List (Deed Taken)) → ℕ → End
 end_by key acc p = (standing key p (acc p)).end
 
-abbrev pub place_by : Key → (ℕ → List Taken) → ℕ → Place
+abbrev pub place_by : Key → (ℕ → List (Deed Taken)) → ℕ → Place
 place_by key acc p = (standing key p (acc p)).place
 
-abbrev pub freed_by : Key → (ℕ → List Taken) → ℕ → ℕ
+abbrev pub freed_by : Key → (ℕ → List (Deed Taken)) → ℕ → ℕ
 freed_by key acc p = freed_at (end_by key acc p).freed (place_by key acc p)
 
 -- a session is open
@@ -50,25 +50,25 @@ section_words key memory p w = memory (section_start key.geometry p + w)
 -- Where a part holds: in each state of the table that the rule keeps, of each honest link peer; where both are honest, of each of the two; and there as soon
 -- as either attends to the other's session, in RUN or about to set it
 
-abbrev pub OfEachHonest : (Key → (ℕ → ℕ) → (ℕ → List Taken) → ℕ → Type 0) → Type 0
+abbrev pub OfEachHonest : (Key → (ℕ → ℕ) → (ℕ → List (Deed Taken)) → ℕ → Type 0) → Type 0
 OfEachHonest Part = (key : Key) (s : State ℕ View) (kept : Kept key s) (p : ℕ) → honest_of key p ≡ true → Part key (region key s.words) (accesses_by kept.acc) p
 
-abbrev pub OfTwoHonest : (Key → (ℕ → ℕ) → (ℕ → List Taken) → ℕ → Type 0) → Type 0
+abbrev pub OfTwoHonest : (Key → (ℕ → ℕ) → (ℕ → List (Deed Taken)) → ℕ → Type 0) → Type 0
 OfTwoHonest Part = (key : Key) (s : State ℕ View) (kept : Kept key s) (p : ℕ) → honest_of key 0 ≡ true → honest_of key 1 ≡ true → p < 2 →
     Part key (region key s.words) (accesses_by kept.acc) p
 
-abbrev pub WhereEitherAttends : (Key → (ℕ → ℕ) → (ℕ → List Taken) → ℕ → Type 0) → Key → (ℕ → ℕ) → (ℕ → List Taken) → ℕ → Type 0
+abbrev pub WhereEitherAttends : (Key → (ℕ → ℕ) → (ℕ → List (Deed Taken)) → ℕ → Type 0) → Key → (ℕ → ℕ) → (ℕ → List (Deed Taken)) → ℕ → Type 0
 WhereEitherAttends Part key memory acc p = EitherAttends (end_by key acc) (place_by key acc) p → Part key memory acc p
 
 -- Of all peers
 
--- the words of the region are what the accesses of the lists, one after another in some order, made of them
+-- the words of the region and of the sessions are what the deeds of the lists, one after another in some order, made of them
 abbrev pub WordsAreMade : Type 0
-WordsAreMade = (key : Key) (s : State ℕ View) (kept : Kept key s) → Made key (region key s.words) (accesses_by kept.acc)
+WordsAreMade = (key : Key) (s : State ℕ View) (kept : Kept key s) → Made key (region key s.words) (session_words key s.words) (accesses_by kept.acc)
 
 -- each store in a list is to a word that its peer may write
 abbrev pub StoresAreOwned : Type 0
-StoresAreOwned = (key : Key) (s : State ℕ View) (kept : Kept key s) (p : ℕ) (t : Taken) → Contains (accesses_by kept.acc p) t → IsOwned key p t.access
+StoresAreOwned = (key : Key) (s : State ℕ View) (kept : Kept key s) (p : ℕ) (t : Taken) → Contains (accesses_by kept.acc p) (called t) → IsOwned key p t.access
 
 -- Of each peer and each bit: no more looks found it than rings set it, and one ring fewer where it is set now. Of each peer's Interrupt Control: its bit and
 -- the clears that found it set are as many as before any action. And at a one-shot peer each ring stands behind such a clear of the same list
@@ -78,17 +78,17 @@ InterruptsAreRung = (key : Key) (s : State ℕ View) (kept : Kept key s) → Int
 -- Of each honest link peer
 
 -- each access in its list is the next one of its calls, where the accesses before it had left the peer
-pub record AccessesAreCalls (key : Key) (memory : ℕ → ℕ) (acc : ℕ → List Taken) (p : ℕ) : Type 0 where
-  pub next : (front back : List Taken) (t : Taken) → acc p ≡ front ++ t ∷ back → IsNext key p (standing key p front) t.begins t.access
+pub record AccessesAreCalls (key : Key) (memory : ℕ → ℕ) (acc : ℕ → List (Deed Taken)) (p : ℕ) : Type 0 where
+  pub next : (front back : List (Deed Taken)) (t : Taken) → acc p ≡ front ++ called t ∷ back → IsNext key p (standing key p front) t.begins t.access
 
--- each word of its section, and its state word, is what its list wrote last, or 0
-pub record WordsAreWritten (key : Key) (memory : ℕ → ℕ) (acc : ℕ → List Taken) (p : ℕ) : Type 0 where
+-- each word of its section, and its state word, is what its list wrote last, or 0; a reset writes 0 in its state word
+pub record WordsAreWritten (key : Key) (memory : ℕ → ℕ) (acc : ℕ → List (Deed Taken)) (p : ℕ) : Type 0 where
   pub section : (w : ℕ) → InSection key.geometry p w → memory w ≡ last_written (acc p) w
   pub state : memory p ≡ last_state (acc p)
 
--- In RESET it wrote no word after its last write of State. While a tick clears its section it is in INIT, and the words that were cleared, from the first on,
+-- In RESET it wrote no word after its last write of State, or its last reset. While a tick clears its section it is in INIT, and the words that were cleared, from the first on,
 -- are 0; as the tick is about to set READY, all of them are. In READY the section is 0, and nothing is listed or counted
-pub record PhasesShow (key : Key) (memory : ℕ → ℕ) (acc : ℕ → List Taken) (p : ℕ) : Type 0 where
+pub record PhasesShow (key : Key) (memory : ℕ → ℕ) (acc : ℕ → List (Deed Taken)) (p : ℕ) : Type 0 where
   pub reset : (end_by key acc p).handshake.phase ≡ Reset → has_written (acc p) ≡ false
   pub clears : (at more state : ℕ) → place_by key acc p ≡ Clearing at more state → ((end_by key acc p).handshake.phase ≡ Init) ×
       ((cleared : ℕ) × (at ≡ section_start key.geometry p + cleared) × ((j : ℕ) → j < cleared → section_words key memory p j ≡ 0))
@@ -99,7 +99,7 @@ pub record PhasesShow (key : Key) (memory : ℕ → ℕ) (acc : ℕ → List Tak
       ((end_by key acc p).accepted ≡ []) × ((end_by key acc p).freed ≡ 0) × ((end_by key acc p).delivered ≡ []) × ((end_by key acc p).returned ≡ 0)
 
 -- no more frames are in flight than may be; and in a session each of them is spelled, in the descriptor of its number and from the byte at which it starts
-pub record FlightIsSpelled (key : Key) (memory : ℕ → ℕ) (acc : ℕ → List Taken) (p : ℕ) : Type 0 where
+pub record FlightIsSpelled (key : Key) (memory : ℕ → ℕ) (acc : ℕ → List (Deed Taken)) (p : ℕ) : Type 0 where
   pub least : freed_by key acc p ≤ length (end_by key acc p).accepted
   pub most : length (end_by key acc p).accepted ≤ freed_by key acc p + limit_of key.queue
   pub spelled : (k : ℕ) → InSession (end_by key acc p).handshake.phase → freed_by key acc p ≤ k → k < length (end_by key acc p).accepted →
@@ -133,7 +133,7 @@ IsOfFrame key p job w =
 
 -- An open offer is of the frame after those accepted. It has stored in the bytes that this frame takes, in the descriptor and in the entry of its number alone;
 -- and as soon as it has stored anything, no frame in flight has that descriptor or any of those bytes
-pub record OfferStores (key : Key) (acc : ℕ → List Taken) (p : ℕ) (job : Job) : Type 0 where
+pub record OfferStores (key : Key) (acc : ℕ → List (Deed Taken)) (p : ℕ) (job : Job) : Type 0 where
   pub number : job.number ≡ length (end_by key acc p).accepted
   pub lengths : job.lengths ≡ lengths_of ((end_by key acc p).accepted ++ job.frame ∷ [])
   pub stores : (w : ℕ) → Contains (call_writes (acc p)) w → IsOfFrame key p job w
@@ -142,7 +142,7 @@ pub record OfferStores (key : Key) (acc : ℕ → List Taken) (p : ℕ) (job : J
   pub apart : (k : ℕ) → call_writes (acc p) ≢ [] → freed_by key acc p ≤ k → k < length (end_by key acc p).accepted →
       AreApart (start_of key.queue job.lengths k) (takes_of key.queue (job.lengths k)) (start_of key.queue job.lengths job.number) (takes_of key.queue (length job.frame))
 
-abbrev pub OpenOfferStores : Key → (ℕ → ℕ) → (ℕ → List Taken) → ℕ → Type 0
+abbrev pub OpenOfferStores : Key → (ℕ → ℕ) → (ℕ → List (Deed Taken)) → ℕ → Type 0
 OpenOfferStores key memory acc p = (job : Job) → offered_at (place_by key acc p) ≡ Some job → OfferStores key acc p job
 
 -- the index that an open poll has read stands for so many frames: at most as many more than were delivered as the queue has places
@@ -166,35 +166,49 @@ IsInRange q end (GivingLength number more) = IsPublished q end (number + suc mor
 IsInRange q end (GivingIndex number more) = IsPublished q end (number + suc more)
 IsInRange q end place = Unit {0}
 
-abbrev pub HeldIsInRange : Key → (ℕ → ℕ) → (ℕ → List Taken) → ℕ → Type 0
+abbrev pub HeldIsInRange : Key → (ℕ → ℕ) → (ℕ → List (Deed Taken)) → ℕ → Type 0
 HeldIsInRange key memory acc p = IsInRange key.queue (end_by key acc p) (place_by key acc p)
+
+-- its sessions by their numbers
+abbrev pub numbers_by : Key → (ℕ → List (Deed Taken)) → ℕ → Numbers
+numbers_by key acc p = (standing key p (acc p)).numbers
+
+-- Its session word is the number of sessions that it opened, or one more, which it stored since, and then it is in RESET or INIT; so in READY and RUN it is the
+-- number opened
+pub record SessionWordIs (key : Key) (words : ℕ → ℕ) (acc : ℕ → List (Deed Taken)) (p : ℕ) : Type 0 where
+  pub word : WordIs (end_by key acc p) (numbers_by key acc p) (words p)
+  pub opened : InSession (end_by key acc p).handshake.phase → words p ≡ (numbers_by key acc p).log.opened
+
+abbrev pub SessionWordsAreNumbers : Type 0
+SessionWordsAreNumbers = (key : Key) (s : State ℕ View) (kept : Kept key s) (p : ℕ) → honest_of key p ≡ true →
+    SessionWordIs key (session_words key s.words) (accesses_by kept.acc) p
+
+-- the session word of a hostile link peer stays 0
+abbrev pub HostileSessionsAreNone : Type 0
+HostileSessionsAreNone = (key : Key) (s : State ℕ View) (kept : Kept key s) (p : ℕ) → p < 2 → honest_of key p ≡ false → session_words key s.words p ≡ 0
 
 -- Of two honest link peers
 
+-- The sessions of each that reached RUN carry numbers of the other's sessions, which rise; while it is in RUN the number is that of the session which the other
+-- opened last; each delivered a beginning of what was accepted in the session that it carries; and before it attends again the other has opened a later one
+abbrev pub SessionsArePaired : Type 0
+SessionsArePaired = (key : Key) (s : State ℕ View) (kept : Kept key s) (p : ℕ) → honest_of key 0 ≡ true → honest_of key 1 ≡ true → p < 2 →
+    IsPaired (end_by key (accesses_by kept.acc) p) (end_by key (accesses_by kept.acc) (1 - p)) (place_by key (accesses_by kept.acc) p)
+    (place_by key (accesses_by kept.acc) (1 - p)) (numbers_by key (accesses_by kept.acc) p) (numbers_by key (accesses_by kept.acc) (1 - p))
+    (session_words key s.words p)
+
 -- neither is at a refusal or bears its mark
-pub record NeverRefuses (key : Key) (memory : ℕ → ℕ) (acc : ℕ → List Taken) (p : ℕ) : Type 0 where
+pub record NeverRefuses (key : Key) (memory : ℕ → ℕ) (acc : ℕ → List (Deed Taken)) (p : ℕ) : Type 0 where
   pub place : place_by key acc p ≢ Refusing
   pub mark : (end_by key acc p).handshake.mark ≡ false
 
 -- while one attends to the other's session, in RUN or about to set it, the other isn't in INIT, nor about to set it
-abbrev pub OtherOpensNone : Key → (ℕ → ℕ) → (ℕ → List Taken) → ℕ → Type 0
+abbrev pub OtherOpensNone : Key → (ℕ → ℕ) → (ℕ → List (Deed Taken)) → ℕ → Type 0
 OtherOpensNone key memory acc p = Attends (end_by key acc p) (place_by key acc p) → OpensNone (end_by key acc (1 - p)) (place_by key acc (1 - p))
-
--- It opened at most one session, in which it is in READY or RUN ever after, and before which no frame is listed; all frames that it accepted and delivered are
--- those of this session. No open tick takes it back to RESET; and while it is in RESET, the other is in RESET too, or in INIT and not on its way to READY
-pub record OneSession (key : Key) (memory : ℕ → ℕ) (acc : ℕ → List Taken) (p : ℕ) : Type 0 where
-  pub most : sessions_opened (acc p) ≤ 1
-  pub opened : sessions_opened (acc p) ≡ 1 → InSession (end_by key acc p).handshake.phase
-  pub counted : InSession (end_by key acc p).handshake.phase → sessions_opened (acc p) ≡ 1
-  pub none : sessions_opened (acc p) ≡ 0 → ((end_by key acc p).accepted ≡ []) × ((end_by key acc p).delivered ≡ [])
-  pub all : ((standing key p (acc p)).accepted ≡ (end_by key acc p).accepted) × ((standing key p (acc p)).delivered ≡ (end_by key acc p).delivered)
-  pub up : place_by key acc p ≢ Setting 0
-  pub low : (end_by key acc p).handshake.phase ≡ Reset →
-      ((end_by key acc (1 - p)).handshake.phase ≡ Reset) ⊎ (((end_by key acc (1 - p)).handshake.phase ≡ Init) × IsStill (place_by key acc (1 - p)))
 
 -- No fewer frames are returned than freed, delivered than returned and accepted than delivered, and no more are in flight than may be; the frames delivered are
 -- the first ones accepted; each frame from those freed on is spelled; and the used elements from those freed to those returned name the descriptors in order
-pub record PairKeeps (key : Key) (memory : ℕ → ℕ) (acc : ℕ → List Taken) (p : ℕ) : Type 0 where
+pub record PairKeeps (key : Key) (memory : ℕ → ℕ) (acc : ℕ → List (Deed Taken)) (p : ℕ) : Type 0 where
   pub returned : freed_by key acc p ≤ (end_by key acc (1 - p)).returned
   pub delivered : (end_by key acc (1 - p)).returned ≤ length (end_by key acc (1 - p)).delivered
   pub accepted : length (end_by key acc (1 - p)).delivered ≤ length (end_by key acc p).accepted
@@ -206,7 +220,7 @@ pub record PairKeeps (key : Key) (memory : ℕ → ℕ) (acc : ℕ → List Take
       id_at key.queue (section_words key memory (1 - p)) k ≡ k % limit_of key.queue
 
 -- In a link with events: where one asks for a doorbell at a frame, the other's offer of that frame, once it has read the event, goes on to the doorbell
-abbrev pub AskedIsRung : Key → (ℕ → ℕ) → (ℕ → List Taken) → ℕ → Type 0
+abbrev pub AskedIsRung : Key → (ℕ → ℕ) → (ℕ → List (Deed Taken)) → ℕ → Type 0
 AskedIsRung key memory acc p = has_events key.queue ≡ true → (number : ℕ) → (standing key p (acc p)).wake.asked ≡ At number →
     ¬ Contains (standing key (1 - p) (acc (1 - p))).wake.missed number
 
@@ -231,7 +245,7 @@ IsAsSent q accepted returned (GivingLength number more) = number + suc more ≤ 
 IsAsSent q accepted returned (GivingIndex number more) = number + suc more ≤ length accepted
 IsAsSent q accepted returned place = Unit {0}
 
-abbrev pub HeldIsAsSent : Key → (ℕ → ℕ) → (ℕ → List Taken) → ℕ → Type 0
+abbrev pub HeldIsAsSent : Key → (ℕ → ℕ) → (ℕ → List (Deed Taken)) → ℕ → Type 0
 HeldIsAsSent key memory acc p = IsAsSent key.queue (end_by key acc (1 - p)).accepted (end_by key acc (1 - p)).returned (place_by key acc p)
 
 -- Beside a hostile link peer
@@ -242,4 +256,4 @@ pub record HostileWordsAreFree : Type 0 where
   pub below : (key : Key) (s : State ℕ View) (kept : Kept key s) (w : ℕ) → w < word_count key.geometry → slice_index s.words w < 2 ^ 32
   pub free : (key : Key) (s : State ℕ View) (kept : Kept key s) (p w n : ℕ) → p < key.geometry.peers → honest_of key p ≡ false →
       InSection key.geometry p w ⊎ (w ≡ p) → n < 2 ^ 32 →
-      (acc : ℕ → List (Action Taken)) × Memory key (set s.words w n) acc × ((q : ℕ) → q ≢ p → acc q ≡ kept.acc q)
+      (acc : ℕ → List (Action (Deed Taken))) × Memory key (set s.words w n) acc × ((q : ℕ) → q ≢ p → acc q ≡ kept.acc q)

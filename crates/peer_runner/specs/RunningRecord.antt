@@ -1,8 +1,12 @@
--- The running record of a scenario: an own record for each running peer, by the list of its actions; of all, that no interrupt came unrung; and of two
--- honest link peers, that each delivered a beginning of what the other accepted, and rang where the other asked. It says nothing of an order between peers.
-use Rattle.std.specs.Prelude.{ℕ, zero, suc, ◌≡◌, ◌+◌, ◌-◌, ◌<◌, ◌≤◌, ◌==◌, ◌&&◌, ◌||◌, Bool, true, false, if◌then◌else◌, All, Contains, List, [], ◌∷◌, ◌++◌}
+-- The running record of a scenario: an own record for each running peer, by the list of its actions; of all, that no interrupt came unrung; of two honest link
+-- peers, that each delivered in each session a beginning of what the other accepted in the session that it carries, and rang where the other asked; and of one
+-- beside a hostile peer, that its sessions carry none. It says nothing of an order between peers.
+use Rattle.std.specs.Prelude.{ℕ, zero, suc, ◌≡◌, ◌+◌, ◌-◌, ◌<◌, ◌≤◌, ◌==◌, ◌&&◌, ◌||◌, Bool, true, false, if◌then◌else◌, All, Contains, List, [], ◌∷◌, ◌++◌, length}
 use Rattle.std.specs.List.{flat_map, list_any}
 use Rattle.split_ring.specs.Layout.{has_events}
+use Rattle.link_handshake.specs.PhaseTable.{phase_at, state_of}
+use Rattle.link_machine.specs.LinkMachine.{Side, fresh_side, Told, Wrote, WasReset, Log, no_sessions, log_after, DeliversInOrder}
+use Rattle.pair_sessions.specs.Numbers.{own_side}
 use Rattle.doorbell_irq.specs.DeviceRules.{is_one_shot, bytes_after}
 use Rattle.doorbell_irq.specs.Routes.{is_intx}
 use Rattle.lawful_history.specs.Device.{devices_of}
@@ -12,7 +16,8 @@ use Rattle.lawful_history.specs.declared.line.Line.{Line}
 use Rattle.lawful_history.specs.declared.line.Line.TheVariants as line
 use Rattle.record_text.specs.Parts.{Part, peers_of, running_peers}
 use Rattle.peer_runner.specs.Held.{Held}
-use Rattle.peer_runner.specs.Standings.{Asked, Nowhere, Asking, At}
+use Rattle.peer_runner.specs.Standings.{Asked, Nowhere, Asking, At, Stance}
+use Rattle.peer_runner.specs.Rules.{CarriesNone}
 use Rattle.peer_runner.specs.Passes.{actions_of}
 use Rattle.peer_runner.specs.Ways.{events_of}
 use Rattle.peer_runner.specs.OwnRecord.{IsOwnRecord}
@@ -24,43 +29,31 @@ lines_if p part = if part.peer == p then part.lines else []
 unfoldable pub lines_by : List Part → ℕ → List Line
 lines_by parts p = flat_map (lines_if p) parts
 
--- the frames that lines accept and deliver
-abbrev pub accepted_on : Line → List (List ℕ)
-accepted_on (line.Accept peer frame) = frame ∷ []
-accepted_on _ = []
-
-abbrev pub delivered_on : Line → List (List ℕ)
-delivered_on (line.Deliver peer frame) = frame ∷ []
-delivered_on _ = []
-
-unfoldable pub accepted_in : List Line → List (List ℕ)
-accepted_in lines = flat_map accepted_on lines
-
-unfoldable pub delivered_in : List Line → List (List ℕ)
-delivered_in lines = flat_map delivered_on lines
-
 abbrev pub refuses : Line → Bool
 refuses (line.Refuse peer refused) = true
 refuses _ = false
 
--- the frames that each of two honest peers delivered begin those that the other accepted, and neither refused anything
-pub record ArePaired (parts : List Part) : Type 0 where
-  pub deliver : (p : ℕ) → p < 2 → (rest : List (List ℕ)) × (accepted_in (lines_by parts (1 - p)) ≡ delivered_in (lines_by parts p) ++ rest)
-  pub never_refuse : (p : ℕ) → p < 2 → list_any refuses (lines_by parts p) ≡ false
-
--- Doorbells that were asked for, and frames for which none was rung
-
--- what the lines of a peer tell of it: how many frames it accepted and delivered; where it asks for a doorbell; the numbers of the frames, from 0, for which it
--- rang none; and whether its last line is a read
+-- What the lines of a peer tell of it: its state, the frames that it accepted and delivered in its present session, and the log of its sessions; where it asks
+-- for a doorbell, and the numbers of the frames of the session, from 0, for which it rang none; and whether its last line is a read
 pub record Telling : Type 0 where
-  pub accepted : ℕ
-  pub delivered : ℕ
+  pub state : ℕ
+  pub accepted : List (List ℕ)
+  pub delivered : List (List ℕ)
+  pub log : Log
   pub asked : Asked
   pub missed : List ℕ
   pub read : Bool
 
 abbrev pub untold : Telling
-untold = record { accepted = 0; delivered = 0; asked = Nowhere; missed = []; read = false }
+untold = record { state = 0; accepted = []; delivered = []; log = no_sessions; asked = Nowhere; missed = []; read = false }
+
+-- the peer as a side of the link, by what its sessions depend on
+abbrev pub side_in : Telling → Side
+side_in t = record fresh_side { state = t.state; accepted = t.accepted; delivered = t.delivered }
+
+-- its log after a State step or a reset. One with 3 is told with the number that it carries in the line behind it
+abbrev pub log_in : Telling → Told → Log
+log_in t told = log_after t.log no_sessions (side_in t) told
 
 -- a poll that looks and finds nothing writes its event and looks again; where it finds nothing then, it has asked for a doorbell at the next frame
 abbrev pub asked_now : (delivered : ℕ) → Asked → (count : ℕ) → Asked
@@ -71,14 +64,34 @@ asked_now delivered was (suc more) = was
 
 -- a call that is over right after a read is an offer, of the frame accepted last: it read an event that doesn't ask for this frame, and rang no doorbell
 abbrev pub missed_now : Telling → List ℕ
-missed_now t = if t.read then t.missed ++ (t.accepted - 1) ∷ [] else t.missed
+missed_now t = if t.read then t.missed ++ (length t.accepted - 1) ∷ [] else t.missed
+
+-- a value that is none of the four states is that of RESET, as the handshake takes it; and one of 2 opens a session
+abbrev pub state_told : Telling → ℕ → Telling
+state_told t value = record {
+  state = state_of (phase_at value);
+  accepted = if value == 2 then [] else t.accepted;
+  delivered = if value == 2 then [] else t.delivered;
+  log = log_in t (Wrote value);
+  asked = Nowhere;
+  missed = if value == 2 then [] else t.missed;
+  read = false;
+}
+
+abbrev pub reset_told : Telling → Telling
+reset_told t = record t { state = 0; log = log_in t WasReset; asked = Nowhere; read = false }
+
+abbrev pub with_carried : Log → ℕ → Log
+with_carried log other = record log { carried = other }
 
 abbrev pub tells : Telling → Line → Telling
 tells t (line.Read p word value) = record t { read = true }
-tells t (line.State p value) = record t { asked = Nowhere; read = false }
-tells t (line.Accept p frame) = record t { accepted = t.accepted + 1; read = false }
-tells t (line.Deliver p frame) = record t { delivered = t.delivered + 1; read = false }
-tells t (line.Look p count) = record t { asked = asked_now t.delivered t.asked count; read = false }
+tells t (line.State p value) = state_told t value
+tells t (line.Reset p) = reset_told t
+tells t (line.Session p opened other) = record t { log = with_carried t.log other; read = false }
+tells t (line.Accept p frame) = record t { accepted = t.accepted ++ frame ∷ []; read = false }
+tells t (line.Deliver p frame) = record t { delivered = t.delivered ++ frame ∷ []; read = false }
+tells t (line.Look p count) = record t { asked = asked_now (length t.delivered) t.asked count; read = false }
 tells t (line.Over p) = record t { missed = missed_now t; read = false }
 tells t _ = record t { read = false }
 
@@ -89,9 +102,30 @@ tells_all t (line ∷ lines) = tells_all (tells t line) lines
 abbrev pub telling_in : List Line → Telling
 telling_in lines = tells_all untold lines
 
+-- the lines tell just this of where a peer stands
+pub record IsTold (s : Stance) (t : Telling) : Type 0 where
+  pub side : side_in t ≡ own_side s.end
+  pub log : t.log ≡ s.numbers.log
+  pub asked : t.asked ≡ s.wake.asked
+  pub missed : t.missed ≡ s.wake.missed
+
+abbrev pub telling_of : List Part → ℕ → Telling
+telling_of parts p = telling_in (lines_by parts p)
+
+-- Of two honest peers: the sessions of each that reached RUN carry sessions of the other's by their numbers, which rise; in each it delivered a beginning of what
+-- the other accepted in the session that it carries; and neither refused anything
+pub record ArePaired (parts : List Part) : Type 0 where
+  pub deliver : (p : ℕ) → p < 2 → DeliversInOrder (side_in (telling_of parts p)) (side_in (telling_of parts (1 - p))) (telling_of parts p).log
+      (telling_of parts (1 - p)).log
+  pub never_refuse : (p : ℕ) → p < 2 → list_any refuses (lines_by parts p) ≡ false
+
+-- of an honest peer beside a hostile one: its sessions carry none of the other's
+abbrev pub CarryNone : World → List Part → Type 0
+CarryNone world parts = (p : ℕ) → p < 2 → is_link world p ≡ true → is_link world (1 - p) ≡ false → CarriesNone (telling_of parts p).log
+
 -- where a peer that asked for a doorbell last asked at a frame, and wrote no event since, the other's offer of that frame didn't end without one
 abbrev pub AreWoken : List Part → Type 0
-AreWoken parts = (p number : ℕ) → p < 2 → (telling_in (lines_by parts p)).asked ≡ At number → ¬ Contains (telling_in (lines_by parts (1 - p))).missed number
+AreWoken parts = (p number : ℕ) → p < 2 → (telling_of parts p).asked ≡ At number → ¬ Contains (telling_of parts (1 - p)).missed number
 
 -- Interrupts that came, and doorbells that may have brought them
 
@@ -130,4 +164,5 @@ pub record IsRunOf (world : World) (h : Held) (parts : List Part) : Type 0 where
   pub idle : (p : ℕ) → has_turn world.acts p ≡ false → actions_of h p ≡ []
   pub heard : AreHeard world parts
   pub paired : is_link world 0 ≡ true → is_link world 1 ≡ true → ArePaired parts
+  pub beside : CarryNone world parts
   pub woken : has_events world.queue ≡ true → is_link world 0 ≡ true → is_link world 1 ≡ true → AreWoken parts

@@ -1,5 +1,5 @@
 -- The turns of a running peer.
-use Rattle.std.specs.Prelude.{ℕ, zero, suc, ◌≡◌, ◌+◌, ◌==◌, ◌&&◌, nat_lt, Bool, true, false, if◌then◌else◌, List, [], ◌∷◌, ◌++◌, map}
+use Rattle.std.specs.Prelude.{ℕ, zero, suc, ◌≡◌, ◌≢◌, ◌+◌, ◌-◌, ◌==◌, ◌&&◌, nat_lt, Bool, true, false, if◌then◌else◌, Option, Some, None, List, [], ◌∷◌, ◌++◌, length, map, sum}
 use Rattle.std.specs.List.{flat_map}
 use Rattle.std.specs.Int.{bit_at}
 use Rattle.split_ring.specs.declared.steps.Access.{Access}
@@ -13,30 +13,61 @@ use Rattle.link_endpoint.specs.Stands.{is_armed}
 use Rattle.lawful_history.specs.declared.line.Line.{Line}
 use Rattle.lawful_history.specs.declared.line.Line.TheVariants as line
 use Rattle.lawful_history.specs.Entries.{access_lines, mark_line}
-use Rattle.lawful_history.specs.Peers.{Auto, Driver, Chooses, Storms, Peer, opened, stepped}
+use Rattle.lawful_history.specs.Peers.{Auto, Driver, Chooses, Storms, Peer, opened, stepped, was_reset}
 use Rattle.lawful_history.specs.Storm.{storm_after}
 use Rattle.doorbell_irq.specs.declared.route.Route.{Route}
-use Rattle.peer_runner.specs.Standings.{Touch, touch}
+use Rattle.peer_runner.specs.Standings.{Touch, touch, Deed, called, numbered, carried, restarted}
 use Rattle.peer_runner.specs.Actions.{Action, accessed, looked, cleared}
 use Rattle.peer_runner.specs.Ways.{route_to, way_to, is_guarded, way_in, rung_by}
 
--- A turn: a look, which finds this word; a step with all that it does, which is the first of its call or a later one; and of the step of a doorbell at a peer
--- in one-shot mode the clear, which finds this word, and the ring behind it
+-- A turn: a look, which finds this word; a step with all that it does, which is the first of its call or a later one; of the step of a doorbell at a peer in
+-- one-shot mode the clear, which finds this word, and the ring behind it; a store of the session word, and a load of the other's, which finds this number; the
+-- State step with 3 of an honest peer, which has opened so many sessions and carries this number; and the reset of the peer
 pub data Turn : Type 0 where
   Looks : (found : ℕ) → Turn
   Makes : (first : Bool) → (step : Step) → Turn
   Clears : (step : Step) → (found : ℕ) → Turn
   Rings : (step : Step) → Turn
+  Stores : (number : ℕ) → Turn
+  Loads : (number : ℕ) → Turn
+  Enters : (step : Step) → (opened other : ℕ) → Turn
+  Restarts : Turn
 
 -- A running peer between two turns: its end, its calls and its driver; how many looks it has taken since its last step, or 64 where one of them found a bit;
--- and whether the ring of a doorbell is to come, whose clear found the bit
+-- whether the ring of a doorbell is to come, whose clear found the bit; how many sessions it opened; the number that it stored or loaded for the State step that
+-- comes next; and how many turns are left of its span, before those of the spans to come
 pub record Running : Type 0 where
   pub peer : Peer
   pub looks : ℕ
   pub ringing : Bool
+  pub opened : ℕ
+  pub met : Option ℕ
+  pub spans : List ℕ
 
-abbrev pub comes_to : Peer → Running
-comes_to peer = record { peer = peer; looks = 0; ringing = false }
+abbrev pub comes_to : Peer → List ℕ → Running
+comes_to peer spans = record { peer = peer; looks = 0; ringing = false; opened = 0; met = None; spans = spans }
+
+-- all turns of a peer with these spans, and with a reset between each two
+abbrev pub all_turns : List ℕ → ℕ
+all_turns spans = sum spans + (length spans - 1)
+
+-- a turn is left of the span; and the spans after it
+abbrev pub has_turn_left : List ℕ → Bool
+has_turn_left [] = false
+has_turn_left (turns ∷ spans) = nat_lt 0 turns
+
+abbrev pub spent : List ℕ → List ℕ
+spent [] = []
+spent (turns ∷ spans) = (turns - 1) ∷ spans
+
+-- none is left of it, and another span follows; and the spans from that one on
+abbrev pub IsSpanSpent : List ℕ → Type 0
+IsSpanSpent (zero ∷ next ∷ spans) = Unit {0}
+IsSpanSpent spans = ⊥
+
+abbrev pub later : List ℕ → List ℕ
+later [] = []
+later (turns ∷ spans) = spans
 
 -- Which turn is to come
 
@@ -67,29 +98,46 @@ pub record StepsTo (who : Who) (storm : ℕ → Step) (routes : List Route) (run
   pub guards : is_guarded (way_in routes step.access) ≡ guarded
   pub takes : TakesStep who storm run.peer.driver run.peer step after
 
+-- the State step with this value, of a peer that chooses its calls
+abbrev pub sets : ℕ → Driver → Access → Bool
+sets state (Chooses auto) (access.State value) = value == state
+sets state _ _ = false
+
+-- a State step with 2 opens a session
+abbrev pub opens : Access → ℕ
+opens (access.State state) = if state == 2 then 1 else 0
+opens _ = 0
+
+-- a step with this access leaves the peer so
+abbrev pub steps_on : Running → Access → Peer → Running
+steps_on run a after = record { peer = after; looks = 0; ringing = false; opened = run.opened + opens a; met = None; spans = spent run.spans }
+
 -- where a clear found the bit, the step isn't done, and its ring is to come
 abbrev pub is_set : ℕ → Bool
 is_set found = bit_at found 0 == 1
 
-abbrev pub cleared_to : (found : ℕ) → (before after : Peer) → Running
-cleared_to found before after = if is_set found then record { peer = before; looks = 0; ringing = true } else comes_to after
+abbrev pub cleared_to : (found : ℕ) → Running → Access → Peer → Running
+cleared_to found run a after = if is_set found then record run { looks = 0; ringing = true; spans = spent run.spans } else steps_on run a after
+
+-- A reset drops the open call, and the ring of a doorbell that is to come: a storm goes on with its next step
+abbrev pub skipped : (ringing : Bool) → Driver → Driver
+skipped true (Storms x) = Storms (storm_after x)
+skipped _ driver = driver
+
+abbrev pub restarts_to : Running → Running
+restarts_to run = record {
+  peer = was_reset (record (run.peer) { driver = skipped run.ringing run.peer.driver });
+  looks = 0;
+  ringing = false;
+  opened = run.opened;
+  met = None;
+  spans = later run.spans;
+}
 
 -- no call is open
 abbrev pub has_ended : CallTree → Bool
 has_ended Ended = true
 has_ended _ = false
-
-abbrev pub TakesTurn : Who → (ℕ → Step) → List Route → Running → Turn → Running → Type 0
-TakesTurn who storm routes run (Looks found) after = (looks_next who (route_to routes who.me) run ≡ true) × (after ≡ record run { looks = looks_after run.looks found })
-TakesTurn who storm routes run (Makes first step) after =
-    (next : Peer) × StepsTo who storm routes run false false step next × (after ≡ comes_to next) × (first ≡ has_ended run.peer.left)
-TakesTurn who storm routes run (Clears step found) after =
-    (next : Peer) × StepsTo who storm routes run false true step next × (after ≡ cleared_to found run.peer next)
-TakesTurn who storm routes run (Rings step) after = (next : Peer) × StepsTo who storm routes run true true step next × (after ≡ comes_to next)
-
-unfoldable pub TakesTurns : Who → (ℕ → Step) → List Route → Running → List Turn → Running → Type 0
-TakesTurns who storm routes run [] after = after ≡ run
-TakesTurns who storm routes run (turn ∷ turns) after = (mid : Running) × TakesTurn who storm routes run turn mid × TakesTurns who storm routes mid turns after
 
 -- no call is open, and the automatic peer is finished
 abbrev pub is_end : Choice → Bool
@@ -103,13 +151,43 @@ rests end _ = false
 abbrev pub is_finished : Peer → Bool
 is_finished peer = has_ended peer.left && rests peer.end peer.driver
 
+-- a step comes next that sets this state; a number is met for it, or not
+pub record ComesToSet (who : Who) (storm : ℕ → Step) (routes : List Route) (run : Running) (state : ℕ) (step : Step) (after : Peer) : Type 0 where
+  pub step_is : StepsTo who storm routes run false false step after
+  pub sets_it : sets state run.peer.driver step.access ≡ true
+
+-- A look, a step and each part of a doorbell are turns of the span. A peer that chooses its calls stores the number of the session that it opens right before
+-- its State step with 2, and loads the other's number right before its State step with 3, which bears both numbers. Where the turns of a span are taken and
+-- another span follows, the peer is reset, unless it is finished
+abbrev pub TakesTurn : Who → (ℕ → Step) → List Route → Running → Turn → Running → Type 0
+TakesTurn who storm routes run (Looks found) after = (has_turn_left run.spans ≡ true) × (looks_next who (route_to routes who.me) run ≡ true) ×
+    (after ≡ record run { looks = looks_after run.looks found; spans = spent run.spans })
+TakesTurn who storm routes run (Makes first step) after = (has_turn_left run.spans ≡ true) ×
+    ((next : Peer) × StepsTo who storm routes run false false step next × (sets 2 run.peer.driver step.access ≡ true → run.met ≢ None) ×
+    (sets 3 run.peer.driver step.access ≡ false) × (after ≡ steps_on run step.access next) × (first ≡ has_ended run.peer.left))
+TakesTurn who storm routes run (Clears step found) after = (has_turn_left run.spans ≡ true) ×
+    ((next : Peer) × StepsTo who storm routes run false true step next × (after ≡ cleared_to found run step.access next))
+TakesTurn who storm routes run (Rings step) after = (has_turn_left run.spans ≡ true) ×
+    ((next : Peer) × StepsTo who storm routes run true true step next × (after ≡ steps_on run step.access next))
+TakesTurn who storm routes run (Stores number) after = (has_turn_left run.spans ≡ true) × (run.met ≡ None) × (number ≡ run.opened + 1) ×
+    ((step : Step) × (next : Peer) × ComesToSet who storm routes run 2 step next) × (after ≡ record run { met = Some number; spans = spent run.spans })
+TakesTurn who storm routes run (Loads number) after = (has_turn_left run.spans ≡ true) × (run.met ≡ None) ×
+    ((step : Step) × (next : Peer) × ComesToSet who storm routes run 3 step next) × (after ≡ record run { met = Some number; spans = spent run.spans })
+TakesTurn who storm routes run (Enters step opened other) after = (has_turn_left run.spans ≡ true) × (run.met ≡ Some other) × (run.opened ≡ opened) ×
+    ((next : Peer) × ComesToSet who storm routes run 3 step next × (after ≡ steps_on run step.access next))
+TakesTurn who storm routes run Restarts after = IsSpanSpent run.spans × (is_finished run.peer ≡ false) × (after ≡ restarts_to run)
+
+unfoldable pub TakesTurns : Who → (ℕ → Step) → List Route → Running → List Turn → Running → Type 0
+TakesTurns who storm routes run [] after = after ≡ run
+TakesTurns who storm routes run (turn ∷ turns) after = (mid : Running) × TakesTurn who storm routes run turn mid × TakesTurns who storm routes mid turns after
+
 -- What a turn does to the words
 
 -- a step makes its access to the region; a doorbell its ring, if it has one
-abbrev pub acted_by : List Route → Access → ℕ → List (Action Touch)
-acted_by routes (access.Read word) value = accessed (touch (access.Read word) value) ∷ []
-acted_by routes (access.Write word written) value = accessed (touch (access.Write word written) value) ∷ []
-acted_by routes (access.State state) value = accessed (touch (access.State state) value) ∷ []
+abbrev pub acted_by : List Route → Access → ℕ → List (Action (Deed Touch))
+acted_by routes (access.Read word) value = accessed (called (touch (access.Read word) value)) ∷ []
+acted_by routes (access.Write word written) value = accessed (called (touch (access.Write word written) value)) ∷ []
+acted_by routes (access.State state) value = accessed (called (touch (access.State state) value)) ∷ []
 acted_by routes (access.Ring target vector) value = rung_by (way_to routes target vector) target
 acted_by routes access.Nothing value = []
 
@@ -117,13 +195,17 @@ abbrev pub cleared_by : {A : Type 0} → Access → ℕ → List (Action A)
 cleared_by (access.Ring target vector) found = cleared target found ∷ []
 cleared_by other found = []
 
-abbrev pub acted_in : List Route → Turn → List (Action Touch)
+abbrev pub acted_in : List Route → Turn → List (Action (Deed Touch))
 acted_in routes (Looks found) = looked found ∷ []
 acted_in routes (Makes first step) = acted_by routes step.access step.value
 acted_in routes (Clears step found) = cleared_by step.access found
 acted_in routes (Rings step) = acted_by routes step.access step.value
+acted_in routes (Stores number) = accessed (numbered number) ∷ []
+acted_in routes (Loads number) = accessed (carried number) ∷ []
+acted_in routes (Enters step opened other) = acted_by routes step.access step.value
+acted_in routes Restarts = accessed restarted ∷ []
 
-unfoldable pub actions_in : List Route → List Turn → List (Action Touch)
+unfoldable pub actions_in : List Route → List Turn → List (Action (Deed Touch))
 actions_in routes turns = flat_map (acted_in routes) turns
 
 -- What is told of it
@@ -154,16 +236,22 @@ lines_of p first a value marks = if is_quiet first a marks then [] else access_l
 
 -- the doorbell's line stands at its clear, and the marks of the step at the end of it
 abbrev pub marks_of : Turn → List Mark
-marks_of (Looks found) = []
 marks_of (Makes first step) = step.marks
 marks_of (Clears step found) = if is_set found then [] else step.marks
 marks_of (Rings step) = step.marks
+marks_of (Enters step opened other) = step.marks
+marks_of _ = []
 
+-- a session's numbers stand behind the State step with 3
 abbrev pub told_in : ℕ → Turn → List Line
 told_in p (Looks found) = heard 64 p found
 told_in p (Makes first step) = lines_of p first step.access step.value step.marks
 told_in p (Clears step found) = access_lines p step.access step.value ++ map (mark_line p) (marks_of (Clears step found))
 told_in p (Rings step) = map (mark_line p) step.marks
+told_in p (Stores number) = []
+told_in p (Loads number) = []
+told_in p (Enters step opened other) = access_lines p step.access step.value ++ line.Session p opened other ∷ map (mark_line p) step.marks
+told_in p Restarts = line.Reset p ∷ []
 
 unfoldable pub told_of : ℕ → List Turn → List Line
 told_of p turns = flat_map (told_in p) turns

@@ -4,7 +4,7 @@ ghost use Rattle.split_ring.specs.declared.steps.Access.{Access};
 ghost use Rattle.section_map.specs.Geometry.{word_count};
 ghost use Rattle.section_map.specs.MayWrite.{MayWrite};
 ghost use Rattle.peer_runner.specs.Keys.{honest_of};
-ghost use Rattle.peer_runner.specs.Standings.{taken, standing, IsNext};
+ghost use Rattle.peer_runner.specs.Standings.{taken, called, standing, IsNext};
 ghost use Rattle.peer_runner.specs.Actions.{accessed, accesses_in};
 ghost use Rattle.peer_runner.specs.Rules.{front};
 ghost use Rattle.peer_runner.specs.Passes.{IsOf, added};
@@ -16,7 +16,7 @@ use crate::words::{Pass, Words};
 pub fn load<B: Begins>(words: &Words, pass: &mut Pass, word: u32) -> u32
     requires next { honest_of words.now.shared.key pass.old.from ≡ true → IsNext words.now.shared.key pass.old.from (standing words.now.shared.key pass.old.from (accesses_in (front pass.old.lists))) B.call (Access.Read word) }
     requires of { IsOf words.now.shared.table_id words.now.shared.key pass.old × (word < word_count words.now.shared.key.geometry) × (0 < length pass.old.lists) }
-    ensures list { pass.new ≡ added pass.old (accessed (taken B.call (Access.Read word) result)) }
+    ensures list { pass.new ≡ added pass.old (accessed (called (taken B.call (Access.Read word) result))) }
 {
     words.shared.load::<Reads<B>>(&mut pass.seat, word as usize) as u32
 }
@@ -25,7 +25,7 @@ pub fn load<B: Begins>(words: &Words, pass: &mut Pass, word: u32) -> u32
 pub fn store<B: Begins>(words: &Words, pass: &mut Pass, word: u32, value: u32)
     requires next { honest_of words.now.shared.key pass.old.from ≡ true → IsNext words.now.shared.key pass.old.from (standing words.now.shared.key pass.old.from (accesses_in (front pass.old.lists))) B.call (Access.Write word value) }
     requires of { IsOf words.now.shared.table_id words.now.shared.key pass.old × MayWrite words.now.shared.key.geometry pass.old.from word × (0 < length pass.old.lists) }
-    ensures { pass.new ≡ added pass.old (accessed (taken B.call (Access.Write word value) 0)) }
+    ensures { pass.new ≡ added pass.old (accessed (called (taken B.call (Access.Write word value) 0))) }
 {
     words
         .shared
@@ -36,7 +36,7 @@ pub fn store<B: Begins>(words: &Words, pass: &mut Pass, word: u32, value: u32)
 pub fn set_state<B: Begins>(words: &Words, pass: &mut Pass, peer: u32, state: u32)
     requires next { honest_of words.now.shared.key pass.old.from ≡ true → IsNext words.now.shared.key pass.old.from (standing words.now.shared.key pass.old.from (accesses_in (front pass.old.lists))) B.call (Access.State state) }
     requires of { IsOf words.now.shared.table_id words.now.shared.key pass.old × (pass.old.from ≡ peer) × (0 < length pass.old.lists) }
-    ensures { pass.new ≡ added pass.old (accessed (taken B.call (Access.State state) 0)) }
+    ensures { pass.new ≡ added pass.old (accessed (called (taken B.call (Access.State state) 0))) }
 {
     words
         .shared

@@ -1,26 +1,37 @@
 //! What each thread calls: the turns of one peer.
-ghost use Rattle.std.specs.Prelude.{◌≡◌, ◌∷◌, [], List, false};
+ghost use Rattle.std.specs.Prelude.{ℕ, ◌≡◌, ◌∷◌, ◌++◌, ◌<◌, ◌^◌, [], None, List, length, not, true, false, if◌then◌else◌, IfOk, OnOk};
 ghost use Rattle.lawful_history.specs.declared.line.Line.{Line};
+ghost use Rattle.lawful_history.specs.declared.line.Line.TheVariants as line;
+ghost use Rattle.lawful_history.specs.Storm.{storm_after};
+ghost use Rattle.link_endpoint.specs.Plan.{Plan};
+ghost use Rattle.doorbell_irq.specs.declared.route.Route.{Route as RouteTo};
 ghost use Rattle.record_text.specs.OwnLines.{AreOwn};
 ghost use Rattle.record_text.specs.OwnParts.{part_of};
 ghost use Rattle.step_lines.specs.Storms.{IsStormOf};
 ghost use Rattle.peer_runner.specs.Keys.{world_in, honest_of};
-ghost use Rattle.peer_runner.specs.Actions.{Action};
-ghost use Rattle.peer_runner.specs.Standings.{Taken};
-ghost use Rattle.peer_runner.specs.Passes.{IsOf, held};
+ghost use Rattle.peer_runner.specs.Actions.{Action, accessed};
+ghost use Rattle.peer_runner.specs.Standings.{Taken, Deed, restarted};
+ghost use Rattle.peer_runner.specs.Turns.{all_turns, has_turn_left, spent, later, IsSpanSpent, told_of};
+ghost use Rattle.peer_runner.specs.Passes.{IsOf, added, held};
 ghost use Rattle.peer_runner.specs.Ways.{AreRoutes};
+ghost use Rattle.peer_runner.specs.Runners.{Runner, has_finished};
+ghost use Rattle.peer_runner.specs.Courses.{IsOnCourse, WentTo};
 ghost use Rattle.peer_runner.specs.Drives.{MayBeAuto, MayDrive, starting, storming, automatic, Drove};
 
 use crate::gate::Gate;
+use crate::sessions::reset;
+use crate::spans::Spans;
 use crate::storms::take_step;
-use crate::turns::{choose, is_finished, is_look_next, look_turn, looks_due, take_turn};
+use crate::turns::{
+    AutoPeer, choose, is_finished, is_look_next, look_turn, looks_due, meet, take_turn, word_due,
+};
 use crate::ways::route_to;
 use crate::words::{Pass, Words};
 use arrayvec::ArrayVec;
 use call_grammar::places_follow_trees;
 use doorbell_irq::Route;
 use ivs_base::NoMemory;
-use lawful_history::Lines;
+use lawful_history::{Line, Lines};
 use link_endpoint::{Auto, Endpoint};
 use record_text::OwnTrace;
 use section_map::Geometry;
@@ -41,76 +52,153 @@ pub enum Driver {
     },
 }
 
-/// A running peer: its number, how many turns it has at most, what drives it, and how its doorbells go.
+/// A running peer: its number, how many turns it has at most before each reset and after the last, what drives it, and how its doorbells
+/// go.
 #[derive(Debug, Drop)]
 pub struct PeerPlan {
     /// The peer.
     pub peer: u32,
-    /// The most turns that it takes.
-    pub turns: u64,
+    /// The most turns that it takes, span by span. Between two spans the peer is reset, which is a turn of its own.
+    pub spans: Spans,
     /// Who chooses its steps.
     pub driver: Driver,
     /// How doorbells reach each peer, by its number.
     pub routes: ArrayVec<Route, 8>,
 }
 
-/// An automatic peer runs for so many turns, or until it is finished.
+/// One turn of an automatic peer, or false where it is finished. After NoMemory it was taken.
+fn auto_turn<G: Gate>(
+    alloc: Global,
+    words: &Words,
+    pass: &mut Pass,
+    me: u32,
+    routes: &[Route],
+    turn: u64,
+    peer: &mut AutoPeer,
+    gate: &G,
+    lines: &mut Lines,
+) -> Result<bool, NoMemory>
+    requires honest { (me < 2) × (honest_of words.now.shared.key me ≡ true) }
+    requires routes { AreRoutes words.now.shared.key routes.now }
+    requires course { (plan : Plan) × (spans : List ℕ) × (r : Runner) × (all_turns spans < 2 ^ 32) × IsOnCourse words.now.shared.table_id words.now.shared.key me routes.now plan spans r pass.old peer.old × (has_turn_left r.spans ≡ true) }
+    ensures course { (plan : Plan) (spans : List ℕ) (r : Runner) → IsOnCourse words.now.shared.table_id words.now.shared.key me routes.now plan spans r pass.old peer.old → has_turn_left r.spans ≡ true → lines.old ≡ told_of me r.turns →
+        (next : Runner) × IsOnCourse words.now.shared.table_id words.now.shared.key me routes.now plan spans next pass.new peer.new × IfOk result (λ went. (lines.new ≡ told_of me next.turns) × WentTo (spent r.spans) r next went) }
+{
+    let due = looks_due(&peer.auto, &peer.end);
+    if is_look_next(route_to(routes, me), due, peer.looks) {
+        gate.pass(me, turn);
+        look_turn(words, pass, routes.len() as u32, me, &mut peer.looks, lines)?;
+        return Ok(true);
+    }
+    if let Some(word) = word_due(&peer.end, peer.met) {
+        gate.pass(me, turn);
+        peer.met = Some(meet(words, pass, me, peer.opened, word));
+        return Ok(true);
+    }
+    let choice = choose(&mut peer.auto, &peer.end);
+    if is_finished(choice) {
+        return Ok(false);
+    }
+    gate.pass(me, turn);
+    take_turn(alloc, words, pass, me, routes, peer, choice, lines)?;
+    Ok(true)
+}
+
+/// The turns of one span, or fewer where the peer is finished. `turns` counts all turns of the peer.
+fn auto_span<G: Gate>(
+    alloc: Global,
+    words: &Words,
+    pass: &mut Pass,
+    me: u32,
+    routes: &[Route],
+    span: u64,
+    turns: &mut u64,
+    peer: &mut AutoPeer,
+    gate: &G,
+    lines: &mut Lines,
+) -> Result<(), NoMemory>
+    requires honest { (me < 2) × (honest_of words.now.shared.key me ≡ true) }
+    requires routes { AreRoutes words.now.shared.key routes.now }
+    requires course { (plan : Plan) × (spans : List ℕ) × (r : Runner) × (rest : List ℕ) × (all_turns spans < 2 ^ 32) × IsOnCourse words.now.shared.table_id words.now.shared.key me routes.now plan spans r pass.old peer.old × (r.spans ≡ span ∷ rest) × (turns.old ≡ length r.turns) × (lines.old ≡ told_of me r.turns) }
+    ensures course { (plan : Plan) (spans : List ℕ) (r : Runner) (rest : List ℕ) → IsOnCourse words.now.shared.table_id words.now.shared.key me routes.now plan spans r pass.old peer.old → r.spans ≡ span ∷ rest → turns.old ≡ length r.turns → lines.old ≡ told_of me r.turns →
+        (next : Runner) × IsOnCourse words.now.shared.table_id words.now.shared.key me routes.now plan spans next pass.new peer.new × IfOk result (λ _. (lines.new ≡ told_of me next.turns) × (turns.new ≡ length next.turns) × (has_finished next ≡ false → next.spans ≡ 0 ∷ rest)) }
+{
+    for _taken in 0..span {
+        let turn = *turns + 1;
+        if !auto_turn(alloc, words, pass, me, routes, turn, peer, gate, lines)? {
+            return Ok(());
+        }
+        *turns = turn;
+    }
+    Ok(())
+}
+
+/// The reset of an automatic peer, after which no call is open and no ring of a doorbell is to come; or false where it is finished: then it
+/// isn't reset.
+fn auto_restart<G: Gate>(
+    words: &Words,
+    pass: &mut Pass,
+    me: u32,
+    turn: u64,
+    peer: &mut AutoPeer,
+    gate: &G,
+    lines: &mut Lines,
+) -> Result<bool, NoMemory>
+    requires honest { honest_of words.now.shared.key me ≡ true }
+    requires of { IsOf words.now.shared.table_id words.now.shared.key pass.old × (pass.old.from ≡ me) × (0 < length pass.old.lists) }
+    ensures course { (routes : List RouteTo) (plan : Plan) (spans : List ℕ) (r : Runner) → IsOnCourse words.now.shared.table_id words.now.shared.key me routes plan spans r pass.old peer.old → (has_finished r ≡ false → IsSpanSpent r.spans) → lines.old ≡ told_of me r.turns →
+        (next : Runner) × IsOnCourse words.now.shared.table_id words.now.shared.key me routes plan spans next pass.new peer.new × IfOk result (λ went. (lines.new ≡ told_of me next.turns) × WentTo (later r.spans) r next went × (has_finished r ≡ not went)) }
+{
+    let choice = choose(&mut peer.auto, &peer.end);
+    if is_finished(choice) {
+        return Ok(false);
+    }
+    gate.pass(me, turn);
+    reset(words, pass, me);
+    peer.auto.cut();
+    peer.end.reset();
+    peer.looks = 0;
+    peer.ringing = false;
+    peer.met = None;
+    lines.push(Line::Reset { peer: me })?;
+    Ok(true)
+}
+
+/// An automatic peer runs for its spans, or until it is finished.
 fn drive_auto<G: Gate>(
     alloc: Global,
     words: &Words,
     pass: &mut Pass,
     me: u32,
-    turns: u64,
-    mut auto: Auto,
-    mut end: Endpoint,
+    spans: &[u64],
+    mut peer: AutoPeer,
     routes: &[Route],
     gate: &G,
 ) -> Result<OwnTrace, NoMemory>
     requires of { IsOf words.now.shared.table_id words.now.shared.key pass.old }
     requires alone { (pass.old.from ≡ me) × (pass.old.lists ≡ [] ∷ []) }
-    requires drives { MayBeAuto words.now.shared.key me auto end }
+    requires drives { MayBeAuto words.now.shared.key me peer.auto peer.end }
+    requires fresh { (peer.looks ≡ 0) × (peer.ringing ≡ false) × (peer.opened ≡ 0) × (peer.met ≡ None) }
+    requires few { all_turns spans.now < 2 ^ 32 }
     requires routes { AreRoutes words.now.shared.key routes.now }
-    ensures { (list : List (Action Taken)) × (pass.new ≡ held pass.old.table_id me (list ∷ [])) × Drove words.now.shared.key routes.now me turns (automatic auto) list result }
+    ensures { (list : List (Action (Deed Taken))) × (pass.new ≡ held pass.old.table_id me (list ∷ [])) × Drove words.now.shared.key routes.now me spans.now (automatic peer.auto) list result }
 {
     places_follow_trees();
-    let peers = routes.len() as u32;
-    let own = route_to(routes, me);
     let mut lines = Lines::new(alloc);
-    let mut looks = 0;
-    let mut ringing = false;
-    for turn in 0..turns {
-        let due = looks_due(&auto, &end);
-        if is_look_next(own, due, looks) {
-            gate.pass(me, turn + 1);
-            look_turn(words, pass, peers, me, &mut looks, &mut lines)?;
-            continue;
+    let mut turns = 0;
+    for (k, span) in spans.iter().enumerate() {
+        if k > 0 {
+            let turn = turns + 1;
+            if !auto_restart(words, pass, me, turn, &mut peer, gate, &mut lines)? {
+                break;
+            }
+            turns = turn;
         }
-        let choice = choose(&mut auto, &end);
-        if is_finished(choice) {
-            gate.ended(me);
-            return Ok(OwnTrace {
-                peer: me,
-                lines,
-                turns: turn,
-                finished: true,
-            });
-        }
-        gate.pass(me, turn + 1);
-        take_turn(
-            alloc,
-            words,
-            pass,
-            me,
-            routes,
-            &mut auto,
-            &mut end,
-            choice,
-            &mut ringing,
-            &mut lines,
+        auto_span(
+            alloc, words, pass, me, routes, *span, &mut turns, &mut peer, gate, &mut lines,
         )?;
-        looks = 0;
     }
-    let choice = choose(&mut auto, &end);
+    let choice = choose(&mut peer.auto, &peer.end);
     gate.ended(me);
     Ok(OwnTrace {
         peer: me,
@@ -120,12 +208,35 @@ fn drive_auto<G: Gate>(
     })
 }
 
-/// A storm takes all its turns.
+/// The reset of a storm: it drops the ring of a doorbell that is to come, and the storm goes on with its next step.
+fn storm_restart(
+    words: &Words,
+    pass: &mut Pass,
+    storm: &mut Storm,
+    ringing: &mut bool,
+    lines: &mut Lines,
+) -> Result<(), NoMemory>
+    requires of { IsOf words.now.shared.table_id words.now.shared.key pass.old × (pass.old.from ≡ storm.old.peer) × (0 < length pass.old.lists) }
+    requires storm { IsStormOf (world_in words.now.shared.key) storm.old }
+    ensures pass { pass.new ≡ added pass.old (accessed restarted) }
+    ensures storm { storm.new ≡ record storm.old { at = if ringing.old then storm_after storm.old.at else storm.old.at } }
+    ensures ringing { ringing.new ≡ false }
+    ensures lines { OnOk result (lines.new ≡ lines.old ++ line.Reset storm.old.peer ∷ []) }
+{
+    reset(words, pass, storm.peer);
+    if *ringing {
+        storm.step();
+    }
+    *ringing = false;
+    lines.push(Line::Reset { peer: storm.peer })
+}
+
+/// A storm takes all turns of its spans.
 fn drive_storm<G: Gate>(
     alloc: Global,
     words: &Words,
     pass: &mut Pass,
-    turns: u64,
+    spans: &[u64],
     mut storm: Storm,
     routes: &[Route],
     gate: &G,
@@ -134,14 +245,24 @@ fn drive_storm<G: Gate>(
     requires alone { (pass.old.from ≡ storm.peer) × (pass.old.lists ≡ [] ∷ []) }
     requires hostile { honest_of words.now.shared.key storm.peer ≡ false }
     requires storm { IsStormOf (world_in words.now.shared.key) storm }
+    requires few { all_turns spans.now < 2 ^ 32 }
     requires routes { AreRoutes words.now.shared.key routes.now }
-    ensures { (list : List (Action Taken)) × (pass.new ≡ held pass.old.table_id storm.peer (list ∷ [])) × Drove words.now.shared.key routes.now storm.peer turns (storming storm.at) list result }
+    ensures { (list : List (Action (Deed Taken))) × (pass.new ≡ held pass.old.table_id storm.peer (list ∷ [])) × Drove words.now.shared.key routes.now storm.peer spans.now (storming storm.at) list result }
 {
     let mut lines = Lines::new(alloc);
+    let mut turns = 0;
     let mut ringing = false;
-    for turn in 0..turns {
-        gate.pass(storm.peer, turn + 1);
-        take_step(words, pass, routes, &mut storm, &mut ringing, &mut lines)?;
+    for (k, span) in spans.iter().enumerate() {
+        if k > 0 {
+            turns += 1;
+            gate.pass(storm.peer, turns);
+            storm_restart(words, pass, &mut storm, &mut ringing, &mut lines)?;
+        }
+        for _taken in 0..*span {
+            turns += 1;
+            gate.pass(storm.peer, turns);
+            take_step(words, pass, routes, &mut storm, &mut ringing, &mut lines)?;
+        }
     }
     gate.ended(storm.peer);
     Ok(OwnTrace {
@@ -152,10 +273,11 @@ fn drive_storm<G: Gate>(
     })
 }
 
-/// The peer of a plan takes its turns, and waits for nobody. The pass is of the words, has this peer alone, and its list is empty; the
-/// driver is at its start; the routes are those with which the words were made. The answer is the peer's own trace, without its quiet calls: it has taken all its turns, or is finished.
+/// The peer of a plan takes the turns of its spans, and waits for nobody; between two spans it is reset. The pass is of the words, has
+/// this peer alone, and its list is empty; the driver is at its start; the routes are those with which the words were made. The answer
+/// is the peer's own trace, without its quiet calls: it has taken all its turns, or is finished.
 ///
-/// NoMemory comes only where memory ran out. Then the pass has the accesses that were made so far, and the gate isn't told the end.
+/// NoMemory comes only where memory ran out. Then the pass has what was done so far, and the gate isn't told the end.
 pub fn drive<G: Gate>(
     alloc: Global,
     words: &Words,
@@ -166,20 +288,30 @@ pub fn drive<G: Gate>(
     requires of { IsOf words.now.shared.table_id words.now.shared.key pass.old }
     requires alone { (pass.old.from ≡ plan.peer) × (pass.old.lists ≡ [] ∷ []) }
     requires drives { MayDrive words.now.shared.key plan.peer plan.driver }
+    requires few { all_turns plan.spans < 2 ^ 32 }
     requires routes { AreRoutes words.now.shared.key plan.routes.items }
-    ensures { (list : List (Action Taken)) × (pass.new ≡ held pass.old.table_id plan.peer (list ∷ [])) × Drove words.now.shared.key plan.routes.items plan.peer plan.turns (starting plan.driver) list result }
+    ensures { (list : List (Action (Deed Taken))) × (pass.new ≡ held pass.old.table_id plan.peer (list ∷ [])) × Drove words.now.shared.key plan.routes.items plan.peer plan.spans (starting plan.driver) list result }
 {
     let PeerPlan {
         peer,
-        turns,
+        spans,
         driver,
         routes,
     } = plan;
     let routes = routes.as_slice();
+    let spans = spans.items();
     match driver {
-        Driver::Auto(auto, end) => drive_auto(
-            alloc, words, pass, peer, turns, auto, end, routes, gate,
-        ),
+        Driver::Auto(auto, end) => {
+            let auto_peer = AutoPeer {
+                auto,
+                end,
+                looks: 0,
+                ringing: false,
+                opened: 0,
+                met: None,
+            };
+            drive_auto(alloc, words, pass, peer, spans, auto_peer, routes, gate)
+        }
         Driver::Storm {
             seed,
             geometry,
@@ -191,7 +323,7 @@ pub fn drive<G: Gate>(
                 queue,
                 at: seed,
             };
-            drive_storm(alloc, words, pass, turns, storm, routes, gate)
+            drive_storm(alloc, words, pass, spans, storm, routes, gate)
         }
     }
 }

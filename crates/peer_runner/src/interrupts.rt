@@ -12,12 +12,13 @@ use crate::words::{Pass, Words};
 use atomic_table::Play;
 use std::marker::Brand;
 
-/// Where the interrupt word of a peer stands: behind the words of the region, and before the word of the peer's Interrupt Control.
+/// Where the interrupt word of a peer stands: behind the words of the region, and before the word of the peer's Interrupt Control. The
+/// two session words are the last of all.
 fn interrupt_word(words: &Words, peers: u32, peer: u32) -> usize
-    requires { (peer < peers) × (2 * peers ≤ words.now.shared.table_id.words) }
-    ensures { result + 2 * peers ≡ words.now.shared.table_id.words + 2 * peer }
+    requires { (peer < peers) × (2 * peers + 2 ≤ words.now.shared.table_id.words) }
+    ensures { result + 2 * peers + 2 ≡ words.now.shared.table_id.words + 2 * peer }
 {
-    words.word_count() - 2 * (peers as usize) + 2 * (peer as usize)
+    words.word_count() - 2 - 2 * (peers as usize) + 2 * (peer as usize)
 }
 
 /// Sets a bit at a play that the caller picks.

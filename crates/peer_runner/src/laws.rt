@@ -1,8 +1,8 @@
-//! What the rule says of the words and of the lists of accesses, between any two accesses of whatever threads (`specs/RunningLaws`). No function here
+//! What the rule says of the words and of the lists of deeds, between any two accesses of whatever threads (`specs/RunningLaws`). No function here
 //! does anything: each is a law, which its contract states.
-ghost use Rattle.peer_runner.specs.RunningLaws.{WordsAreMade, StoresAreOwned, InterruptsAreRung, OfEachHonest, OfTwoHonest, AccessesAreCalls, WordsAreWritten, PhasesShow, FlightIsSpelled, OpenOfferStores, HeldIsInRange, NeverRefuses, OtherOpensNone, OneSession, WhereEitherAttends, PairKeeps, AskedIsRung, HeldIsAsSent, HostileWordsAreFree};
+ghost use Rattle.peer_runner.specs.RunningLaws.{WordsAreMade, StoresAreOwned, InterruptsAreRung, OfEachHonest, OfTwoHonest, AccessesAreCalls, WordsAreWritten, PhasesShow, FlightIsSpelled, OpenOfferStores, HeldIsInRange, NeverRefuses, OtherOpensNone, SessionWordsAreNumbers, HostileSessionsAreNone, SessionsArePaired, WhereEitherAttends, PairKeeps, AskedIsRung, HeldIsAsSent, HostileWordsAreFree};
 
-/// The words of the region are what the accesses of all lists made of them, one after another in some order.
+/// The words of the region and of the sessions are what the deeds of all lists made of them, one after another in some order.
 pub fn words_are_made()
     ensures { WordsAreMade }
 {}
@@ -22,7 +22,7 @@ pub fn accesses_are_calls()
     ensures { OfEachHonest AccessesAreCalls }
 {}
 
-/// Each word of the section of an honest link peer, and its state word, is what its list of accesses wrote last, or 0.
+/// Each word of the section of an honest link peer, and its state word, is what its list of deeds wrote last, or 0; a reset writes 0 in its state word.
 pub fn words_are_written()
     ensures { OfEachHonest WordsAreWritten }
 {}
@@ -57,9 +57,19 @@ pub fn other_opens_none()
     ensures { OfTwoHonest OtherOpensNone }
 {}
 
-/// Each of two honest link peers opens at most one session, and stays in it.
-pub fn one_session()
-    ensures { OfTwoHonest OneSession }
+/// The session word of an honest link peer is the number of sessions that it opened, or one more, which it stored since.
+pub fn session_words_are_numbers()
+    ensures { SessionWordsAreNumbers }
+{}
+
+/// The session word of a hostile link peer stays 0.
+pub fn hostile_sessions_are_none()
+    ensures { HostileSessionsAreNone }
+{}
+
+/// The sessions of two honest link peers are paired by their numbers, which rise, and each delivers a beginning of what was accepted in the one that it carries.
+pub fn sessions_are_paired()
+    ensures { SessionsArePaired }
 {}
 
 /// What two honest link peers keep between them as soon as one of them attends: the counts of frames in their order, the frames delivered as the first ones

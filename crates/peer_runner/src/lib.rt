@@ -1,6 +1,6 @@
-//! Peers in threads of their own, over words that they share. The words are an `atomic_table` under one rule, whatever hostile
-//! threads store: each access of an honest peer is the next one of its calls, what two honest peers deliver begins what the other
-//! accepted, and no interrupt is found that wasn't rung. It stands on `link_endpoint` for the ends, on `ends_pair` and
+//! Peers in threads of their own, over words that they share, which may be reset as they run. The words are an `atomic_table` under one
+//! rule, whatever hostile threads store: each access of an honest peer is the next one of its calls, what two honest peers deliver in a
+//! session begins what the other accepted in the session that it carries, and no interrupt is found that wasn't rung. It stands on `link_endpoint` for the ends, on `ends_pair` and
 //! `pair_sessions` for what they keep between them, on `doorbell_irq` for the routes of doorbells, and on `record_text` for what is
 //! told of a run. `run_peers` promises the running record of a scenario of up to eight peers by the lists of actions that its pass
 //! holds; nothing is said of an order between peers, nor that a peer gets on. `laws` tells what the words and the lists show between
@@ -19,6 +19,8 @@ mod peers;
 mod plans;
 mod routes;
 mod rule;
+mod sessions;
+mod spans;
 mod storms;
 mod turns;
 mod view;
@@ -30,8 +32,11 @@ pub use gate::{Gate, OpenGate};
 pub use key::Key;
 pub use peers::run_peers;
 pub use rule::Rule;
+pub use spans::Spans;
 pub use view::View;
 pub use words::{Pass, Words, join_pass, split_pass, words_for};
 
+#[cfg(test)]
+mod session_tests;
 #[cfg(test)]
 mod tests;

@@ -5,7 +5,7 @@ ghost use Rattle.link_endpoint.specs.Engine.{offered, delivered};
 ghost use Rattle.link_endpoint.specs.Stands.{marks_between};
 ghost use Rattle.std.specs.Int.{bit_at};
 ghost use Rattle.peer_runner.specs.Turns.{heard, heard_bit, finds_nothing, is_quiet, lines_of};
-ghost use Rattle.peer_runner.specs.Runners.{done_lines};
+ghost use Rattle.peer_runner.specs.Runners.{session_lines, stepped_lines, done_lines};
 
 use crate::ways::Done;
 use ivs_base::NoMemory;
@@ -78,23 +78,46 @@ fn is_quiet(first: bool, access: Access, end: &Endpoint, notes: &[Note]) -> bool
     }
 }
 
-/// Tells a step of a call, unless the call is quiet.
+/// Tells the mark of a session behind a State step with 3, for which the other's number was met.
+fn tell_session(
+    me: u32,
+    opened: u32,
+    met: Option<u32>,
+    access: Access,
+    lines: &mut Lines,
+) -> Result<(), NoMemory>
+    ensures { OnOk result (lines.new ≡ lines.old ++ session_lines me opened met access) }
+{
+    match (met, access) {
+        (Some(other), Access::State(3)) => lines.push(Line::Session {
+            peer: me,
+            opened,
+            other,
+        }),
+        _ => Ok(()),
+    }
+}
+
+/// Tells a step of a call, unless the call is quiet. `opened` and `met` are the numbers of the session that it may enter.
 fn tell(
     alloc: Global,
     me: u32,
     first: bool,
+    opened: u32,
+    met: Option<u32>,
     access: Access,
     value: u32,
     end: &Endpoint,
     notes: &[Note],
     lines: &mut Lines,
 ) -> Result<(), NoMemory>
-    ensures { OnOk result (lines.new ≡ lines.old ++ lines_of me first access value (marks_between (offered end.now) (delivered end.now) notes.now)) }
+    ensures { OnOk result (lines.new ≡ lines.old ++ stepped_lines me first opened met access value (marks_between (offered end.now) (delivered end.now) notes.now)) }
 {
     if is_quiet(first, access, end, notes) {
         return Ok(());
     }
     tell_access(me, access, value, lines)?;
+    tell_session(me, opened, met, access, lines)?;
     tell_notes(alloc, me, end, notes, lines)
 }
 
@@ -103,16 +126,20 @@ pub fn tell_done(
     alloc: Global,
     me: u32,
     first: bool,
+    opened: u32,
+    met: Option<u32>,
     access: Access,
     done: Done,
     end: &Endpoint,
     notes: &[Note],
     lines: &mut Lines,
 ) -> Result<(), NoMemory>
-    ensures { OnOk result (lines.new ≡ lines.old ++ done_lines me first access done (marks_between (offered end.now) (delivered end.now) notes.now)) }
+    ensures { OnOk result (lines.new ≡ lines.old ++ done_lines me first opened met access done (marks_between (offered end.now) (delivered end.now) notes.now)) }
 {
     match done {
-        Done::Stepped(value) => tell(alloc, me, first, access, value, end, notes, lines),
+        Done::Stepped(value) => tell(
+            alloc, me, first, opened, met, access, value, end, notes, lines,
+        ),
         Done::Cleared(_) => {
             tell_access(me, access, 0, lines)?;
             tell_notes(alloc, me, end, notes, lines)

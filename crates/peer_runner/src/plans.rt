@@ -1,14 +1,15 @@
 //! What drives the peers of a scenario in running form.
-ghost use Rattle.std.specs.Prelude.{◌≡◌, ◌<◌, true, false, None, IfOk, OnOk};
+ghost use Rattle.std.specs.Prelude.{◌≡◌, ◌<◌, ◌++◌, true, false, None, IfOk, OnOk};
 ghost use Rattle.lawful_history.specs.Sides.{traffic_vector};
 ghost use Rattle.scenario_text.specs.Running.{has_turn, not_running};
 ghost use Rattle.scenario_text.specs.Scenario.{is_link};
 ghost use Rattle.scenario_text.specs.Spelling.{world_of};
-ghost use Rattle.peer_runner.specs.OwnRecord.{turn_in, turn_line};
+ghost use Rattle.peer_runner.specs.OwnRecord.{span_in, spans_of};
 ghost use Rattle.peer_runner.specs.Drives.{IsDriver, IsPlanFor, gathered, seeded, Gathers, Seeds};
 
 use crate::driving::{Driver, PeerPlan};
 use crate::routes::routes_of;
+use crate::spans::Spans;
 use ivs_base::{Frame, NoMemory};
 use link_endpoint::{Auto, Endpoint};
 use pci_space::Wiring;
@@ -32,26 +33,25 @@ fn is_link(scenario: &Scenario, me: u32) -> bool
     me < 2 && scenario.honest.items()[me as usize]
 }
 
-/// How many turns an act gives a peer, if it is the peer's turn line.
-fn turns_in(act: &Act, me: u32) -> Option<u64>
-    ensures { result ≡ turn_in me act.now }
+/// Adds the turns that an act gives a peer, if it is a turn line of it.
+fn add_span(spans: &mut Spans, act: &Act, me: u32) -> Result<(), NoMemory>
+    ensures { OnOk result (spans.new ≡ spans.old ++ span_in me act.now) }
 {
     match act {
-        Act::Turn { peer, steps } if *peer == me => Some(u64::from(*steps)),
-        _ => None,
+        Act::Turn { peer, steps } if *peer == me => spans.push(u64::from(*steps)),
+        _ => Ok(()),
     }
 }
 
-/// How many turns the peer has, if it has a turn line.
-fn turns_for(scenario: &Scenario, me: u32) -> Option<u64>
-    ensures { result ≡ turn_line scenario.now.acts me }
+/// The spans of a peer: the turns of each of its turn lines.
+fn spans_for(alloc: Global, scenario: &Scenario, me: u32) -> Result<Spans, NoMemory>
+    ensures { IfOk result (λ spans. spans ≡ spans_of scenario.now.acts me) }
 {
+    let mut spans = Spans::new(alloc);
     for act in scenario.acts.items() {
-        if let Some(turns) = turns_in(act, me) {
-            return Some(turns);
-        }
+        add_span(&mut spans, act, me)?;
     }
-    None
+    Ok(spans)
 }
 
 /// Takes what an act says of an automatic peer.
@@ -123,19 +123,20 @@ fn driver_for(alloc: Global, scenario: &Scenario, me: u32) -> Result<Driver, NoM
     Ok(Driver::Auto(auto, end))
 }
 
-/// What drives a peer of the scenario, its turns and the routes of all peers, if it has a turn line.
+/// What drives a peer of the scenario, its spans and the routes of all peers, if it has a turn line.
 pub fn plan_of(alloc: Global, scenario: &Scenario, me: u32) -> Result<Option<PeerPlan>, NoMemory>
     requires there { me < scenario.now.geometry.peers }
     requires running { not_running (world_of scenario.now) ≡ None }
     ensures { IfOk result (IsPlanFor (world_of scenario.now) me) }
 {
-    let Some(turns) = turns_for(scenario, me) else {
+    let spans = spans_for(alloc, scenario, me)?;
+    if spans.items().is_empty() {
         return Ok(None);
-    };
+    }
     let driver = driver_for(alloc, scenario, me)?;
     Ok(Some(PeerPlan {
         peer: me,
-        turns,
+        spans,
         driver,
         routes: routes_of(scenario),
     }))

@@ -1,7 +1,7 @@
 //! The rule of the table, and what its steps tell.
 ghost use Rattle.std.specs.Prelude.{[], Option, None};
 ghost use Rattle.call_grammar.specs.Calls.{Call};
-ghost use Rattle.peer_runner.specs.Rules.{Kept, newcomer, reads, writes, sets, looks, joined};
+ghost use Rattle.peer_runner.specs.Rules.{Kept, newcomer, reads, writes, sets, stores_number, loads_number, resets, looks, joined};
 
 use crate::key::Key;
 use crate::view::View;
@@ -42,6 +42,27 @@ pub(crate) struct Sets<B: Begins>(PhantomData<B>);
 
 impl<B: Begins> Play<u8, View> for Sets<B> {
     ghost then = { sets B.call };
+}
+
+/// A store of the own session word.
+pub(crate) struct StoresNumber;
+
+impl Play<u8, View> for StoresNumber {
+    ghost then = { stores_number };
+}
+
+/// A load of the other's session word.
+pub(crate) struct LoadsNumber;
+
+impl Play<u8, View> for LoadsNumber {
+    ghost then = { loads_number };
+}
+
+/// The store of a reset.
+pub(crate) struct Resets;
+
+impl Play<u8, View> for Resets {
+    ghost then = { resets };
 }
 
 /// A look.

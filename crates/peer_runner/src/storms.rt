@@ -75,7 +75,7 @@ pub fn take_step(
         × (pass.new ≡ made pass.old (done_of routes.now None (storm_in words.now.shared.key storm.old.peer storm.old.at).access done))
         × (storm.new ≡ record storm.old { at = storm_on storm.old.at done }) × (ringing.new ≡ holds_on done)
         × (holds_on done ≡ true → MayRingBy routes.now (storm_in words.now.shared.key storm.old.peer storm.old.at).access (front pass.new.lists))
-        × OnOk result (lines.new ≡ lines.old ++ told_in storm.old.peer (turn_of true (storm_in words.now.shared.key storm.old.peer storm.old.at) done)) }
+        × OnOk result (lines.new ≡ lines.old ++ told_in storm.old.peer (turn_of true 0 None (storm_in words.now.shared.key storm.old.peer storm.old.at) done)) }
 {
     let me = storm.peer;
     let mut ahead = *storm;

@@ -13,23 +13,30 @@ use std::test::Fail;
 use std::thread::Threads;
 
 /// How often a peer looks for the other one's turns before the gate opens for good.
-const SPINS: u64 = 100_000_000;
+pub(crate) const SPINS: u64 = 100_000_000;
 
-/// Holds peers 0 and 1 within four turns of each other until one has ended, and counts its calls for them.
+/// Holds peers 0 and 1 within so many turns of each other until one has ended, and counts its calls for them.
 #[derive(Drop)]
-struct Lockstep {
+pub(crate) struct Lockstep {
+    span: u64,
     passed: [AtomicU64; 2],
     ended: [AtomicU64; 2],
     opened: AtomicU64,
 }
 
 impl Lockstep {
-    fn new() -> Lockstep {
+    pub(crate) fn new(span: u64) -> Lockstep {
         Lockstep {
+            span,
             passed: [AtomicU64::new(0), AtomicU64::new(0)],
             ended: [AtomicU64::new(0), AtomicU64::new(0)],
             opened: AtomicU64::new(0),
         }
+    }
+
+    /// No call was held for longer than its spins.
+    pub(crate) fn was_kept(&self) -> bool {
+        self.opened.load(SeqCst) == 0
     }
 
     fn is_open(&self, turn: u64, other: usize) -> bool
@@ -37,7 +44,7 @@ impl Lockstep {
     {
         self.opened.load(SeqCst) > 0
             || self.ended[other].load(SeqCst) > 0
-            || turn <= self.passed[other].load(SeqCst).saturating_add(4)
+            || turn <= self.passed[other].load(SeqCst).saturating_add(self.span)
     }
 }
 
@@ -167,7 +174,7 @@ impl Gate for Relay {
 }
 
 /// The run of a scenario in running form.
-fn run<R: Threads + Sync, G: Gate + Sync>(
+pub(crate) fn run<R: Threads + Sync, G: Gate + Sync>(
     rt: &R,
     alloc: Global,
     text: &[u8],
@@ -199,7 +206,7 @@ fn frames(lines: &[Line]) -> (usize, usize) {
 fn two_threads_deliver(rt: HostRuntime) -> Result<(), Fail> {
     let text =
         b"ivshm 1\npeers 2\ntable 4096\ncommon 0\nout 16384\nmtu 256\nirq msix 2\npeer 0 honest\npeer 1 honest\nbegin\nauto 0 1\nauto 1 2\noffer 0 ffffffffffff0200000000010800\noffer 0 ffffffffffff0200000000010801\noffer 1 ffffffffffff0200000000020800\nturn 0 100000\nturn 1 100000\nend\n";
-    let gate = Lockstep::new();
+    let gate = Lockstep::new(4);
     let Some(trace) = run(&rt, rt.alloc(), text, &gate)? else {
         panic!(rt; "the scenario can be run");
     };
@@ -354,14 +361,14 @@ fn a_one_shot_peer_hears_once(rt: HostRuntime) -> Result<(), Fail> {
 fn each_doorbell_between_honest_peers_is_heard(rt: HostRuntime) -> Result<(), Fail> {
     let text =
         b"ivshm 1\npeers 2\ntable 4096\ncommon 0\nout 16384\nmtu 256\nirq msix 2\npeer 0 honest\npeer 1 honest\nbegin\ncfg 1 w 4 2 6\ncfg 1 w 98 2 32768\nmsix 1 w 28 0\nmmio 1 w 8 1\nauto 0 0\nauto 1 2\noffer 0 ffffffffffff0200000000010800\noffer 0 ffffffffffff0200000000010801\nturn 0 10000\nturn 1 10000\nend\n";
-    let gate = Relay::new([[5000, 4110], [9113, 4150], [9127, 4250]]);
+    let gate = Relay::new([[5000, 4112], [9115, 4152], [9129, 4252]]);
     let Some(trace) = run(&rt, rt.alloc(), text, &gate)? else {
         panic!(rt; "the scenario can be run");
     };
     assert!(rt; gate.opened.load(SeqCst) == 0);
     let parts = trace.peers.items();
     assert!(rt; parts.len() == 2);
-    assert!(rt; parts[0].turns == 9127 && parts[0].finished && parts[1].finished);
+    assert!(rt; parts[0].turns == 9129 && parts[0].finished && parts[1].finished);
     let lines = parts[1].lines.items();
     assert!(rt; interrupts(lines) == 2 && frames(lines) == (0, 2));
     let mut heard: u64 = 0;
@@ -400,7 +407,7 @@ fn nothing_comes_where_interrupts_are_off(rt: HostRuntime) -> Result<(), Fail> {
 fn eight_peers_run(rt: HostRuntime) -> Result<(), Fail> {
     let text =
         b"ivshm 1\npeers 8\ntable 4096\ncommon 0\nout 16384\nmtu 256\nirq msix 2\npeer 0 honest\npeer 1 honest\npeer 2 hostile\npeer 3 hostile\npeer 4 hostile\npeer 5 hostile\npeer 6 hostile\npeer 7 hostile\nbegin\nauto 0 1\nauto 1 1\noffer 0 ffffffffffff0200000000010800\noffer 1 ffffffffffff0200000000020800\nstorm 2 9\nstorm 3 9\nstorm 4 9\nstorm 5 9\nstorm 6 9\nstorm 7 9\nturn 0 100000\nturn 1 100000\nturn 2 1000\nturn 3 1000\nturn 4 1000\nturn 5 1000\nturn 6 1000\nturn 7 1000\nend\n";
-    let gate = Lockstep::new();
+    let gate = Lockstep::new(4);
     let Some(trace) = run(&rt, rt.alloc(), text, &gate)? else {
         panic!(rt; "the scenario can be run");
     };
@@ -455,15 +462,15 @@ fn before_interrupt(lines: &[Line]) -> usize {
 fn a_sleeping_peer_is_woken(rt: HostRuntime) -> Result<(), Fail> {
     let text =
         b"ivshm 2\npeers 2\ntable 4096\ncommon 0\nout 16384\nmtu 256\nirq msix 2\npeer 0 honest\npeer 1 honest\nbegin\ncfg 1 w 4 2 6\ncfg 1 w 98 2 32768\nmsix 1 w 28 0\nmmio 1 w 8 1\nauto 0 0\nauto 1 1\noffer 0 ffffffffffff0200000000010800\nturn 0 10000\nturn 1 10000\nend\n";
-    let gate = Relay::new([[5000, 4110], [9100, 4127], [9113, 4300]]);
+    let gate = Relay::new([[5000, 4112], [9102, 4129], [9115, 4302]]);
     let Some(trace) = run(&rt, rt.alloc(), text, &gate)? else {
         panic!(rt; "the scenario can be run");
     };
     assert!(rt; gate.opened.load(SeqCst) == 0);
     let parts = trace.peers.items();
     assert!(rt; parts.len() == 2);
-    assert!(rt; parts[0].turns == 9113 && parts[0].finished);
-    assert!(rt; parts[1].turns == 4208 && parts[1].finished);
+    assert!(rt; parts[0].turns == 9115 && parts[0].finished);
+    assert!(rt; parts[1].turns == 4210 && parts[1].finished);
     let sender = parts[0].lines.items();
     assert!(rt; frames(sender) == (1, 0));
     assert!(rt; matches!(sender.last(), Some(Line::Over { peer: 0 })));
@@ -490,7 +497,7 @@ fn bursts_wake_a_sleeping_peer(rt: HostRuntime) -> Result<(), Fail> {
         }
         write!(text, "turn 0 100000\nturn 1 100000\nend\n")?;
         for _ in 0..20 {
-            let gate = Relay::new([[5000, 4110], [9100, 4127], [9113, 4127]]);
+            let gate = Relay::new([[5000, 4112], [9102, 4129], [9115, 4129]]);
             let Some(trace) = run(&rt, alloc, text.as_bytes(), &gate)? else {
                 panic!(rt; "the scenario can be run");
             };
@@ -518,7 +525,7 @@ fn two_threads_deliver_by_events(rt: HostRuntime) -> Result<(), Fail> {
         let text = format!(in alloc;
             "ivshm {version}\npeers 2\ntable 4096\ncommon 0\nout 16384\nmtu 256\nirq msix 2\npeer 0 honest\npeer 1 honest\nbegin\ncfg 1 w 4 2 6\ncfg 1 w 98 2 32768\nmsix 1 w 28 0\nmmio 1 w 8 1\nauto 0 1\nauto 1 2\noffer 0 ffffffffffff0200000000010800\noffer 0 ffffffffffff0200000000010801\noffer 1 ffffffffffff0200000000020800\nturn 0 100000\nturn 1 100000\nend\n"
         )?;
-        let gate = Lockstep::new();
+        let gate = Lockstep::new(4);
         let Some(trace) = run(&rt, alloc, text.as_bytes(), &gate)? else {
             panic!(rt; "the scenario can be run");
         };
@@ -562,7 +569,9 @@ fn laws_of_the_rule() {
     laws::held_is_in_range();
     laws::honest_peers_never_refuse();
     laws::other_opens_none();
-    laws::one_session();
+    laws::session_words_are_numbers();
+    laws::hostile_sessions_are_none();
+    laws::sessions_are_paired();
     laws::pair_keeps();
     laws::asked_doorbells_are_rung();
     laws::held_is_as_sent();

@@ -1,28 +1,29 @@
 //! The turns of an automatic peer.
-ghost use Rattle.std.specs.Prelude.{◌≡◌, ℕ, ◌++◌, ◌<◌, ◌≤◌, true, false, length, OnOk};
+ghost use Rattle.std.specs.Prelude.{◌≡◌, ℕ, ◌+◌, ◌^◌, ◌++◌, ◌<◌, ◌≤◌, true, false, length, OnOk};
 ghost use Rattle.call_grammar.specs.Automatic.{is_empty};
 ghost use Rattle.call_grammar.specs.Calls.{Who};
 ghost use Rattle.call_grammar.specs.Ends.{End};
 ghost use Rattle.call_grammar.specs.Places as places;
-ghost use Rattle.call_grammar.specs.Places.{access_at};
+ghost use Rattle.call_grammar.specs.Places.{Setting, access_at};
 ghost use Rattle.lawful_history.specs.Peers as peers;
 ghost use Rattle.link_endpoint.specs.Engine.{is_busy};
 ghost use Rattle.link_endpoint.specs.Stands.{StandsAt};
 ghost use Rattle.step_lines.specs.Plans.{IsPlanOf};
 ghost use Rattle.peer_runner.specs.Keys.{who_in, honest_of};
 ghost use Rattle.peer_runner.specs.Standings.{standing, IsNext};
-ghost use Rattle.peer_runner.specs.Actions.{accesses_in, looked};
+ghost use Rattle.peer_runner.specs.Actions.{accessed, accesses_in, looked};
 ghost use Rattle.peer_runner.specs.Rules.{front};
 ghost use Rattle.peer_runner.specs.Passes.{IsOf, added};
 ghost use Rattle.peer_runner.specs.Ways.{AreRoutes, is_guarded, way_in};
-ghost use Rattle.peer_runner.specs.Turns.{heard, looks_after};
-ghost use Rattle.peer_runner.specs.Runners.{Runner, round_on, choice_at, chosen, place_in, place_for, Matches, tells_end, call_of, call_told, IsBegun, IsBegunIf, Closes, touches, MayMake, made, done_of, IsDone, holds_on, MayRingBy, due_at, looks_now, turned, told_on, IsThere, Turns};
+ghost use Rattle.peer_runner.specs.Turns.{heard, looks_after, opens};
+ghost use Rattle.peer_runner.specs.Runners.{Runner, round_on, choice_at, chosen, place_in, place_for, Matches, tells_end, call_of, call_told, IsBegun, IsBegunIf, Closes, touches, MayMake, made, done_of, IsDone, holds_on, MayRingBy, due_at, looks_now, due_word, state_for, deed_met, turned, told_on, IsThere, IsAutoPeer, Turns};
 
 use crate::accesses::{load, set_state, store};
 use crate::bells::ring_turn;
 use crate::interrupts::look;
 use crate::notes::{tell_access, tell_done, tell_heard};
 use crate::rule::Begins;
+use crate::sessions::{SessionWord, load_session, store_session};
 use crate::ways::Done;
 use crate::words::{Pass, Words};
 use doorbell_irq::Route;
@@ -202,39 +203,105 @@ fn take_for(
     take::<Brand>(words, pass, me, routes, access, ringing, auto, choice)
 }
 
-/// A turn that is no look: the next step of the open call, else the first one of the call that was chosen, or the part of a doorbell
-/// that is to come. `ringing` says whether the ring of a doorbell is to come, before the turn and after it. After NoMemory it was
-/// done, and its lines may be missing.
+/// An automatic peer between two turns.
+#[derive(Debug, Drop)]
+pub struct AutoPeer {
+    /// What it has to do.
+    pub auto: Auto,
+    /// Its end of the link.
+    pub end: Endpoint,
+    /// How many looks it has taken since its last step, or 64 where one of them found a bit.
+    pub looks: u32,
+    /// Whether the ring of a doorbell is to come.
+    pub ringing: bool,
+    /// How many sessions it opened.
+    pub opened: u32,
+    /// The number that it stored or loaded for the State step that comes next.
+    pub met: Option<u32>,
+}
+
+/// The session word to which the peer comes before its next step, if that is its State step with 2 or with 3 and it has met no number for it.
+pub fn word_due(end: &Endpoint, met: Option<u32>) -> Option<SessionWord>
+    ensures { (who : Who) (at : End) (place : places.Place) → StandsAt end.now who at place → result ≡ due_word place met }
+{
+    if met.is_some() || !end.busy() {
+        return None;
+    }
+    match end.next() {
+        Access::State(2) => Some(SessionWord::Own),
+        Access::State(3) => Some(SessionWord::Others),
+        _ => None,
+    }
+}
+
+/// A turn at a session word: stores the number of the session that the peer opens, or loads the other's. Returns the number.
+pub fn meet(words: &Words, pass: &mut Pass, me: u32, opened: u32, word: SessionWord) -> u32
+    requires honest { (me < 2) × (honest_of words.now.shared.key me ≡ true) }
+    requires place { (standing words.now.shared.key me (accesses_in (front pass.old.lists))).place ≡ Setting (state_for word) }
+    requires opened { (opened ≡ (standing words.now.shared.key me (accesses_in (front pass.old.lists))).numbers.log.opened) × (opened + 1 < 2 ^ 32) }
+    requires of { IsOf words.now.shared.table_id words.now.shared.key pass.old × (pass.old.from ≡ me) × (0 < length pass.old.lists) }
+    ensures { (pass.new ≡ added pass.old (accessed (deed_met word result))) × (word ≡ SessionWord.Own → result ≡ opened + 1) }
+{
+    match word {
+        SessionWord::Own => {
+            store_session(words, pass, me, opened + 1);
+            opened + 1
+        }
+        SessionWord::Others => load_session(words, pass, me),
+    }
+}
+
+/// How many sessions are opened after this access, where so many were before it: a State step with 2 opens one.
+fn opened_after(opened: u32, access: Access) -> u32
+    requires { opened + 1 < 2 ^ 32 }
+    ensures { result ≡ opened + opens access }
+{
+    match access {
+        Access::State(2) => opened + 1,
+        _ => opened,
+    }
+}
+
+/// A turn that is no look and meets no number: the next step of the open call, else the first one of the call that was chosen, or the part
+/// of a doorbell that is to come. After NoMemory it was done, and its lines may be missing.
 pub fn take_turn(
     alloc: Global,
     words: &Words,
     pass: &mut Pass,
     me: u32,
     routes: &[Route],
-    auto: &mut Auto,
-    end: &mut Endpoint,
+    peer: &mut AutoPeer,
     choice: Option<Choice>,
-    ringing: &mut bool,
     lines: &mut Lines,
 ) -> Result<(), NoMemory>
     requires of { IsOf words.now.shared.table_id words.now.shared.key pass.old × (me < 2) × (honest_of words.now.shared.key me ≡ true) }
     requires routes { AreRoutes words.now.shared.key routes.now }
-    requires turns { (r : Runner) × Turns words.now.shared.key me routes.now r choice ringing.old pass.old auto.old end.old }
-    ensures turned { (r : Runner) → Turns words.now.shared.key me routes.now r choice ringing.old pass.old auto.old end.old →
-        (done : Done) × IsDone ringing.old (is_guarded (way_in routes.now (access_at (who_in words.now.shared.key me) (place_in (who_in words.now.shared.key me) r)))) done
-        × IsThere words.now.shared.key me routes.now (turned routes.now (who_in words.now.shared.key me) r done) pass.new end.new × IsPlanOf auto.new (turned routes.now (who_in words.now.shared.key me) r done).auto
-        × (ringing.new ≡ holds_on done) × OnOk result (lines.new ≡ lines.old ++ told_on (who_in words.now.shared.key me) r done) }
+    requires few { peer.old.opened + 1 < 2 ^ 32 }
+    requires turns { (r : Runner) × Turns words.now.shared.key me routes.now r choice pass.old peer.old }
+    ensures turned { (r : Runner) → Turns words.now.shared.key me routes.now r choice pass.old peer.old →
+        (done : Done) × IsDone peer.old.ringing (is_guarded (way_in routes.now (access_at (who_in words.now.shared.key me) (place_in (who_in words.now.shared.key me) r)))) done
+        × IsThere words.now.shared.key me routes.now (turned routes.now (who_in words.now.shared.key me) r done) pass.new peer.new.end
+        × IsAutoPeer peer.new (turned routes.now (who_in words.now.shared.key me) r done)
+        × OnOk result (lines.new ≡ lines.old ++ told_on (who_in words.now.shared.key me) r done) }
     ensures id { pass.new.table_id ≡ pass.old.table_id }
 {
     let first = choice.is_some();
-    open_call(auto, end, choice);
-    let access = end.next();
-    let done = take_for(words, pass, me, routes, access, *ringing, auto, choice);
-    *ringing = done.holds_on();
-    if done.holds_on() {
+    open_call(&peer.auto, &mut peer.end, choice);
+    let access = peer.end.next();
+    let (ringing, auto) = (peer.ringing, &peer.auto);
+    let done = take_for(words, pass, me, routes, access, ringing, auto, choice);
+    peer.looks = 0;
+    peer.ringing = done.holds_on();
+    if peer.ringing {
         return tell_access(me, access, 0, lines);
     }
-    let notes = end.took(done.value());
-    count_notes(auto, notes.as_slice());
-    tell_done(alloc, me, first, access, done, end, notes.as_slice(), lines)
+    let (opened, met) = (peer.opened, peer.met);
+    peer.opened = opened_after(opened, access);
+    peer.met = None;
+    let taken = peer.end.took(done.value());
+    let (end, notes) = (&peer.end, taken.as_slice());
+    count_notes(&mut peer.auto, notes);
+    tell_done(
+        alloc, me, first, opened, met, access, done, end, notes, lines,
+    )
 }

@@ -15,12 +15,12 @@ use crate::view::View;
 use atomic_table::{Play, Seat, Split, Table};
 use ends_pair::{honest_ends_agree, runs_keep_the_whole};
 use ivs_base::NoMemory;
-use pair_sessions::calm_runs_deliver;
+use pair_sessions::sessions_are_paired;
 use scenario_text::Scenario;
 use std::alloc::Global;
 use std::marker::{Brand, Model};
 
-/// The words of a region and those for interrupts behind them, which threads share, under the rule of running peers.
+/// The words of a region, and those for interrupts and for sessions behind them, which threads share, under the rule of running peers.
 pub type Words = Table<u8, View, Key, Rule, Global>;
 
 /// A seat at the words. It is seen as its range of peers, and the list of the actions of each.
@@ -50,7 +50,7 @@ fn push_words(words: &mut Vec<u64>, enabled: u32, peer: u32) -> Result<(), NoMem
     Ok(())
 }
 
-/// The words of the region, and behind them those of each peer.
+/// The words of the region, behind them those of each peer, and last the two session words.
 fn first_words(alloc: Global, key: &Key) -> Result<Vec<u64>, NoMemory>
     requires { IsFit key.now }
     ensures { IfOk result (λ v. v.items ≡ words_at_start key.now) }
@@ -59,6 +59,8 @@ fn first_words(alloc: Global, key: &Key) -> Result<Vec<u64>, NoMemory>
     for peer in 0..key.geometry.peers() {
         push_words(&mut words, key.enabled, peer)?;
     }
+    words.push(0)?;
+    words.push(0)?;
     Ok(words)
 }
 
@@ -118,7 +120,7 @@ fn learn_by<M: Play<u8, View>>(words: &Words, pass: &mut Pass)
     ensures told { Told words.now.shared.key pass.old.from pass.old.lists }
 {
     runs_keep_the_whole();
-    calm_runs_deliver();
+    sessions_are_paired();
     honest_ends_agree();
     words.shared.load::<M>(&mut pass.seat, 0);
 }

@@ -3,4 +3,4 @@ use Rattle.peer_runner.proofs.ListLaws.{phases_lem}
 use Rattle.peer_runner.proofs.laws.phases_show.Goals as goal
 
 pub returns : goal.returns
-returns c = λ key s kept p hp. phases_lem key kept.fit p hp _ (accesses_by kept.acc) kept.memory.made
+returns c = λ key s kept p hp. phases_lem key kept.fit p hp _ _ (accesses_by kept.acc) kept.memory.made

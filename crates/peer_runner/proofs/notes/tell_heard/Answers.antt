@@ -1,7 +1,7 @@
 use Rattle.std.proofs.Common.{◌≡◌, sym, ap, ◌∙◌, ◌++◌, List, append-nil, arith}
 use Rattle.lawful_history.specs.declared.line.Line.{Line}
 use Rattle.peer_runner.specs.Turns.{heard}
-use Rattle.peer_runner.proofs.Runs.{heard_none, heard_more}
+use Rattle.peer_runner.proofs.Looking.{heard_none, heard_more}
 use Rattle.peer_runner.proofs.notes.tell_heard.Goals as goal
 
 pub loop-bit-init : goal.loop-bit-init

@@ -13,7 +13,7 @@ held_of t v = record { table_id = t; from = v.from; lists = v.lists }
 
 pub load-requires : goal.load-requires
 load-requires g c = let slots = c.args.words.now.shared.table_id.slots in let page = c.requires.of.3.shape.table_page in
-    (search rules, omega arith, learn_allowed c.runs_keep_the_whole.ensures c.calm_runs_deliver.ensures c.honest_ends_agree.ensures _ _ _ _ (g.M.Play.then (step slots 0 0 0 none)) (λ n t h. (c.requires.tells _ _ _ _).1 h))
+    (search rules, omega arith, learn_allowed c.runs_keep_the_whole.ensures c.sessions_are_paired.ensures c.honest_ends_agree.ensures _ _ _ _ (g.M.Play.then (step slots 0 0 0 none)) (λ n t h. (c.requires.tells _ _ _ _).1 h))
 
 pub returns : goal.returns
 returns g c = let key = c.args.words.now.shared.key in let told : learns key (step c.args.words.now.shared.table_id.slots 0 0 0 none) c.pass.inside.seat.me c.load.result c.load.new.seat.me = (c.requires.tells _ _ _ _).0 c.load.ensures.2 in record {

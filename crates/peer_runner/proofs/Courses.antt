@@ -1,0 +1,258 @@
+-- The code's peer on the course of the runner.
+use Rattle.std.proofs.Common.{◌≡◌, ℕ, zero, suc, ◌+◌, ◌<◌, ◌≤◌, Bool, true, false, List, [], ◌∷◌, ◌++◌, length, refl, sym, ap, ◌∙◌, subst, arith, drop-cons}
+use Rattle.std.specs.Prelude.{◌^◌, Option, Some, None, Result, IsErr, not, drop, slice_index}
+use Rattle.std.proofs.lemmas.Bool.{lt-ltb}
+use Rattle.std.proofs.lemmas.List.{drop_all}
+use Rattle.atomic_table.specs.Seated.{TableId}
+use Rattle.call_grammar.specs.Automatic.{Anew}
+use Rattle.call_grammar.specs.Automatic as automatic
+use Rattle.call_grammar.specs.Places.{PlacesFollowTrees}
+use Rattle.link_endpoint.specs.Plan.{Plan}
+use Rattle.lawful_history.specs.declared.line.Line.{Line}
+use Rattle.lawful_history.specs.Peers.{Auto}
+use Rattle.step_lines.specs.Plans.{IsPlanOf}
+use Rattle.doorbell_irq.specs.declared.route.Route.{Route}
+use Rattle.ivs_base.specs.declared.NoMemory.{NoMemory}
+use Rattle.record_text.specs.Parts.{Part}
+use Rattle.record_text.specs.declared.own_trace.OwnTrace.{OwnTrace}
+use Rattle.peer_runner.specs.declared.key.Key.{Key}
+use Rattle.peer_runner.specs.declared.sessions.SessionWord.{SessionWord}
+use Rattle.peer_runner.specs.declared.sessions.SessionWord.TheVariants.{Own, Others}
+use Rattle.peer_runner.specs.declared.turns.AutoPeer.{AutoPeer}
+use Rattle.peer_runner.specs.Held.{Held}
+use Rattle.peer_runner.specs.Keys.{who_in}
+use Rattle.peer_runner.specs.Standings.{Taken, Deed}
+use Rattle.peer_runner.specs.Actions.{Action}
+use Rattle.peer_runner.specs.Passes.{held, IsOf}
+use Rattle.peer_runner.specs.Turns.{Turn, all_turns, has_turn_left, spent, IsSpanSpent, later, told_in, told_of}
+use Rattle.peer_runner.specs.Runners.{Runner, beginning, chosen, round_on, finishes, has_finished, turn_met, restarted_on, IsThere, IsAutoPeer}
+use Rattle.peer_runner.specs.Courses.{GoesOn, starts, follows, IsOnCourse, WentTo}
+use Rattle.peer_runner.specs.Drives.{MayBeAuto, automatic, Did, Drove}
+use Rattle.peer_runner.specs.OwnRecord.{IsToldBy}
+use Rattle.peer_runner.proofs.Keys.{clash}
+use Rattle.peer_runner.proofs.Turning.{plan_cut}
+use Rattle.peer_runner.proofs.Runs.{refused_of, told_snoc, all_spent, all_later, IsCounted, counted_of, far_of, finished_same, there_first, plan_first, lent, did, err_free}
+
+-- one turn more, and its lines
+
+of_on : (id : TableId) (key : Key) (old pass : Held) (me : ℕ) (l m : List (Action (Deed Taken))) → IsOf id key old → old.from ≡ me → old.lists ≡ l ∷ [] → pass.table_id ≡ old.table_id → pass.from ≡ me → pass.lists ≡ m ∷ [] → IsOf id key pass
+of_on id key old pass me l m of from lists same from' lists' = let inside = of.2 in let one = ap length lists in let one' = ap length lists' in (same ∙ of.0, of.1, omega arith, of.3)
+
+pub course_on : (id : TableId) (key : Key) (me : ℕ) (routes : List Route) (plan : Plan) (spans : List ℕ) (r next : Runner) (old pass : Held) (p q : AutoPeer) → IsOnCourse id key me routes plan spans r old p → GoesOn (who_in key me) routes r next →
+    IsThere key me routes next pass q.end → IsAutoPeer q next → pass.table_id ≡ old.table_id → IsOnCourse id key me routes plan spans next pass q
+course_on id key me routes plan spans r next old pass p q on goes there is same = record {
+  comes = follows r next p.end on.comes on.there.stands goes;
+  of = of_on id key old pass me r.actions next.actions on.of on.there.from on.there.lists same there.from there.lists;
+  there = there;
+  is = is;
+}
+
+pub told_further : (me : ℕ) (so_far now : List Turn) (turn : Turn) (old new : List Line) → now ≡ so_far ++ turn ∷ [] → old ≡ told_of me so_far → new ≡ old ++ told_in me turn → new ≡ told_of me now
+told_further me so_far now turn old new grows told is = is ∙ (ap (λ ls. ls ++ told_in me turn) told ∙ sym (ap (told_of me) grows ∙ told_snoc me so_far turn))
+
+-- a choice moves the round alone, and not where the peer is finished
+
+round_still : (auto : Auto) (c : Option automatic.Choice) → finishes c ≡ true → round_on auto c ≡ auto
+round_still auto None is = refl
+round_still auto (Some automatic.ChoosesTick) is = absurd (clash is)
+round_still auto (Some (automatic.ChoosesOffer frame)) is = absurd (clash is)
+round_still auto (Some automatic.ChoosesPoll) is = absurd (clash is)
+round_still auto (Some automatic.IsFinished) is = refl
+
+round_cut : (auto : Auto) (c : Option automatic.Choice) → record (round_on auto c) { round = Anew } ≡ record auto { round = Anew }
+round_cut auto None = refl
+round_cut auto (Some automatic.ChoosesTick) = refl
+round_cut auto (Some (automatic.ChoosesOffer frame)) = refl
+round_cut auto (Some automatic.ChoosesPoll) = refl
+round_cut auto (Some automatic.IsFinished) = refl
+
+pub planned_still : (plan : Plan) (r : Runner) → has_finished r ≡ true → IsPlanOf plan (round_on r.auto (chosen r)) → IsPlanOf plan r.auto
+planned_still plan r is planned = subst (IsPlanOf plan) (round_still r.auto (chosen r) is) planned
+
+pub course_still : (id : TableId) (key : Key) (me : ℕ) (routes : List Route) (plan : Plan) (spans : List ℕ) (r : Runner) (pass : Held) (p : AutoPeer) (auto : Plan) → IsOnCourse id key me routes plan spans r pass p → has_finished r ≡ true →
+    IsPlanOf auto (round_on r.auto (chosen r)) → IsOnCourse id key me routes plan spans r pass (record p { auto = auto })
+course_still id key me routes plan spans r pass p auto on is planned = record {
+  comes = on.comes;
+  of = on.of;
+  there = on.there;
+  is = record { planned = planned_still auto r is planned; looks = on.is.looks; ringing = on.is.ringing; opened = on.is.opened; met = on.is.met };
+}
+
+pub planned_cut : (plan cut : Plan) (r : Runner) → IsPlanOf plan (round_on r.auto (chosen r)) → cut ≡ record plan { round = Anew } → IsPlanOf cut (restarted_on r).auto
+planned_cut plan cut r planned is = subst (λ (p : Plan). IsPlanOf p (restarted_on r).auto) (sym is)
+    (subst (IsPlanOf (record plan { round = Anew })) (round_cut r.auto (chosen r)) (plan_cut plan (record r { auto = round_on r.auto (chosen r) }) planned))
+
+-- a turn at a session word tells nothing
+pub met_silent : (me number : ℕ) (word : SessionWord) → told_in me (turn_met word number) ≡ []
+met_silent me number Own = refl
+met_silent me number Others = refl
+
+-- what a turn asks of the pass
+pub seated : (id : TableId) (key : Key) (me : ℕ) (routes : List Route) (plan : Plan) (spans : List ℕ) (r : Runner) (pass : Held) (p : AutoPeer) → IsOnCourse id key me routes plan spans r pass p → IsOf id key pass × (pass.from ≡ me) × (0 < length pass.lists)
+seated id key me routes plan spans r pass p on = (on.of, on.there.from, (let one = ap length on.there.lists in omega arith))
+
+-- a session more can be numbered, and so can a turn
+pub few_opened : (spans : List ℕ) (r : Runner) → IsCounted spans r → has_turn_left r.spans ≡ true → all_turns spans < 2 ^ 32 → r.numbers.log.opened + 1 < 2 ^ 32
+few_opened spans r is left few = let count = is.count in let most = is.opened in let one = all_spent r.spans left in omega arith
+
+-- so many turns of a span are taken, by which the runner came there from r
+pub record IsInSpan (id : TableId) (key : Key) (me : ℕ) (routes : List Route) (plan : Plan) (spans : List ℕ) (span taken : ℕ) (rest : List ℕ) (next : Runner) (pass : Held) (p : AutoPeer) (turns : ℕ) (lines : List Line) : Type 0 where
+  pub on : IsOnCourse id key me routes plan spans next pass p
+  pub left : ℕ
+  pub spans_are : next.spans ≡ left ∷ rest
+  pub all : left + taken ≡ span
+  pub turns_are : turns ≡ length next.turns
+  pub told : lines ≡ told_of me next.turns
+
+-- where a turn of it is left
+pub left_in_span : (spans : List ℕ) (left : ℕ) (rest : List ℕ) → spans ≡ left ∷ rest → 0 < left → has_turn_left spans ≡ true
+left_in_span spans left rest is some = ap has_turn_left is ∙ lt-ltb 0 left some
+
+-- the number of the next turn
+pub few_turns : (spans : List ℕ) (r : Runner) → IsCounted spans r → has_turn_left r.spans ≡ true → length r.turns + 1 ≤ all_turns spans
+few_turns spans r is left = let count = is.count in let one = all_spent r.spans left in omega arith
+
+pub one_more : (spans : List ℕ) (r next : Runner) → IsCounted spans r → IsCounted spans next → has_turn_left r.spans ≡ true → next.spans ≡ spent r.spans → length next.turns ≡ length r.turns + 1
+one_more spans r next is then' left goes = let count = is.count in let counts = then'.count in let one = all_spent r.spans left in let same = ap all_turns goes in omega arith
+
+-- between two spans, of which so many were taken: the first is to come, or the last one is spent unless the peer is finished
+abbrev pub IsDue : List ℕ → ℕ → Runner → Type 0
+IsDue spans zero r = r.spans ≡ spans
+IsDue spans (suc k) r = has_finished r ≡ false → r.spans ≡ 0 ∷ drop (suc k) spans
+
+-- the start
+pub course_first : (id : TableId) (key : Key) (me : ℕ) (routes : List Route) (spans : List ℕ) (pass : Held) (p : AutoPeer) → IsOf id key pass → pass.from ≡ me → pass.lists ≡ [] ∷ [] → MayBeAuto key me p.auto p.end →
+    (p.looks ≡ 0) × (p.ringing ≡ false) × (p.opened ≡ 0) × (p.met ≡ None) → IsOnCourse id key me routes p.auto spans (beginning p.auto.frames p.auto.expected spans) pass p
+course_first id key me routes spans pass p of from lists may fresh = record {
+  comes = starts;
+  of = of;
+  there = there_first key me routes pass p.auto spans p.end from lists may;
+  is = record { planned = plan_first p.auto may.begins; looks = fresh.0; ringing = fresh.1; opened = fresh.2; met = fresh.3 };
+}
+
+-- the spans that are left there
+
+span_here : (spans : List ℕ) (k : ℕ) → k < length spans → drop k spans ≡ slice_index spans k ∷ drop (suc k) spans
+span_here spans k there = drop-cons spans k 0 there
+
+-- a reset comes between two spans
+pub due_over : (spans : List ℕ) (k : ℕ) (r : Runner) → IsDue spans k r → 0 < k → k < length spans → has_finished r ≡ false → IsSpanSpent r.spans
+due_over spans zero r due some there goes = absurd (omega arith)
+due_over spans (suc k) r due some there goes = subst IsSpanSpent (sym (due goes ∙ ap (λ s. 0 ∷ s) (span_here spans (suc k) there))) tt
+
+pub due_first : (spans : List ℕ) (k : ℕ) (r : Runner) → IsDue spans k r → k ≡ 0 → k < length spans → r.spans ≡ slice_index spans k ∷ drop (suc k) spans
+due_first spans zero r due none there = due ∙ span_here spans zero there
+due_first spans (suc k) r due none there = absurd (omega arith)
+
+pub due_later : (spans : List ℕ) (k : ℕ) (r next : Runner) → IsDue spans k r → 0 < k → k < length spans → has_finished r ≡ false → next.spans ≡ later r.spans → next.spans ≡ slice_index spans k ∷ drop (suc k) spans
+due_later spans zero r next due some there goes is = absurd (omega arith)
+due_later spans (suc k) r next due some there goes is = is ∙ (ap later (due goes) ∙ span_here spans (suc k) there)
+
+-- after the last span
+pub due_last : (spans : List ℕ) (k : ℕ) (r : Runner) → IsDue spans k r → length spans ≤ k → has_finished r ≡ false → all_turns r.spans ≡ 0
+due_last spans zero r due past goes = ap all_turns (due ∙ drop_all 0 spans past)
+due_last spans (suc k) r due past goes = ap all_turns (due goes ∙ ap (λ s. 0 ∷ s) (drop_all (suc k) spans past))
+
+pub most_turns : (spans : List ℕ) (r : Runner) → IsCounted spans r → length r.turns ≤ all_turns spans
+most_turns spans r is = let count = is.count in omega arith
+
+one_reset : (spans : List ℕ) (r next : Runner) → IsCounted spans r → IsCounted spans next → IsSpanSpent r.spans → next.spans ≡ later r.spans → length next.turns ≡ length r.turns + 1
+one_reset spans r next is then' over goes = let count = is.count in let counts = then'.count in let one = all_later r.spans over in let same = ap all_turns goes in omega arith
+
+-- The peer that is driven, with its turns and lines: a runner of which this holds is there
+
+pub record IsAt (id : TableId) (key : Key) (me : ℕ) (routes : List Route) (plan : Plan) (spans : List ℕ) (P : Runner → Type 0) (pass : Held) (p : AutoPeer) (turns : ℕ) (lines : List Line) : Type 0 where
+  pub r : Runner
+  pub on : IsOnCourse id key me routes plan spans r pass p
+  pub holds : P r
+  pub turns_are : turns ≡ length r.turns
+  pub told : lines ≡ told_of me r.turns
+
+module _ (id : TableId) (key : Key) (me : ℕ) (routes : List Route) (plan : Plan) (spans : List ℕ) where
+  pub same_at : (P : Runner → Type 0) (pass pass' : Held) (p p' : AutoPeer) (turns turns' : ℕ) (lines lines' : List Line) → pass' ≡ pass → p' ≡ p → turns' ≡ turns → lines' ≡ lines → IsAt id key me routes plan spans P pass p turns lines →
+      IsAt id key me routes plan spans P pass' p' turns' lines'
+  same_at P pass pass' p p' turns turns' lines lines' a b c d at = record {
+    r = at.r;
+    on = subst (λ h. IsOnCourse id key me routes plan spans at.r h p') (sym a) (subst (λ q. IsOnCourse id key me routes plan spans at.r pass q) (sym b) at.on);
+    holds = at.holds;
+    turns_are = c ∙ at.turns_are;
+    told = d ∙ at.told;
+  }
+
+  counts : (r : Runner) (pass : Held) (p : AutoPeer) → IsOnCourse id key me routes plan spans r pass p → IsCounted spans r
+  counts r pass p on = counted_of key me routes plan spans r on.comes
+
+  -- at a span: the first, or one behind a reset
+  pub enters_first : (k : ℕ) (pass : Held) (p : AutoPeer) (turns : ℕ) (lines : List Line) → k ≡ 0 → k < length spans → IsAt id key me routes plan spans (IsDue spans k) pass p turns lines →
+      IsAt id key me routes plan spans (λ r. r.spans ≡ slice_index spans k ∷ drop (suc k) spans) pass p turns lines
+  enters_first k pass p turns lines none there at = record { r = at.r; on = at.on; holds = due_first spans k at.r at.holds none there; turns_are = at.turns_are; told = at.told }
+
+  pub enters_later : (k : ℕ) (old pass : Held) (p q : AutoPeer) (turns : ℕ) (before lines : List Line) (went : Bool) (at : IsAt id key me routes plan spans (IsDue spans k) old p turns before) → 0 < k → k < length spans → went ≡ true →
+      (next : Runner) × IsOnCourse id key me routes plan spans next pass q × ((lines ≡ told_of me next.turns) × WentTo (later at.r.spans) at.r next went × (has_finished at.r ≡ not went)) →
+      IsAt id key me routes plan spans (λ r. r.spans ≡ slice_index spans k ∷ drop (suc k) spans) pass q (turns + 1) lines
+  enters_later k old pass p q turns before lines went at some there is took = let next = took.0 in let goes = subst (WentTo (later at.r.spans) at.r next) is took.2.1 in let on = took.2.2 ∙ ap not is in record {
+    r = next;
+    on = took.1;
+    holds = due_later spans k at.r next at.holds some there on goes;
+    turns_are = ap (λ n. n + 1) at.turns_are ∙ sym (one_reset spans at.r next (counts at.r old p at.on) (counts next pass q took.1) (due_over spans k at.r at.holds some there on) goes);
+    told = took.2.0;
+  }
+
+  -- at the end: all spans are spent, or the peer is finished
+  pub ends_spent : (k : ℕ) (pass : Held) (p : AutoPeer) (turns : ℕ) (lines : List Line) → length spans ≤ k → IsAt id key me routes plan spans (IsDue spans k) pass p turns lines →
+      IsAt id key me routes plan spans (λ r. has_finished r ≡ false → all_turns r.spans ≡ 0) pass p turns lines
+  ends_spent k pass p turns lines past at = record { r = at.r; on = at.on; holds = due_last spans k at.r at.holds past; turns_are = at.turns_are; told = at.told }
+
+  pub ends_finished : (k : ℕ) (old pass : Held) (p q : AutoPeer) (turns : ℕ) (before lines : List Line) (went : Bool) (at : IsAt id key me routes plan spans (IsDue spans k) old p turns before) → went ≡ false →
+      (next : Runner) × IsOnCourse id key me routes plan spans next pass q × ((lines ≡ told_of me next.turns) × WentTo (later at.r.spans) at.r next went × (has_finished at.r ≡ not went)) →
+      IsAt id key me routes plan spans (λ r. has_finished r ≡ false → all_turns r.spans ≡ 0) pass q turns lines
+  ends_finished k old pass p q turns before lines went at is took = let next = took.0 in let ends = subst (WentTo (later at.r.spans) at.r next) is took.2.1 in record {
+    r = next;
+    on = took.1;
+    holds = λ goes. absurd (clash (sym goes ∙ (ap has_finished ends.0 ∙ ends.1)));
+    turns_are = at.turns_are ∙ ap (λ (r : Runner). length r.turns) (sym ends.0);
+    told = took.2.0;
+  }
+
+  -- what was done there, as it is driven
+  pub pass_at : (first pass : Held) (p : AutoPeer) (r : Runner) → IsOf id key first → IsOnCourse id key me routes plan spans r pass p → pass ≡ held first.table_id me (r.actions ∷ [])
+  pass_at first pass p r of on = lent pass me r.actions on.there.from on.there.lists ∙ ap (λ i. held i me (r.actions ∷ [])) (on.of.0 ∙ sym of.0)
+
+  pub drove_err : PlacesFollowTrees → (first pass : Held) (p : AutoPeer) (r : Runner) (result : Result OwnTrace NoMemory) → IsOf id key first → IsErr result → IsOnCourse id key me routes plan spans r pass p →
+      (list : List (Action (Deed Taken))) × (pass ≡ held first.table_id me (list ∷ [])) × Drove key routes me spans (automatic plan) list result
+  drove_err follow first pass p r result of is on = (
+    r.actions,
+    pass_at first pass p r of on,
+    (
+      did key me routes plan spans r p.end (far_of follow key me routes plan spans r on.comes) on.there.stands (refused_of follow key me routes plan spans r p.end on.comes on.there.stands),
+      most_turns spans r (counts r pass p on),
+      err_free _ result is,
+    ),
+  )
+
+  pub drove_ok : PlacesFollowTrees → (first pass : Held) (p : AutoPeer) (turns : ℕ) (lines : List Line) (part : Part) → IsOf id key first → (at : IsAt id key me routes plan spans (λ r. has_finished r ≡ false → all_turns r.spans ≡ 0) pass p turns lines) →
+      part.peer ≡ me → part.lines ≡ lines → part.turns ≡ turns → part.finished ≡ has_finished at.r → (list : List (Action (Deed Taken))) × (pass ≡ held first.table_id me (list ∷ [])) ×
+      ((done : Did key routes me (automatic plan) spans list) × (length done.turns ≤ all_turns spans) × IsToldBy me (all_turns spans) done.turns done.after part)
+  drove_ok follow first pass p turns lines part of at mine same_lines same_turns finishes = let r = at.r in let on = at.on in let counted = counts r pass p on in let count = counted.count in let turns_are = at.turns_are in (
+    r.actions,
+    pass_at first pass p r of on,
+    (
+      did key me routes plan spans r p.end (far_of follow key me routes plan spans r on.comes) on.there.stands (refused_of follow key me routes plan spans r p.end on.comes on.there.stands),
+      most_turns spans r counted,
+      record {
+        peer = mine;
+        lines = same_lines ∙ at.told;
+        count = same_turns ∙ turns_are;
+        finished = finishes ∙ finished_same follow (who_in key me) r;
+        most = omega arith;
+        spent = λ e. let none = at.holds (sym finishes ∙ e) in omega arith;
+      },
+    ),
+  )
+
+-- at the next span
+pub due_next : (spans : List ℕ) (k : ℕ) (r : Runner) → (has_finished r ≡ false → r.spans ≡ 0 ∷ drop (suc k) spans) → IsDue spans (k + 1) r
+due_next spans k r due = subst (λ n. IsDue spans n r) (sym next) due
+  where
+    next : k + 1 ≡ suc k
+    next = omega arith

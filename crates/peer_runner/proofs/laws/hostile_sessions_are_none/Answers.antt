@@ -1,0 +1,5 @@
+use Rattle.peer_runner.proofs.SessionLaws.{none_lem}
+use Rattle.peer_runner.proofs.laws.hostile_sessions_are_none.Goals as goal
+
+pub returns : goal.returns
+returns c = none_lem

@@ -1,6 +1,0 @@
-use Rattle.peer_runner.specs.Rules.{accesses_by}
-use Rattle.peer_runner.proofs.PairLaws.{session_lem}
-use Rattle.peer_runner.proofs.laws.one_session.Goals as goal
-
-pub returns : goal.returns
-returns c = λ key s kept p a b p2. session_lem key kept.fit a b _ (accesses_by kept.acc) kept.memory.made p p2

@@ -1,0 +1,61 @@
+//! Session words, and the reset of a running peer. `peers` is the number of all peers.
+ghost use Rattle.std.specs.Prelude.{◌≡◌, ◌<◌, ◌≤◌, ◌+◌, true, length};
+ghost use Rattle.call_grammar.specs.Places.{Setting};
+ghost use Rattle.peer_runner.specs.Keys.{honest_of};
+ghost use Rattle.peer_runner.specs.Actions.{accessed, accesses_in};
+ghost use Rattle.peer_runner.specs.Standings.{numbered, carried, restarted, standing};
+ghost use Rattle.peer_runner.specs.Rules.{front};
+ghost use Rattle.peer_runner.specs.Passes.{IsOf, added};
+
+use crate::rule::{LoadsNumber, Resets, StoresNumber};
+use crate::words::{Pass, Words};
+
+/// A session word, as a link peer comes to it.
+#[derive(Clone, Copy, Debug, PartialEq, Eq)]
+pub enum SessionWord {
+    /// Its own, before its State step with 2.
+    Own,
+    /// The other's, before its State step with 3.
+    Others,
+}
+
+/// Where the session word of a link peer stands: they are the last two of all words.
+fn session_word(words: &Words, peer: u32) -> usize
+    requires { (peer < 2) × (2 ≤ words.now.shared.table_id.words) }
+    ensures { result + 2 ≡ words.now.shared.table_id.words + peer }
+{
+    words.word_count() - 2 + peer as usize
+}
+
+/// Stores in the session word of an honest peer the number of the session that it opens next, right before its State step with 2.
+pub fn store_session(words: &Words, pass: &mut Pass, me: u32, number: u32)
+    requires honest { honest_of words.now.shared.key me ≡ true }
+    requires place { (standing words.now.shared.key me (accesses_in (front pass.old.lists))).place ≡ Setting 2 }
+    requires number { number ≡ (standing words.now.shared.key me (accesses_in (front pass.old.lists))).numbers.log.opened + 1 }
+    requires of { IsOf words.now.shared.table_id words.now.shared.key pass.old × (pass.old.from ≡ me) × (0 < length pass.old.lists) }
+    ensures { pass.new ≡ added pass.old (accessed (numbered number)) }
+{
+    let word = session_word(words, me);
+    words
+        .shared
+        .store::<StoresNumber>(&mut pass.seat, word, u64::from(number));
+}
+
+/// Loads the other's session word, right before the State step with 3 of an honest peer.
+pub fn load_session(words: &Words, pass: &mut Pass, me: u32) -> u32
+    requires honest { honest_of words.now.shared.key me ≡ true }
+    requires place { (standing words.now.shared.key me (accesses_in (front pass.old.lists))).place ≡ Setting 3 }
+    requires of { IsOf words.now.shared.table_id words.now.shared.key pass.old × (pass.old.from ≡ me) × (0 < length pass.old.lists) }
+    ensures { pass.new ≡ added pass.old (accessed (carried result)) }
+{
+    let word = session_word(words, 1 - me);
+    words.shared.load::<LoadsNumber>(&mut pass.seat, word) as u32
+}
+
+/// Resets the device of the pass's first peer: a store of 0 in its state word, after which no call is open.
+pub fn reset(words: &Words, pass: &mut Pass, me: u32)
+    requires of { IsOf words.now.shared.table_id words.now.shared.key pass.old × (pass.old.from ≡ me) × (0 < length pass.old.lists) }
+    ensures { pass.new ≡ added pass.old (accessed restarted) }
+{
+    words.shared.store::<Resets>(&mut pass.seat, me as usize, 0);
+}

@@ -140,7 +140,7 @@ fn restarting(
     others: u32,
 ) -> Result<String, AllocError> {
     let mut text = format!(in alloc;
-        "ivshm {version}\n{HEAD}honest\nbegin\nauto 0 9999\nauto 1 9999\n"
+        "ivshm {version}\n{HEAD}honest\nbegin\nauto 0 30000\nauto 1 30000\n"
     )?;
     for frame in 0..frames {
         for peer in 0..2 {
@@ -194,13 +194,21 @@ fn a_reset_peer_opens_a_session_anew(rt: HostRuntime) -> Result<(), Fail> {
 #[derive(Drop)]
 struct Meeting {
     come: [AtomicU64; 2],
+    missed: AtomicU64,
 }
 
 impl Meeting {
     fn new() -> Meeting {
         Meeting {
             come: [AtomicU64::new(0), AtomicU64::new(0)],
+            missed: AtomicU64::new(0),
         }
+    }
+
+    /// Whether both came, and neither waited for the other in vain.
+    fn was_kept(&self) -> bool {
+        let [first, second] = &self.come;
+        first.load(SeqCst) == 1 && second.load(SeqCst) == 1 && self.missed.load(SeqCst) == 0
     }
 }
 
@@ -216,6 +224,7 @@ impl Gate for Meeting {
                 return;
             }
         }
+        self.missed.store(1, SeqCst);
     }
 
     fn ended(&self, _peer: u32) {}
@@ -228,7 +237,7 @@ fn fifty_resets<R: Threads + Sync + Abort, G: Gate + Sync>(
     alloc: Global,
     gate: &G,
 ) -> Result<[usize; 2], Fail> {
-    let text = restarting(alloc, 1, 9000, 50, 38_000, 1_962_000)?;
+    let text = restarting(alloc, 1, 24_000, 50, 38_000, 1_962_000)?;
     let Some(trace) = run(rt, alloc, text.as_bytes(), gate)? else {
         panic!(rt; "the scenario can be run");
     };
@@ -248,7 +257,9 @@ fn fifty_resets_beside_a_steady_peer(rt: HostRuntime) -> Result<(), Fail> {
     let [first, second] = fifty_resets(&rt, alloc, &gate)?;
     assert!(rt; gate.was_kept());
     assert!(rt; first >= 10 && second >= 10, "{first} {second}");
-    fifty_resets(&rt, alloc, &Meeting::new())?;
+    let meeting = Meeting::new();
+    fifty_resets(&rt, alloc, &meeting)?;
+    assert!(rt; meeting.was_kept());
     Ok(())
 }
 
@@ -310,7 +321,10 @@ fn sessions_beside_a_storm_carry_none(rt: HostRuntime) -> Result<(), Fail> {
     let gate = Lockstep::new(64);
     check_storm(&rt, alloc, &gate)?;
     assert!(rt; gate.was_kept());
-    check_storm(&rt, alloc, &Meeting::new())
+    let meeting = Meeting::new();
+    check_storm(&rt, alloc, &meeting)?;
+    assert!(rt; meeting.was_kept());
+    Ok(())
 }
 
 /// A peer that is finished in a span ends there, with its resets undone.

@@ -76,7 +76,7 @@ static void tick(ivshm_end *end, uint32_t me) {
 
 /* The sizes of structs on both sides of the header. */
 _Static_assert(sizeof(ivshm_end) == 8 && sizeof(ivshm_access) == 28 && sizeof(ivshm_note) == 16 && sizeof(ivshm_notes) == 40, "sizes");
-_Static_assert(sizeof(ivshm_view) == 40 && sizeof(ivshm_found) == 64 && sizeof(ivshm_words) == 56 && sizeof(ivshm_limits_told) == 24, "sizes");
+_Static_assert(sizeof(ivshm_view) == 40 && sizeof(ivshm_found) == 64 && sizeof(ivshm_words) == 56 && sizeof(ivshm_limits_told) == 24 && sizeof(ivshm_stretch) == 8, "sizes");
 
 static int check_tables(void) {
     static uint8_t space[256];
@@ -131,15 +131,39 @@ static int check_handles(void) {
     ivshm_access access;
     ivshm_notes notes;
     ivshm_view view;
+    ivshm_stretch stretches[3] = {{7, 7}};
     uint8_t frame[14] = {0};
     size_t length;
     WANT(ivshm_end_begin(&none, IVSHM_TICK) == IVSHM_NO_END && ivshm_end_offer(&none, frame, 14) == IVSHM_NO_END);
     WANT(ivshm_end_offer_again(&none) == IVSHM_NO_END);
     WANT(ivshm_end_next(&none, &access) == IVSHM_NO_END && ivshm_end_took(&none, 0, &notes) == IVSHM_NO_END);
     WANT(ivshm_end_took_words(&none, frame, 4, &notes) == IVSHM_NO_END && ivshm_end_words(&none, frame, 4) == IVSHM_NO_END);
-    WANT(ivshm_end_took_written(&none, 1) == IVSHM_NO_END);
+    WANT(ivshm_end_took_written(&none, 1) == IVSHM_NO_END && ivshm_end_took_stretches(&none) == IVSHM_NO_END);
+    WANT(ivshm_end_stretches(&none, stretches, frame, 14) == IVSHM_NO_END && stretches[0].word == 7);
     WANT(ivshm_end_view(&none, &view) == IVSHM_NO_END && ivshm_end_frame(&none, frame, 14, &length) == IVSHM_NO_END);
     WANT(ivshm_end_reset(&none) == IVSHM_NO_END && ivshm_end_free(&none) == IVSHM_NO_END && none.at == NULL);
+    return 0;
+}
+
+/* The frame of 38 bytes that was offered last goes again, with all before its index at once. */
+static int check_before_index(ivshm_end *a, ivshm_end *b, const uint8_t *frame) {
+    static uint8_t room[64];
+    ivshm_stretch stretches[3];
+    ivshm_access access;
+    ivshm_notes notes;
+    size_t length;
+    WANT(ivshm_end_offer_again(a) == IVSHM_DONE);
+    while (ivshm_end_stretches(a, stretches, room, 64) == IVSHM_OTHER_ACCESS)
+        WANT(ivshm_end_next(a, &access) == IVSHM_DONE && ivshm_end_took(a, words[access.word], &notes) == IVSHM_DONE);
+    WANT(ivshm_end_stretches(a, stretches, room, 60) == IVSHM_DONE && stretches[0].count == 10);
+    WANT(stretches[1].word == 1028 && stretches[1].count == 4 && stretches[2].word == 1281 && stretches[2].count == 1);
+    memcpy(words + stretches[0].word, room, 40);
+    memcpy(words + stretches[1].word, room + 40, 16);
+    memcpy(words + stretches[2].word, room + 56, 4);
+    memset(room, 0, sizeof room);
+    WANT(ivshm_end_took_stretches(a) == IVSHM_DONE && run(a, 0) == 0 && ivshm_end_begin(b, IVSHM_POLL) == IVSHM_DONE && run(b, 1) == 1);
+    WANT(ivshm_end_frame(b, room, 64, &length) == IVSHM_DONE && length == 38);
+    for (int i = 0; i < 38; i++) WANT(frame[i] == room[i]);
     return 0;
 }
 
@@ -149,12 +173,14 @@ static int check_stretches(void) {
     static uint8_t frame[40] = {255, 255, 255, 255, 255, 255, 2}, room[64];
     ivshm_found found = {.table = 4096, .out = 16384};
     ivshm_access access;
+    ivshm_stretch stretches[3] = {{7, 7}};
     ivshm_notes notes = {.count = 7};
     size_t length;
     WANT(ivshm_end_new(&a, &found, 2, 0, 256, 1) == IVSHM_DONE && ivshm_end_new(&b, &found, 2, 1, 256, 1) == IVSHM_DONE);
     WANT(ivshm_end_next(&a, &access) == IVSHM_DONE && access.order == IVSHM_RELEASE && access.fence_before == 0 && access.fence_after == 1);
     WANT(ivshm_end_took_words(&a, room, 4, &notes) == IVSHM_OTHER_ACCESS && notes.count == 7);
     WANT(run(&a, 0) == 0 && run(&b, 1) == 0 && ivshm_end_took_written(&a, 1) == IVSHM_NO_CALL);
+    WANT(ivshm_end_stretches(&a, stretches, room, 64) == IVSHM_NO_CALL && ivshm_end_took_stretches(&a) == IVSHM_NO_CALL);
     WANT(ivshm_end_took_words(&a, room, 4, &notes) == IVSHM_NO_CALL && ivshm_end_words(&a, room, 4) == IVSHM_NO_CALL);
     tick(&a, 0);
     tick(&b, 1);
@@ -176,7 +202,9 @@ static int check_stretches(void) {
     WANT(room[37] == 37 && room[38] == 0 && room[39] == 0 && ivshm_end_words(&a, room, 44) == IVSHM_BAD_COUNT);
     WANT(ivshm_end_words(&a, room, 6) == IVSHM_BAD_COUNT);
     memcpy(words + access.word, room, 40);
+    WANT(ivshm_end_stretches(&a, stretches, room, 59) == IVSHM_SHORT_ROOM && stretches[0].word == 7 && room[40] == 0);
     WANT(ivshm_end_took_written(&a, 10) == IVSHM_DONE && ivshm_end_next(&a, &access) == IVSHM_DONE && access.word == 1024 && access.count == 4);
+    WANT(ivshm_end_stretches(&a, stretches, room, 64) == IVSHM_OTHER_ACCESS && ivshm_end_took_stretches(&a) == IVSHM_OTHER_ACCESS);
     WANT(run(&a, 0) == 0 && ivshm_end_begin(&b, IVSHM_POLL) == IVSHM_DONE);
     for (int i = 0; i < 6; i++) WANT(ivshm_end_next(&b, &access) == IVSHM_DONE && ivshm_end_took(&b, words[access.word], &notes) == IVSHM_DONE);
     WANT(ivshm_end_next(&b, &access) == IVSHM_DONE && access.kind == IVSHM_READ && access.count == 10 && access.word == 1024 + 448);
@@ -184,7 +212,10 @@ static int check_stretches(void) {
     WANT(ivshm_end_took_words(&b, (const uint8_t *)(words + access.word), 40, &notes) == IVSHM_DONE && notes.count == 1 && notes.note[0].kind == IVSHM_DELIVER);
     WANT(ivshm_end_frame(&b, room, 64, &length) == IVSHM_DONE && length == 38);
     for (int i = 0; i < 38; i++) WANT(frame[i] == room[i]);
-    WANT(run(&b, 1) == 0 && ivshm_end_free(&a) == IVSHM_DONE && ivshm_end_free(&b) == IVSHM_DONE);
+    WANT(run(&b, 1) == 0);
+    int line = check_before_index(&a, &b, frame);
+    if (line) return line;
+    WANT(ivshm_end_free(&a) == IVSHM_DONE && ivshm_end_free(&b) == IVSHM_DONE);
     return 0;
 }
 

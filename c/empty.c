@@ -6,7 +6,7 @@
 
 #include "ivshm_c.h"
 
-enum { MOST = 1 << 18, BATCH = 8, SLOT = 600 }; /* SLOT: words, for frames of 2,400 bytes at most */
+enum { MOST = 1 << 18, BATCH = 8, SLOT = 600, DATA = 25000 }; /* SLOT: words, for frames of 2,400 bytes at most; DATA: the word where they begin */
 
 struct list {
     uint32_t count;
@@ -29,7 +29,7 @@ static void add_several(struct list *l, uint32_t kind, uint32_t word, uint32_t c
 }
 
 static void lay_out(struct empty *e, size_t length) {
-    uint32_t words = (uint32_t)(length + 3) / 4, data = 25000;
+    uint32_t words = (uint32_t)(length + 3) / 4;
     if (words > SLOT) exit(1);
     e->length = length;
     e->tick.count = e->offer.count = e->poll.count = 0;
@@ -38,7 +38,7 @@ static void lay_out(struct empty *e, size_t length) {
     struct list *l = &e->offer;
     add(l, IVSHM_READ, e->theirs + 18500, 0, IVSHM_ACQUIRE);
     add(l, IVSHM_READ, e->theirs + 18501, 0, IVSHM_RELAXED);
-    add_several(l, IVSHM_WRITE, e->own + data, words);
+    add_several(l, IVSHM_WRITE, e->own + DATA, words);
     add_several(l, IVSHM_WRITE, e->own, 4);
     add(l, IVSHM_WRITE, e->own + 16385, 0, IVSHM_RELAXED);
     add(l, IVSHM_WRITE, e->own + 16384, 0, IVSHM_RELEASE);
@@ -48,7 +48,7 @@ static void lay_out(struct empty *e, size_t length) {
     for (uint32_t i = 0; i < BATCH; i++) {
         add(l, IVSHM_READ, e->theirs + 16385 + i / 2, 0, IVSHM_RELAXED);
         for (uint32_t k = 0; k < 4; k++) add(l, IVSHM_READ, e->theirs + 4 * i + k, 0, IVSHM_RELAXED);
-        add_several(l, IVSHM_READ, e->theirs + data + SLOT * i, words);
+        add_several(l, IVSHM_READ, e->theirs + DATA + SLOT * i, words);
         l->delivers[l->count - 1] = 1;
         add_several(l, IVSHM_WRITE, e->own + 18501 + 2 * i, 2);
         add(l, IVSHM_WRITE, e->own + 18500, 0, IVSHM_RELEASE);
@@ -58,7 +58,7 @@ static void lay_out(struct empty *e, size_t length) {
 
 uint32_t ivshm_layout(const ivshm_found *found, uint32_t peers, uint32_t mtu, ivshm_words *layout) {
     (void)peers, (void)mtu;
-    *layout = (ivshm_words){.first = found->table / 4, .words = (uint32_t)(found->out / 4)};
+    *layout = (ivshm_words){.first = found->table / 4, .words = (uint32_t)(found->out / 4), .data_area = 4 * DATA};
     return IVSHM_DONE;
 }
 
@@ -143,6 +143,26 @@ uint32_t ivshm_end_words(ivshm_end *end, uint8_t *into, size_t size) {
 uint32_t ivshm_end_took_written(ivshm_end *end, uint32_t count) {
     struct empty *e = end->at;
     e->at += count;
+    return IVSHM_DONE;
+}
+
+/* An offer reads two words first. */
+uint32_t ivshm_end_stretches(ivshm_end *end, ivshm_stretch stretches[3], uint8_t *room, size_t size) {
+    struct empty *e = end->at;
+    (void)room, (void)size;
+    if (!e) return IVSHM_NO_END;
+    if (e->now != &e->offer || e->at != 2) return IVSHM_OTHER_ACCESS;
+    const ivshm_access *frame = &e->offer.access[2], *descriptor = frame + frame->count;
+    stretches[0] = (ivshm_stretch){frame->word, frame->count};
+    stretches[1] = (ivshm_stretch){descriptor->word, 4};
+    stretches[2] = (ivshm_stretch){descriptor[4].word, 1};
+    return IVSHM_DONE;
+}
+
+uint32_t ivshm_end_took_stretches(ivshm_end *end) {
+    struct empty *e = end->at;
+    if (!e) return IVSHM_NO_END;
+    e->at += e->offer.access[2].count + 5;
     return IVSHM_DONE;
 }
 

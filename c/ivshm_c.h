@@ -86,7 +86,7 @@ enum {
     IVSHM_BAD_CALL = 6,   /* ivshm_end_begin: none of the three calls */
     IVSHM_SHORT_FRAME = 7,/* ivshm_end_offer: fewer than IVSHM_SHORTEST bytes */
     IVSHM_LONG_FRAME = 8, /* ivshm_end_offer: more than the MTU and 18 bytes */
-    IVSHM_SHORT_ROOM = 9, /* ivshm_end_frame: the frame doesn't fit */
+    IVSHM_SHORT_ROOM = 9, /* ivshm_end_frame, ivshm_end_stretches: what is to be copied doesn't fit */
     /* why sizes make no end: the first that is wrong */
     IVSHM_BAD_PEER = 10,     /* the peer isn't 0 or 1 */
     IVSHM_BAD_PEERS = 11,    /* the peers aren't 2 to 65,536 */
@@ -106,7 +106,7 @@ enum {
     IVSHM_BAD_VENDOR_LENGTH = 24, /* the vendor capability's length is none that there is */
     IVSHM_NO_VENDOR = 25,         /* there is no vendor capability */
     /* why some steps aren't taken at once */
-    IVSHM_OTHER_ACCESS = 26, /* reads were taken, or writes, and no count of such is told */
+    IVSHM_OTHER_ACCESS = 26, /* reads were taken, or writes, and no count of such is told; or all before the index, and no word of a frame is next */
     IVSHM_BAD_COUNT = 27,    /* no word, not whole words, or more than the count that is told */
     /* why a version makes no end */
     IVSHM_BAD_VERSION = 28   /* ivshm_end_new_version: the version isn't 1 to IVSHM_VERSION */
@@ -301,6 +301,26 @@ uint32_t ivshm_end_words(ivshm_end *end, uint8_t *into, size_t size);
 /* Takes the steps of so many writes, which have no notes.
  * IVSHM_DONE; or the end is as it was: IVSHM_NO_END, IVSHM_NO_CALL, IVSHM_OTHER_ACCESS, IVSHM_BAD_COUNT. */
 uint32_t ivshm_end_took_written(ivshm_end *end, uint32_t count);
+
+/* ALL BEFORE THE INDEX. What an offer writes before its index has no notes: the words of the frame, the four of its descriptor and the one with its entry.
+ * They may be written at once, in any order: all of them are relaxed, and the index, whose access comes next, releases them. */
+
+/* Words that come one after the other: the number of the first, and how many. */
+typedef struct ivshm_stretch {
+    uint32_t word;
+    uint32_t count;
+} ivshm_stretch;
+
+/* Tells the words that the open offer writes before its index, where a word of its frame is next: stretches[0] are those that are left of the frame, [1]
+ * those of its descriptor and [2] that of its entry. They stand at the front of `room` then, in this order, as four bytes each, the lowest first: for
+ * a frame 4 * (count + 5) bytes, with the count of the access. Write them, and then call ivshm_end_took_stretches.
+ * IVSHM_DONE; or the stretches and the room are as they were: IVSHM_NO_END, IVSHM_NO_CALL, IVSHM_OTHER_ACCESS (no word of a frame is next),
+ * IVSHM_SHORT_ROOM. */
+uint32_t ivshm_end_stretches(ivshm_end *end, ivshm_stretch stretches[3], uint8_t *room, size_t size);
+
+/* Takes the steps of all these writes, which have no notes.
+ * IVSHM_DONE; or the end is as it was: IVSHM_NO_END, IVSHM_NO_CALL, IVSHM_OTHER_ACCESS. */
+uint32_t ivshm_end_took_stretches(ivshm_end *end);
 
 /* The states, as in the State Table. */
 enum {

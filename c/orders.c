@@ -194,6 +194,20 @@ static void heed(struct peer *p, const ivshm_access *access, const ivshm_notes *
     }
 }
 
+/* Makes all the writes of an offer before its index, in some order: from the last to the first, or the frame first. */
+static bool step_before_index(struct peer *p, uint32_t *room, size_t bytes) {
+    ivshm_stretch stretches[3];
+    if (ivshm_end_stretches(&p->end, stretches, (uint8_t *)room, bytes) != IVSHM_DONE) return false;
+    uint32_t first[3] = {0, stretches[0].count, stretches[0].count + stretches[1].count};
+    bool backwards = draw(2);
+    for (int k = 0; k < 3; k++) {
+        const ivshm_stretch *s = &stretches[backwards ? 2 - k : k];
+        for (uint32_t i = 0; i < s->count; i++) store(p, s->word + i, room[first[backwards ? 2 - k : k] + i], false);
+    }
+    ivshm_end_took_stretches(&p->end);
+    return true;
+}
+
 /* Makes one access of the open call, or as many as may be made at once; or the full fence before it. */
 static void step(struct peer *p) {
     static uint32_t room[OUT / 4];
@@ -214,7 +228,7 @@ static void step(struct peer *p) {
         if (access.kind == IVSHM_READ) {
             for (uint32_t i = 0; i < count; i++) room[i] = load(p, access.word + i, false);
             ivshm_end_took_words(&p->end, (const uint8_t *)room, 4 * (size_t)count, &notes);
-        } else {
+        } else if (draw(2) || !step_before_index(p, room, sizeof room)) {
             ivshm_end_words(&p->end, (uint8_t *)room, 4 * (size_t)count);
             for (uint32_t i = count; i-- > 0;) store(p, access.word + i, room[i], false);
             ivshm_end_took_written(&p->end, count);

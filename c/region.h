@@ -132,18 +132,19 @@ static inline void heed(struct link *l, const ivshm_notes *notes) {
     }
 }
 
-static inline void record_several(struct link *l, const ivshm_access *access, uint32_t count) {
-    for (uint32_t i = 0; i < count; i++) {
-        uint32_t value = l->sections.room[i];
-        ivshm_access one = {.kind = access->kind, .word = access->word + i, .value = access->kind == IVSHM_READ ? 0 : value};
-        record_access(l->record, l->me, &one, value);
-    }
+static inline void record_several(struct link *l, uint32_t kind) {
+    const uint32_t *value = l->sections.room;
+    for (int k = 0; k < 3; k++)
+        for (uint32_t i = 0; i < l->sections.made[k].count; i++, value++) {
+            ivshm_access one = {.kind = kind, .word = l->sections.made[k].word + i, .value = kind == IVSHM_READ ? 0 : *value};
+            record_access(l->record, l->me, &one, *value);
+        }
 }
 
 /* Makes so many accesses at once as there may be and WAY has it, and gives their number; 0 where the access is to be made by itself. */
 static inline uint32_t at_once(struct link *l, const ivshm_access *access, ivshm_notes *notes) {
     uint32_t count = WAY < 2 ? 0 : several(&l->end, &l->sections, access, notes);
-    if (count > 0 && l->record) record_several(l, access, count);
+    if (count > 0 && l->record) record_several(l, access->kind);
     return count;
 }
 

@@ -1,4 +1,4 @@
-/* Some steps of an end at once, as docs/C.md has it, for region.h and guests/link.h alike. The words that go at once are those that an index or a State
+/* Some steps of an end at once, and in an offer all before the index, as docs/C.md has it, for region.h and guests/link.h alike. The words that go at once are those that an index or a State
  * orders, so each may be relaxed (docs/ORDERS.md). The library sees the private copy alone, in which each word has one value; the machine is taken
  * to have the lowest byte of a word first.
  *
@@ -25,7 +25,9 @@ struct sections {
     uint32_t words, own, theirs;      /* how many each has, and their first ones */
     _Atomic uint32_t *written;        /* the own section */
     const _Atomic uint32_t *read;     /* the other's */
+    uint32_t data;                    /* the first word of the own data area, from the start of the section */
     uint32_t room[AT_ONCE];           /* words on their way between the region and the library */
+    ivshm_stretch made[3];            /* which words of the region these are, one stretch behind the other: the last ones may have none */
 };
 
 /* The words of the sections by the region's numbers, as peer `me` has them; where they are mapped is left to the caller. */
@@ -33,6 +35,7 @@ static inline void number_sections(struct sections *s, const ivshm_words *layout
     s->words = layout->words;
     s->own = layout->first + me * layout->words;
     s->theirs = layout->first + (1 - me) * layout->words;
+    s->data = layout->data_area / 4;
 }
 
 /* A call that is to be done. */
@@ -52,12 +55,36 @@ static inline void copy_in(_Atomic uint32_t *into, const uint32_t *from, uint32_
     else for (uint32_t i = 0; i < count; i++) atomic_store_explicit(&into[i], from[i], memory_order_relaxed);
 }
 
-/* The same, where there are several. */
+/* Makes the writes of an offer up to its index, and gives their number; 0 where no word of a frame is next, or where they don't fit the room or
+ * aren't in the own section. */
+static inline uint32_t make_offer(ivshm_end *end, struct sections *s, ivshm_notes *notes) {
+    uint32_t made = 0;
+    if (ivshm_end_stretches(end, s->made, (uint8_t *)s->room, sizeof s->room) != IVSHM_DONE) return 0;
+    for (int i = 0; i < 3; i++) {
+        uint32_t at = s->made[i].word - s->own;
+        if (at >= s->words || s->words - at < s->made[i].count) return 0;
+    }
+    for (int i = 0; i < 3; i++) {
+        copy_in(&s->written[s->made[i].word - s->own], s->room + made, s->made[i].count);
+        made += s->made[i].count;
+    }
+    must(ivshm_end_took_stretches(end), "took_stretches");
+    notes->count = 0;
+    return made;
+}
+
+/* The accesses that the library tells at once, where there are several. */
 static inline uint32_t make_several(ivshm_end *end, struct sections *s, const ivshm_access *access, ivshm_notes *notes) {
     bool reads = access->kind == IVSHM_READ;
     uint32_t at = access->word - (reads ? s->theirs : s->own), count = access->count < AT_ONCE ? access->count : AT_ONCE;
     if (at >= s->words || s->words - at < count) return 0;
     size_t bytes = 4 * (size_t)count;
+    if (!reads && at >= s->data) {
+        uint32_t made = make_offer(end, s, notes);
+        if (made > 0) return made;
+    }
+    s->made[0] = (ivshm_stretch){access->word, count};
+    s->made[1].count = s->made[2].count = 0;
     if (reads) {
         copy_out(s->room, &s->read[at], count);
         must(ivshm_end_took_words(end, (const uint8_t *)s->room, bytes, notes), "took_words");
@@ -70,8 +97,8 @@ static inline uint32_t make_several(ivshm_end *end, struct sections *s, const iv
     return count;
 }
 
-/* Makes as many accesses at once as the library tells that there may be, and gives their number; their values stay in the room. 0: the access is to
- * be made by itself, since it is alone, or isn't in the section that it is of. */
+/* Makes as many accesses at once as the library tells that there may be, and gives their number; their values stay in the room, and their words in
+ * `made`. 0: the access is to be made by itself, since it is alone, or isn't in the section that it is of. */
 static inline uint32_t several(ivshm_end *end, struct sections *s, const ivshm_access *access, ivshm_notes *notes) {
     return access->count < 2 ? 0 : make_several(end, s, access, notes);
 }

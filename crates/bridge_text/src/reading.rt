@@ -13,7 +13,7 @@ use line_text::read_text;
 use std::alloc::Global;
 
 impl Draft {
-    /// The draft of a text of which nothing is read. It takes no memory.
+    /// The draft of a text of which nothing is read.
     pub fn new(alloc: Global) -> Draft
         ensures { so_far result ≡ at_start }
     {
@@ -43,7 +43,7 @@ impl Draft {
     }
 }
 
-/// The run that the text spells, or the first fault of the text, in one pass over it. NoMemory comes only where memory ran out.
+/// The run that the text spells, or the first fault of the text, in one pass over it. NoMemory says that memory ran out.
 pub fn parse(alloc: Global, bytes: &[u8]) -> Result<Script, BridgeFault>
     // What is read is spelled so.
     ensures found { IfOk result (λ script. IsSpelling (world_of script) bytes.now) }

@@ -28,7 +28,7 @@ impl Model for SentFrames {
 }
 
 impl SentFrames {
-    /// The empty list. It takes no memory.
+    /// The empty list.
     pub fn new(alloc: Global) -> Self
         ensures { result ≡ [] }
     {
@@ -37,7 +37,7 @@ impl SentFrames {
         }
     }
 
-    /// Puts the frame last. After NoMemory, which comes only where memory ran out, the list is unchanged and the frame is dropped.
+    /// Puts the frame last. After NoMemory the list is unchanged and the frame is dropped.
     pub fn push(&mut self, item: Sent) -> Result<(), NoMemory>
         ensures ok { OnOk result (self.new ≡ self.old ++ item ∷ []) }
         ensures err { OnErr result (self.new ≡ self.old) }

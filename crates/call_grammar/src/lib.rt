@@ -2,6 +2,22 @@
 //! tree, as lists and from place to place, and what a call touches. It stands on `split_ring` for accesses and notes and on
 //! `link_handshake` for the phases. It holds no code: each law about the definitions of `specs/` is the contract of a function with an
 //! empty body.
+//!
+//! # Design
+//!
+//! - A place carries its own numbers (the frame's, the frames freed, the item's), so what is left of a call needs no other data. The job of
+//!   an offer has the lengths of its session's frames; that they come from the frames accepted and the one offered is said where an end
+//!   begins the call (`job_of`).
+//! - `freed` of an end rises by the whole distance at `reclaim`, before the ids are read; a place in the middle of the ids tells how many
+//!   are left.
+//! - An end keeps one bit for its event: whether its last look of the session found nothing. Where it did, the event stands at the next
+//!   frame, since every look that finds nothing and is the last of its poll comes after the event was written there, and a frame that is
+//!   delivered since was found by a later look. It is said of the look, not of the event, so that it can be read off the marks of a
+//!   history, and costs an engine no number. In version 1 nobody asks for it.
+//! - The second look of a poll is a look like any other: the place `AtAvailIndex` says whether it is the last one, and a poll of version 1
+//!   is one whose first look is its last. So events add one place to a poll, the write of the own event, and one to an offer, the read of
+//!   the other's.
+//! - The bound of a poll depends on what it reads, so it is told by its marks (`specs/StepBounds`).
 #![tactic(auto)]
 
 ghost use Rattle.call_grammar.specs.Trees.{CutsBegin};

@@ -110,7 +110,7 @@ impl Device {
         }
     }
 
-    /// How a doorbell reaches a peer as its registers stand. It takes no memory.
+    /// How a doorbell reaches a peer as its registers stand.
     pub fn route(&self, peer: u32) -> Route
         requires { peer < peer_count self.now }
         ensures { (w : Devices) (events : List Event) → Stands w events self.now → IsRoute w events peer result }

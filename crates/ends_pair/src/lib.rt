@@ -1,6 +1,23 @@
 //! What two ends of the link keep between them over the words of memory, what one honest end keeps whatever the other stores, and what
 //! follows for their frames. It is stated over the end and the place of `call_grammar`, and joins the ends to the rows of
 //! `link_machine`. It holds no code: each law is the contract of a function with an empty body.
+//!
+//! # Design
+//!
+//! - What an end keeps is stated of the grammar's own end and place: what the open call holds is a row for each place (`Holds`). So no
+//!   second machine of places stands beside the grammar, and no bridge between the two.
+//! - The pair is over fields (`fields ground memory p field`), not over words: what is no field of the section is 0, so no law needs
+//!   `k mod n < n`. A field's word is the queue's own place of it.
+//! - Between honest ends the entry of position k names descriptor `k mod limit`, and the address is the very byte at which the frame starts
+//!   (`Spelled`): an offer in the middle of its writes keeps nothing weaker. The spelling that is used for delivered frames and for hostile
+//!   senders asks less, some entry and some address in range, and follows from this form.
+//! - Besides what is to be shown of them two ends keep the index words, what an open offer has written so far, the used id before its index
+//!   is written, and that the frames delivered are those returned and at most one more. Each was left out in turn by a random search, and
+//!   then some step failed to keep the rest.
+//! - Frames are freed at the mark `reclaim`, before their ids are read. So the pair counts the ids that were read (`freed_at`) beside the
+//!   frames freed, and the sender's room is counted from there.
+//! - The other half of an entry's word is what the end wrote last. In RESET words and lists stay, but a clear may have been cut: so the
+//!   frames in flight are spelled in READY and RUN, and while either end attends.
 #![tactic(auto)]
 
 ghost use Rattle.ends_pair.specs.Frames.{FramesComeWhole};

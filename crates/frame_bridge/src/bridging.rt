@@ -149,7 +149,7 @@ fn output(alloc: Global, script: Script) -> Result<Vec<u8>, NoMemory>
 ///
 /// Each port has a link between a station, which sends its frames, and the bridge's end. In a round each port in ascending order has 64
 /// turns of its station, then 64 of the bridge's end, and each frame that the bridge's end delivers arrives. Where the text has a fault, the
-/// first one is the error; NoMemory comes only where memory ran out.
+/// first one is the error; NoMemory says that memory ran out.
 pub fn bridge(alloc: Global, bytes: &[u8]) -> Result<Vec<u8>, BridgeFault>
     // What is given is the output of the run that the bytes spell.
     ensures found { IfOk result (λ output. IsBridged bytes.now output.items) }

@@ -51,7 +51,7 @@ fn address_at(frame: &[u8], at: usize) -> [u8; ADDRESS]
 }
 
 impl Bridge {
-    /// A bridge of so many ports, which knows no address. It takes no memory yet.
+    /// A bridge of so many ports, which knows no address.
     pub fn new(alloc: Global, ports: u32) -> Result<Bridge, NoMemory>
         requires { (2 ≤ ports) × (ports ≤ 8) }
         ensures ports { IfOk result (λ bridge. bridge.ports ≡ ports) }

@@ -47,7 +47,7 @@ fn put_line(
 }
 
 /// The capture of what the history delivers to the peer, 0 or 1: a packet for each frame, in their order, with the number
-/// of its line, from 1, as its time in microseconds. NoMemory comes only where memory ran out.
+/// of its line, from 1, as its time in microseconds. NoMemory says that memory ran out.
 pub fn captured(alloc: Global, trace: &Trace, peer: u32) -> Result<Capture, NoMemory>
     requires peer { peer < 2 }
     requires few { length trace.now.lines < 2 ^ 32 }

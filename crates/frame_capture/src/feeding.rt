@@ -185,7 +185,7 @@ fn section() -> Queue
 /// and one more for each 500 words, where each frame counts for 12 words more. That these are enough isn't promised.
 ///
 /// TooLarge comes exactly where that scenario would have more than 4,000,000 acts or a text of more than 16,777,216 bytes.
-/// NoMemory comes only where memory ran out.
+/// NoMemory says that memory ran out.
 pub fn scenario_of(alloc: Global, capture: &Capture, peer: u32) -> Result<Scenario, FeedFault>
     requires { peer < 2 }
     ensures made { IfOk result (λ scenario. world_of scenario ≡ feed_world peer (offered_frames capture.now.packets)) }

@@ -12,8 +12,6 @@ mod order;
 mod packets;
 mod printing;
 mod reading;
-#[cfg(test)]
-mod tests;
 
 pub use deliveries::captured;
 pub use faults::CaptureFault;

@@ -34,7 +34,7 @@ impl Model for Packets {
 }
 
 impl Packets {
-    /// The empty list. It takes no memory.
+    /// The empty list.
     pub fn new(alloc: Global) -> Self
         ensures { result ≡ [] }
     {
@@ -43,8 +43,7 @@ impl Packets {
         }
     }
 
-    /// Puts the packet last. After NoMemory, which comes only where memory ran out, the list is unchanged and the
-    /// packet is dropped.
+    /// Puts the packet last. After NoMemory the list is unchanged and the packet is dropped.
     pub fn push(&mut self, item: Packet) -> Result<(), NoMemory>
         ensures ok { OnOk result (self.new ≡ self.old ++ item ∷ []) }
         ensures err { OnErr result (self.new ≡ self.old) }

@@ -67,7 +67,7 @@ fn put_packets(out: &mut Vec<u8>, all: &[Packet]) -> Result<(), AllocError>
     Ok(())
 }
 
-/// The file of the capture in little-endian order, with zone and figures 0. NoMemory comes only where memory ran out.
+/// The file of the capture in little-endian order, with zone and figures 0. NoMemory says that memory ran out.
 pub fn print(alloc: Global, capture: &Capture) -> Result<Vec<u8>, NoMemory>
     requires { AreShort capture.now.packets }
     ensures printed { IfOk result (λ bytes. bytes.items

@@ -10,6 +10,7 @@ use crate::packets::{Capture, Packet, Packets};
 use byteorder::{ByteOrder, LittleEndian};
 use ivs_base::{Frame, NoMemory};
 use std::alloc::Global;
+use thiserror::Error;
 
 /// The bytes before the packets.
 const HEADER: usize = 24;
@@ -21,13 +22,16 @@ const PACKET_HEADER: usize = 16;
 const MOST: usize = 262_144;
 
 /// Why bytes begin with no packet.
-#[derive(Clone, Copy, Debug)]
+#[derive(Clone, Copy, Debug, Error)]
 pub enum Damage {
     /// The captured length is above the most.
+    #[error("the packet is too long")]
     TooLong,
     /// The bytes end inside the packet.
+    #[error("the file ends inside the packet")]
     Cut,
     /// Memory ran out.
+    #[error("out of memory")]
     NoMemory,
 }
 

@@ -41,7 +41,7 @@ use Rattle.history_laws.specs.Reads.{Got, got, reads_of, IsReadFrame, IsReadBeyo
 use Rattle.history_laws.specs.Spelled.{section_words}
 use Rattle.history_laws.proofs.Proper.{ground_of, is_ground}
 use Rattle.history_laws.proofs.ReadPlaces.{ReadsAre, reads_taken, with_entry_word, high_taken, length_taken, flags_taken, word_taken}
-use Rattle.history_laws.proofs.Stands.{IsQuiet, EndsLook, first_after, quiet_lines}
+use Rattle.history_laws.proofs.Stands.{IsQuiet, EndsLook, BringsNone, first_after, quiet_lines}
 use Rattle.history_laws.proofs.Outside.{here_is, section_is}
 use Rattle.history_laws.proofs.StepLines.{MarksRest, stored_at}
 use Rattle.history_laws.proofs.Grounds.{who_is}
@@ -66,10 +66,12 @@ abbrev pub SideStays : Access → Side → Side → Type 0
 SideStays (access.State state) new old = Unit {0}
 SideStays _ new old = Stays new old
 
--- after the doorbell of a poll no look is the newest line
-abbrev pub HeadAt : ℕ → Place → List Line → Type 0
-HeadAt p RingingPoll older = ¬ EndsLook p older
-HeadAt p place older = Unit {0}
+-- after the doorbell of a poll no look is the newest line, and the read of an index is the newest
+abbrev pub HeadAt : Who → ℕ → Place → ℕ → (past older : List Line) → Type 0
+HeadAt who p RingingPoll value past older = ¬ EndsLook p older
+HeadAt who p (AtUsedIndex job freed) value past older = older ≡ line.Read p (who.theirs + word_place who.sizes UsedIndex) value ∷ past
+HeadAt who p (AtAvailIndex taken last) value past older = older ≡ line.Read p (who.theirs + word_place who.sizes AvailableIndex) value ∷ past
+HeadAt who p place value past older = Unit {0}
 
 ends_silent : (p : ℕ) (lines past : List Line) → AreSilent lines → ¬ EndsLook p past → ¬ EndsLook p (reverse lines ++ past)
 ends_silent p [] past silent none = none
@@ -77,9 +79,16 @@ ends_silent p (l ∷ lines) past silent none =
     let first : ¬ EndsLook p (l ∷ past) = λ look. let told : Silent ≡ Tells p (Marked (Look 0)) = sym silent.0 ∙ ap telling_of look in cc in
     subst (λ (ls : List Line). ¬ EndsLook p ls) (sym (first_after l lines past)) (ends_silent p lines (l ∷ past) silent.1 first)
 
-pub head_is : (world : World) (p : ℕ) (place : Place) (value : ℕ) (past device : List Line) → AreSilent device → HeadAt p place (reverse device ++ after_access p (access_at (pair.who_of (ground_of world) p) place) value past)
-head_is world p RingingPoll value past device silent = ends_silent p device _ silent (λ look. cc)
-head_is world p place value past device silent = tt
+-- a read brings no line of the devices
+none_between : (device past : List Line) → device ≡ [] → reverse device ++ past ≡ past
+none_between device past none = ap (λ (d : List Line). reverse d ++ past) none
+
+pub head_is : (world : World) (p : ℕ) (place : Place) (value : ℕ) (past device : List Line) → AreSilent device → BringsNone (access_at (pair.who_of (ground_of world) p) place) device →
+    HeadAt (pair.who_of (ground_of world) p) p place value past (reverse device ++ after_access p (access_at (pair.who_of (ground_of world) p) place) value past)
+head_is world p RingingPoll value past device silent none = ends_silent p device _ silent (λ look. cc)
+head_is world p (AtUsedIndex job freed) value past device silent none = none_between device _ none
+head_is world p (AtAvailIndex taken last) value past device silent none = none_between device _ none
+head_is world p place value past device silent none = tt
 
 -- what is known after the access of a step, where its marks stand
 pub record AtMarks (world : World) (p : ℕ) (past older : List Line) (place : Place) (value : ℕ) (end : End) : Type 0 where
@@ -92,7 +101,7 @@ pub record AtMarks (world : World) (p : ℕ) (past older : List Line) (place : P
   pub met : Meets (last_write past) (access_at (pair.who_of (ground_of world) p) place) value
   pub unrung : UnrungAt world p place older
   pub armed : has_events world.queue ≡ true → ArmedIs (fields (ground_of world) (last_write past) p AvailEvent) end place
-  pub head : HeadAt p place older
+  pub head : HeadAt (pair.who_of (ground_of world) p) p place value past older
 
 -- the facts of memory, the side and the reads there
 pub record AtAccess (p : ℕ) (past older : List Line) (a : Access) (value : ℕ) : Type 0 where
@@ -162,12 +171,12 @@ within_denies a b test = λ within. grind (arith, nat_tests)
 
 module _ (world : World) (p : ℕ) (past older : List Line) (value : ℕ) (end : End) (is : IsWorld world) (below : p < 2) where
   -- a refused value as the scenario has its peer
-  refused_rest : (field : FieldName) (refused : ℕ) → IsReadBeyond (pair.who_of (ground_of world) p) (side_of older p) (reads_of older p) field refused → IsLoneIndex (pair.who_of (ground_of world) p) (reads_of older p) field refused → MarksRest world older p (refusal field refused)
-  refused_rest field refused read lone = (subst (λ (w : Who). IsReadBeyond w (side_of older p) (reads_of older p) field refused × IsLoneIndex w (reads_of older p) field refused) (sym (who_is world p below)) (read, lone), tt)
+  refused_rest : (field : FieldName) (refused : ℕ) → IsReadBeyond (pair.who_of (ground_of world) p) (side_of older p) (reads_of older p) field refused → IsLoneIndex (pair.who_of (ground_of world) p) p older field refused → MarksRest world older p (refusal field refused)
+  refused_rest field refused read lone = (subst (λ (w : Who). IsReadBeyond w (side_of older p) (reads_of older p) field refused × IsLoneIndex w p older field refused) (sym (who_is world p below)) (read, lone), tt)
 
   -- an index that was read once, as the scenario has its peer
-  index_rest : (index : Field) (own count : ℕ) → IsIndexRead (pair.who_of (ground_of world) p) (reads_of older p) index own count → IsIndexRead (who_of world p) (reads_of older p) index own count
-  index_rest index own count read = subst (λ (w : Who). IsIndexRead w (reads_of older p) index own count) (sym (who_is world p below)) read
+  index_rest : (index : Field) (own count : ℕ) → IsIndexRead (pair.who_of (ground_of world) p) p older index own count → IsIndexRead (who_of world p) p older index own count
+  index_rest index own count read = subst (λ (w : Who). IsIndexRead w p older index own count) (sym (who_is world p below)) read
 
   number_is : (place : Place) (number : ℕ) → number ≡ length end.delivered → AtMarks world p past older place value end → Stays (side_of older p) (side_of past p) → number ≡ length (side_of older p).delivered
   number_is place number is_count a stays = is_count ∙ delivered_number end place (side_of past p) (side_of older p).delivered a.side stays.delivered
@@ -179,8 +188,8 @@ module _ (world : World) (p : ℕ) (past older : List Line) (value : ℕ) (end :
   by_number make number e here =
       subst (λ (k : ℕ). AtMarks world p past older (make k) value end → MarksRest world older p (marks_at (pair.who_of (ground_of world) p) (make k) value)) (sym e) here
 
-  used_index_read : (job : Job) (freed : ℕ) → AtMarks world p past older (AtUsedIndex job freed) value end → IsLoneRead (pair.who_of (ground_of world) p) (reads_of older p) UsedIndex (high_half value)
-  used_index_read job freed a = (value, a.reads ∙ ap (λ (r : List Got). r ++ got ((pair.who_of (ground_of world) p).theirs + word_place world.queue UsedIndex) value ∷ []) a.were, refl)
+  used_index_read : (job : Job) (freed : ℕ) → AtMarks world p past older (AtUsedIndex job freed) value end → IsLoneRead (pair.who_of (ground_of world) p) p older UsedIndex (high_half value)
+  used_index_read job freed a = (value, past, a.head, a.were, refl)
 
   used_index_rest : (job : Job) (freed : ℕ) → AtMarks world p past older (AtUsedIndex job freed) value end → MarksRest world older p (marks_at (pair.who_of (ground_of world) p) (AtUsedIndex job freed) value)
   used_index_rest job freed a =
@@ -190,10 +199,10 @@ module _ (world : World) (p : ℕ) (past older : List Line) (value : ℕ) (end :
       let lone = used_index_read job freed a in
       let freed_is : freed ≡ (side_of older p).freed = h.2 ∙ sym (a.stays.freed ∙ a.side.freed) in
       let number : job.number ≡ length (side_of older p).accepted = h.1.number ∙ accepted_number end (AtUsedIndex job freed) (side_of past p) (side_of older p).accepted a.side a.stays.accepted in
-      let read : IsIndexRead (who_of world p) (reads_of older p) UsedIndex (side_of older p).freed count = index_rest UsedIndex (side_of older p).freed count (high_half value, lone, ap (λ (k : ℕ). distance (k % 65536) (high_half value)) freed_is) in
+      let read : IsIndexRead (who_of world p) p older UsedIndex (side_of older p).freed count = index_rest UsedIndex (side_of older p).freed count (high_half value, lone, ap (λ (k : ℕ). distance (k % 65536) (high_half value)) freed_is) in
       by_test world older p (nat_le count (job.number - freed)) (reclaim_marks who job freed count) (refusal field_name.UsedIndex (high_half value))
       (λ _. by_test world older p (count == 0) (Reclaim 0 ∷ full_marks who job freed) (Reclaim count ∷ [])
-      (λ none. (subst (IsIndexRead (who_of world p) (reads_of older p) UsedIndex (side_of older p).freed) (zero_tells count none) read, full_rest world (line.Reclaim p 0 ∷ older) p who job freed)) (λ _. (read, tt)))
+      (λ none. (subst (IsIndexRead (who_of world p) p older UsedIndex (side_of older p).freed) (zero_tells count none) read, full_rest world (line.Reclaim p 0 ∷ older) p who job freed)) (λ _. (read, tt)))
       (λ test. let beyond = within_denies count (job.number - freed) test in
       let beyond_here : ¬ IsUsedIndex (freed % 65536) (high_half value) (length (side_of older p).accepted - freed) = subst (λ (n : ℕ). ¬ IsUsedIndex (freed % 65536) (high_half value) (n - freed)) number beyond in
       refused_rest field_name.UsedIndex (high_half value) (
@@ -261,11 +270,11 @@ module _ (world : World) (p : ℕ) (past older : List Line) (value : ℕ) (end :
   avail_index_rest taken last a =
       let count = published_by taken value in
       let n = number_is (AtAvailIndex taken last) taken a.alone.holds.1 a a.stays in
-      let lone : IsLoneRead (pair.who_of (ground_of world) p) (reads_of older p) AvailableIndex (high_half value) = (value, a.reads ∙ ap (λ (r : List Got). r ++ got ((pair.who_of (ground_of world) p).theirs + word_place world.queue AvailableIndex) value ∷ []) a.were, refl) in
-      let read : IsIndexRead (who_of world p) (reads_of older p) AvailableIndex (length (side_of older p).delivered) count = index_rest AvailableIndex (length (side_of older p).delivered) count (high_half value, lone, ap (λ (k : ℕ). distance (k % 65536) (high_half value)) n) in
+      let lone : IsLoneRead (pair.who_of (ground_of world) p) p older AvailableIndex (high_half value) = (value, past, a.head, a.were, refl) in
+      let read : IsIndexRead (who_of world p) p older AvailableIndex (length (side_of older p).delivered) count = index_rest AvailableIndex (length (side_of older p).delivered) count (high_half value, lone, ap (λ (k : ℕ). distance (k % 65536) (high_half value)) n) in
       by_test world older p (nat_le count (size_of world.queue)) (look_marks last count) (refusal field_name.AvailIndex (high_half value))
       (λ _. by_test world older p (count == 0) (if last then Look 0 ∷ Done ∷ [] else Look 0 ∷ []) (Look count ∷ [])
-      (λ none. let found_none = subst (IsIndexRead (who_of world p) (reads_of older p) AvailableIndex (length (side_of older p).delivered)) (zero_tells count none) read in
+      (λ none. let found_none = subst (IsIndexRead (who_of world p) p older AvailableIndex (length (side_of older p).delivered)) (zero_tells count none) read in
       by_test world older p last (Look 0 ∷ Done ∷ []) (Look 0 ∷ []) (λ final. (found_none, (λ has _. done_rest taken last a final n has, tt))) (λ _. (found_none, tt))) (λ _. (read, tt)))
       (λ test. let beyond : ¬ IsAvailIndex world.queue (taken % 65536) (high_half value) = within_denies count (size_of world.queue) test in
       refused_rest field_name.AvailIndex (high_half value) (reads_of past p, value, a.reads, refl, subst (λ (k : ℕ). ¬ IsAvailIndex world.queue (k % 65536) (high_half value)) n beyond) lone)

@@ -217,7 +217,7 @@ step_stands world past device ends after_ends places after_places p value is bel
     let rests = rests_at world past p a (λ _ refused. zero_at ground p (ends p) place alone.rests (sym si.refused ∙ refused)) (λ word v e zero. alone_kept.quiet ground p (last_write past) (ends p) place word v alone (phase_reset (ends p).handshake.phase (sym si.state ∙ zero)) e) in
     let older = reverse device ++ after_access p a value past in
     let there = at_access world p a value device past quiet in
-    let at_marks : AtMarks world p past older place value (ends p) = record { alone = alone; side = si; were = reads; left = there.left; stays = there.stays; reads = there.reads; met = met; unrung = access_is world p place value past device silent unrung; armed = λ has. s.armed has p below honest; head = head_is world p place value past device silent } in
+    let at_marks : AtMarks world p past older place value (ends p) = record { alone = alone; side = si; were = reads; left = there.left; stays = there.stays; reads = there.reads; met = met; unrung = access_is world p place value past device silent unrung; armed = λ has. s.armed has p below honest; head = head_is world p place value past device silent none } in
     let after = reverse (step_lines p step device) ++ past in
     let went : StepWent world p past a value marks after f.0 = step_went world p a value device marks past f.0 below honest quiet f.1 rests (marks_rest world p past older value (ends p) is below place at_marks) (reads_alone world past device p value (ends p) place is below honest a refl none alone si reads) s.settled s.fine in
     come_stands world past after ends after_ends places after_places p (end_after (ends p) step) (next_place who place value) f.0 is below honest only

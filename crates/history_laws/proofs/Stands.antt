@@ -51,12 +51,12 @@ EndsLook p (newest ∷ older) = newest ≡ line.Look p 0
 -- what stands where a mark does: an accepted frame is spelled, a delivered one was read, a refused value too, and an index once; and where the call of an
 -- accepted frame is over without a doorbell, the other's event doesn't ask for one; and where a poll is done that found nothing, the event is at the next frame
 abbrev pub MarkRests : World → List Line → ℕ → Mark → Type 0
-MarkRests world older p (Reclaim count) = IsIndexRead (who_of world p) (reads_of older p) UsedIndex (side_of older p).freed count
+MarkRests world older p (Reclaim count) = IsIndexRead (who_of world p) p older UsedIndex (side_of older p).freed count
 MarkRests world older p (Accept frame) = SpellsNext world older p frame
-MarkRests world older p (Look count) = IsIndexRead (who_of world p) (reads_of older p) AvailableIndex (length (side_of older p).delivered) count
+MarkRests world older p (Look count) = IsIndexRead (who_of world p) p older AvailableIndex (length (side_of older p).delivered) count
 MarkRests world older p (Deliver frame) = IsReadFrame (who_of world p) (length (side_of older p).delivered) (reads_of older p) frame
 MarkRests world older p (Refuse refused) =
-    IsReadBeyond (who_of world p) (side_of older p) (reads_of older p) refused.field refused.value × IsLoneIndex (who_of world p) (reads_of older p) refused.field refused.value
+    IsReadBeyond (who_of world p) (side_of older p) (reads_of older p) refused.field refused.value × IsLoneIndex (who_of world p) p older refused.field refused.value
 MarkRests world older p Over = Unrung world p older → asks_for (low_half (last_write older (event_word world (1 - p)))) (length (side_of older p).accepted - 1) ≡ false
 MarkRests world older p Done = has_events world.queue ≡ true → EndsLook p older → EventIs world older p (length (side_of older p).delivered)
 MarkRests world older p mark = Unit {0}

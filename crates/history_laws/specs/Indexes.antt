@@ -13,29 +13,31 @@ use Rattle.lawful_history.specs.declared.line.Line.TheVariants as line
 use Rattle.lawful_history.specs.Sides.{who_of}
 use Rattle.lawful_history.specs.Lawful.{IsLawful}
 use Rattle.history_laws.specs.Told.{side_of}
-use Rattle.history_laws.specs.Reads.{Got, got, reads_of}
+use Rattle.history_laws.specs.Reads.{reads_of}
 
--- these reads are one read of this index of the other's section, which gave this value
-abbrev pub IsLoneRead : Who → List Got → Field → ℕ → Type 0
-IsLoneRead who reads field index = (word : ℕ) × (reads ≡ got (who.theirs + word_place who.sizes field) word ∷ []) × (index ≡ high_half word)
+-- the newest of these lines is peer p's read of this index of the other's section, which gave this value, and since its mark or its reset before that p has
+-- read nothing
+abbrev pub IsLoneRead : Who → ℕ → List Line → Field → ℕ → Type 0
+IsLoneRead who p past field index =
+    (word : ℕ) × (older : List Line) × (past ≡ line.Read p (who.theirs + word_place who.sizes field) word ∷ older) × (reads_of older p ≡ []) × (index ≡ high_half word)
 
 -- and so far the index is from the peer's own count
-abbrev pub IsIndexRead : Who → List Got → Field → (own count : ℕ) → Type 0
-IsIndexRead who reads field own count = (index : ℕ) × IsLoneRead who reads field index × (count ≡ distance (own % 65536) index)
+abbrev pub IsIndexRead : Who → ℕ → List Line → Field → (own count : ℕ) → Type 0
+IsIndexRead who p past field own count = (index : ℕ) × IsLoneRead who p past field index × (count ≡ distance (own % 65536) index)
 
 -- what was read of a field that is an index
-abbrev pub IsLoneIndex : Who → List Got → FieldName → ℕ → Type 0
-IsLoneIndex who reads field_name.AvailIndex value = IsLoneRead who reads AvailableIndex value
-IsLoneIndex who reads field_name.UsedIndex value = IsLoneRead who reads UsedIndex value
-IsLoneIndex who reads field value = Unit {0}
+abbrev pub IsLoneIndex : Who → ℕ → List Line → FieldName → ℕ → Type 0
+IsLoneIndex who p past field_name.AvailIndex value = IsLoneRead who p past AvailableIndex value
+IsLoneIndex who p past field_name.UsedIndex value = IsLoneRead who p past UsedIndex value
+IsLoneIndex who p past field value = Unit {0}
 
--- Each look, each reclaim and each refusal of an index has a read of its own: since the mark or the reset before it its peer has read nothing but that index,
--- once, and what it finds is counted from what was read
+-- Each look, each reclaim and each refusal of an index has a read of its own, which is the line right before it: since the mark or the reset before that its
+-- peer has read nothing else, and what it finds is counted from what was read
 pub record IndexesAreReadOnce : Type 0 where
   pub looks : (world : World) (before after : List Line) (p count : ℕ) → IsWorld world → IsLawful world (before ++ line.Look p count ∷ after) →
-      IsIndexRead (who_of world p) (reads_of (reverse before) p) AvailableIndex (length (side_of (reverse before) p).delivered) count
+      IsIndexRead (who_of world p) p (reverse before) AvailableIndex (length (side_of (reverse before) p).delivered) count
   pub reclaims : (world : World) (before after : List Line) (p count : ℕ) → IsWorld world → IsLawful world (before ++ line.Reclaim p count ∷ after) →
-      IsIndexRead (who_of world p) (reads_of (reverse before) p) UsedIndex (side_of (reverse before) p).freed count
+      IsIndexRead (who_of world p) p (reverse before) UsedIndex (side_of (reverse before) p).freed count
   pub refusals : (world : World) (before after : List Line) (p : ℕ) (refused : Refused) → IsWorld world →
       IsLawful world (before ++ line.Refuse p refused ∷ after) →
-      IsLoneIndex (who_of world p) (reads_of (reverse before) p) refused.field refused.value
+      IsLoneIndex (who_of world p) p (reverse before) refused.field refused.value

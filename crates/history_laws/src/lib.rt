@@ -1,5 +1,18 @@
 //! What holds of every lawful history of a scenario. It stands on `lawful_history` for the histories and on `ends_pair` for what two ends
 //! keep. It holds no code: each law is the contract of a function that does nothing.
+//!
+//! # Design
+//!
+//! - What two ends keep is a law of steps. Here it is carried along the computed history, and `one_history` makes it one of every lawful
+//!   history. A peer counts as honest where the scenario says so, and the rows against a hostile other are used where it doesn't.
+//! - The laws speak of the history without marks of sessions, which is what version 1 of a record tells. Marks say nothing of words, ends
+//!   or devices, so a record of version 2 has one law more, on their numbers, and all others of what is left without them.
+//! - Calls are told by a peer's entries and not by its lines, since the order of calls is. The bound of a poll depends on what it reads, so
+//!   an open one is held against the bound of each list that it may end as, and against one number for the whole queue.
+//! - What a peer has read is what stands since its last mark or reset; a write or a doorbell between two reads breaks nothing. So the
+//!   reads of one item are a list of lines, with no place of a call in it.
+//! - That a refused side writes 0 alone is a row of the link machine, which speaks of one write at a time. `refused_peers_rest` says
+//!   the same of the whole stretch of lines from a refusal to the next reset, with no side in it.
 #![tactic(auto)]
 
 ghost use Rattle.history_laws.specs.Calls.{CallsEndWithinBounds};
@@ -16,9 +29,6 @@ ghost use Rattle.history_laws.specs.Spelled.{HistoriesSpellAccepted};
 ghost use Rattle.history_laws.specs.Wake.{WakesAreRung};
 
 use lawful_history::{history_is_lawful, one_history, versions_differ_in_marks};
-
-#[cfg(test)]
-mod tests;
 
 /// Each line of a link peer that tells the link machine something has its row: a write of its state, a mark, or its reset.
 pub fn histories_run_the_machine()

@@ -131,7 +131,7 @@ impl From<Failed> for WriteFault {
 }
 
 /// Writes all bytes, in their order. After a fault a front of the bytes is written, and nothing more is
-/// tried. It takes no memory itself.
+/// tried. It never answers NoMemory.
 pub fn write_whole<K: Sink>(sink: &mut K, bytes: &[u8]) -> Result<(), WriteFault>
     ensures whole { OnOk result (Took (K.output sink.old) bytes.now (K.output sink.new)) }
     ensures quiet { OnOk result ((K.output sink.new).faults ≡ (K.output sink.old).faults) }

@@ -42,7 +42,7 @@ impl Model for Frame {
 }
 
 impl Frame {
-    /// A frame of these bytes. NoMemory comes only where memory ran out.
+    /// A frame of these bytes. NoMemory says that memory ran out.
     pub fn of(alloc: Global, bytes: &[u8]) -> Result<Frame, NoMemory>
         ensures { IfOk result (λ frame. frame ≡ bytes.now) }
     {

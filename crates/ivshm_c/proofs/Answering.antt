@@ -1,6 +1,7 @@
 -- Answers with their causes, and what notes tell.
-use Rattle.std.proofs.Common.{◌≡◌, ◌<◌, ◌+◌, ℕ, List, sym, ap, ◌∙◌, subst, length, drop, get_or, Option, Some, None, true, if◌then◌else◌}
+use Rattle.std.proofs.Common.{◌≡◌, ◌<◌, ◌+◌, ◌*◌, ◌++◌, ℕ, List, sym, ap, ◌∙◌, subst, length, take, drop, get_or, Option, Some, None, IfSome, true, false, nat_lt, if◌then◌else◌}
 use Rattle.std.proofs.lemmas.List.{at_drop_more}
+use Rattle.std.proofs.Math.Seq.{take-append_seam, drop-append_seam}
 use Rattle.section_map.specs.Geometry.{Shape, IsShape}
 use Rattle.split_ring.specs.Layout.{Sizes, IsQueue, IsVersion}
 use Rattle.split_ring.specs.declared.steps.Note.{Note}
@@ -10,15 +11,22 @@ use Rattle.ivshm_c.specs.declared.port.Port.{Port}
 use Rattle.ivshm_c.specs.declared.port.Outcome.{Outcome}
 use Rattle.ivshm_c.specs.declared.port.Outcome.TheVariants.{Open}
 use Rattle.ivshm_c.specs.declared.status.Status.{Status}
-use Rattle.ivshm_c.specs.declared.status.Status.TheVariants.{Done, NoCall, HasEnd}
+use Rattle.ivshm_c.specs.declared.status.Status.TheVariants.{Done, NoCall, HasEnd, ShortRoom}
 use Rattle.split_ring.specs.declared.steps.Access as steps
+use Rattle.call_grammar.specs.Ends.{End}
+use Rattle.call_grammar.specs.Calls.{Who}
+use Rattle.call_grammar.specs.Places as places
+use Rattle.tx_engine.specs.declared.ahead.Stretches.{Stretches}
+use Rattle.tx_engine.specs.Ahead.{words_of, listed, WritesAll}
+use Rattle.link_endpoint.specs.Stands.{StandsAt}
 use Rattle.link_endpoint.specs.declared.order.Ordering.{Ordering}
-use Rattle.link_endpoint.specs.Engine.{is_busy, reads_ahead, writes_ahead}
+use Rattle.link_endpoint.specs.Engine.{is_busy, reads_ahead, writes_ahead, stretches_of}
 use Rattle.ivshm_c.specs.declared.crossing.Access.{Access}
-use Rattle.ivshm_c.specs.Crossing.{access_crossed}
-use Rattle.ivshm_c.specs.Ports.{IsNext, IsAhead, outcome_with, told_by}
+use Rattle.ivshm_c.specs.declared.crossing.Stretches as crossed
+use Rattle.ivshm_c.specs.Crossing.{access_crossed, stretches_crossed}
+use Rattle.ivshm_c.specs.Ports.{IsNext, IsAhead, AreStretched, outcome_with, told_by}
 use Rattle.ivshm_c.specs.Sizes.{shape_found, sizes_found, layout_of, LaysOut, laid_out}
-use Rattle.ivshm_c.specs.Answers.{IsNew, RefusesNew, MakesAnswered, TellsNext, Where, made, has_end, refused}
+use Rattle.ivshm_c.specs.Answers.{IsNew, RefusesNew, MakesAnswered, TellsNext, TellsStretches, Where, room_answer, stretches_answer, made, has_end, refused}
 
 -- one note more
 pub one_more : (notes : List Note) (i : ℕ) (before after : Outcome) (d : Note) → i < length notes → after ≡ outcome_with (get_or notes i d) before
@@ -41,6 +49,27 @@ told_next port before after next order busy is_next ahead crossed =
     ((next : steps.Access) × (order : Ordering) × IsNext port.endpoint next × IsAhead port.endpoint order ×
     (after ≡ access_crossed next (reads_ahead port.endpoint) (writes_ahead port.endpoint) order))
     (after ≡ before)) (sym busy) (next, order, is_next, ahead, crossed)
+
+-- the words that come before the index are told, where they fit, and what is behind them in the room stays
+pub told_stretches : (port : Port) (before after : crossed.Stretches) (room front : List ℕ) (stretches : Stretches) (bytes : ℕ) → is_busy port.endpoint ≡ true → stretches_of port.endpoint ≡ Some stretches →
+    bytes ≡ 4 * words_of (Some stretches) → nat_lt (length room) bytes ≡ false → length front ≡ bytes → after ≡ stretches_crossed stretches →
+    ((who : Who) (end : End) (place : places.Place) → StandsAt port.endpoint who end place → IfSome (stretches_of port.endpoint) (λ s. WritesAll who place (listed s) front)) →
+    TellsStretches port before after room (front ++ drop bytes room)
+told_stretches port before after room front stretches bytes busy some bytes_is fits sized crossed_is writes =
+    let n = 4 * words_of (Some stretches) in
+    let filled = front ++ drop bytes room in
+    let done : stretches_answer (length room) port ≡ Done =
+    ap (λ b. if b then room_answer (stretches_of port.endpoint) (length room) else NoCall) busy ∙ ap (λ s. room_answer s (length room)) some
+    ∙ ap (λ m. if nat_lt (length room) m then ShortRoom else Done) (sym bytes_is) ∙ ap (λ b. if b then ShortRoom else Done) fits in
+    let size_is : n ≡ length front = sym (sized ∙ bytes_is) in
+    let front_is : take n filled ≡ front = ap (λ k. take k filled) size_is ∙ take-append_seam front (drop bytes room) in
+    let rest_is : drop n filled ≡ drop n room = ap (λ k. drop k filled) size_is ∙ drop-append_seam front (drop bytes room) ∙ ap (λ k. drop k room) bytes_is in
+    let written : AreStretched port.endpoint stretches filled =
+    λ who end place stands. subst (WritesAll who place (listed stretches)) (sym front_is) (subst (λ s. IfSome s (λ told. WritesAll who place (listed told) front)) some (writes who end place stands)) in
+    subst (λ status. Where status
+    ((told : Stretches) × (stretches_of port.endpoint ≡ Some told) × (after ≡ stretches_crossed told) × AreStretched port.endpoint told filled ×
+    (drop (4 * words_of (Some told)) filled ≡ drop (4 * words_of (Some told)) room))
+    ((after ≡ before) × (filled ≡ room))) (sym done) (stretches, some, crossed_is, written, rest_is)
 
 module _ (found : Found) (version peers me mtu vector : ℕ) (old new : Option Port) where
   -- a handle that holds an end keeps it

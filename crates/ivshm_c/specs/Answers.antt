@@ -1,19 +1,22 @@
 -- The exact answer of each export, and what it does to the end of a handle.
-use Rattle.std.specs.Prelude.{ℕ, ◌≡◌, ◌≢◌, ◌+◌, ◌/◌, ◌%◌, ◌==◌, ◌≤◌, nat_lt, if◌then◌else◌, List, length, take, Option, Some, None, is_none, IfSome}
+use Rattle.std.specs.Prelude.{ℕ, ◌≡◌, ◌≢◌, ◌+◌, ◌*◌, ◌/◌, ◌%◌, ◌==◌, ◌≤◌, nat_lt, if◌then◌else◌, List, length, take, drop, Option, Some, None, is_none, IfSome}
 use Rattle.split_ring.specs.Layout.{IsVersion}
 use Rattle.split_ring.specs.declared.steps.Access as steps
 use Rattle.split_ring.specs.declared.steps.Note.{Note}
+use Rattle.tx_engine.specs.declared.ahead.Stretches.{Stretches}
+use Rattle.tx_engine.specs.Ahead.{words_of}
 use Rattle.link_endpoint.specs.declared.order.Ordering.{Ordering}
-use Rattle.link_endpoint.specs.Engine.{who_of, is_busy, delivered, reads_ahead, writes_ahead, offered}
+use Rattle.link_endpoint.specs.Engine.{who_of, is_busy, delivered, reads_ahead, writes_ahead, stretches_of, offered}
 use Rattle.ivshm_c.specs.declared.crossing.Access.{Access}
 use Rattle.ivshm_c.specs.declared.crossing.Notes.{Notes}
+use Rattle.ivshm_c.specs.declared.crossing.Stretches as crossed
 use Rattle.ivshm_c.specs.declared.device.Found.{Found}
 use Rattle.ivshm_c.specs.declared.port.Port.{Port}
 use Rattle.ivshm_c.specs.declared.port.Outcome.TheVariants.{Never, Open}
 use Rattle.ivshm_c.specs.declared.status.Status.{Status}
 use Rattle.ivshm_c.specs.declared.status.Status.TheVariants.{Done, NoEnd, HasEnd, CallOpen, NoCall, NoMemory, BadCall, ShortFrame, LongFrame, ShortRoom, BadPeer, OtherAccess, BadCount, BadVersion}
-use Rattle.ivshm_c.specs.Crossing.{call_numbered, access_crossed, notes_crossed}
-use Rattle.ivshm_c.specs.Ports.{Begins, Offers, IsNext, IsAhead, AreWritten, ReadsAtOnce, WritesAtOnce, Steps, IsStarted, Restarts, outcome_after, outcome_cut}
+use Rattle.ivshm_c.specs.Crossing.{call_numbered, access_crossed, stretches_crossed, notes_crossed}
+use Rattle.ivshm_c.specs.Ports.{Begins, Offers, IsNext, IsAhead, AreWritten, AreStretched, ReadsAtOnce, WritesAtOnce, Steps, IsStarted, Restarts, outcome_after, outcome_cut}
 use Rattle.ivshm_c.specs.Sizes.{shape_found, sizes_found, IsSizeFault}
 
 -- a handle that holds no end answers so, whatever is asked
@@ -78,6 +81,18 @@ words_answer bytes port = if is_busy port.endpoint then bytes_answer (writes_ahe
 abbrev pub writes_answer : (count : ℕ) → Port → Status
 writes_answer count port = if is_busy port.endpoint then count_answer (writes_ahead port.endpoint) count else NoCall
 
+-- where all that an offer writes before its index is asked for: no word of a frame is next, or the room is too short for these words
+abbrev pub room_answer : Option Stretches → (room : ℕ) → Status
+room_answer None room = OtherAccess
+room_answer (Some stretches) room = if nat_lt room (4 * words_of (Some stretches)) then ShortRoom else Done
+
+abbrev pub stretches_answer : (room : ℕ) → Port → Status
+stretches_answer room port = if is_busy port.endpoint then room_answer (stretches_of port.endpoint) room else NoCall
+
+-- where their steps are taken
+abbrev pub stretched_answer : Port → Status
+stretched_answer port = if is_busy port.endpoint then (if is_none (stretches_of port.endpoint) then OtherAccess else Done) else NoCall
+
 abbrev pub frame_answer : ℕ → Port → Status
 frame_answer room port = if nat_lt room (length (delivered port.endpoint)) then ShortRoom else Done
 
@@ -127,6 +142,19 @@ TellsWords port before after = Where (words_answer (length before) port) (AreWri
 -- writes of the open call are taken at once
 abbrev pub TakesWritten : ℕ → Port → Port → Type 0
 TakesWritten count old new = Where (writes_answer count old) (WritesAtOnce old.endpoint count new.endpoint × (new.outcome ≡ old.outcome)) (new ≡ old)
+
+-- the words that an offer writes before its index are told, and put at the front of the room
+abbrev pub TellsStretches : Port → (before after : crossed.Stretches) → (room filled : List ℕ) → Type 0
+TellsStretches port before after room filled = Where (stretches_answer (length room) port)
+    ((stretches : Stretches) × (stretches_of port.endpoint ≡ Some stretches) × (after ≡ stretches_crossed stretches) × AreStretched port.endpoint stretches filled ×
+    (drop (4 * words_of (Some stretches)) filled ≡ drop (4 * words_of (Some stretches)) room))
+    ((after ≡ before) × (filled ≡ room))
+
+-- all of them are taken at once
+abbrev pub TakesStretches : Port → Port → Type 0
+TakesStretches old new = Where (stretched_answer old)
+    (WritesAtOnce old.endpoint (words_of (stretches_of old.endpoint)) new.endpoint × (new.outcome ≡ old.outcome))
+    (new ≡ old)
 
 -- the frame delivered last is copied to the front
 abbrev pub CopiesFrame : Port → List ℕ → List ℕ → Type 0

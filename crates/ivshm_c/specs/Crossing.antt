@@ -15,7 +15,11 @@ use Rattle.link_endpoint.specs.declared.order.Order.{Order}
 use Rattle.link_endpoint.specs.declared.order.Order.TheVariants.{Relaxed, Acquire, Release}
 use Rattle.link_endpoint.specs.declared.order.Ordering.{Ordering}
 use Rattle.link_endpoint.specs.Engine.{is_busy, delivered}
+use Rattle.tx_engine.specs.declared.ahead.Stretch.{Stretch}
+use Rattle.tx_engine.specs.declared.ahead.Stretches.{Stretches}
 use Rattle.ivshm_c.specs.declared.crossing.Access as crossed_access
+use Rattle.ivshm_c.specs.declared.crossing.Stretch as crossed_stretch
+use Rattle.ivshm_c.specs.declared.crossing.Stretches as crossed_stretches
 use Rattle.ivshm_c.specs.declared.crossing.Note as crossed_note
 use Rattle.ivshm_c.specs.declared.crossing.Notes as crossed_notes
 use Rattle.ivshm_c.specs.declared.crossing.View.{View}
@@ -68,6 +72,13 @@ access_crossed (access.Read word) reads writes ordering = numbered 1 word 0 read
 access_crossed (access.Write word value) reads writes ordering = numbered 2 word value writes ordering
 access_crossed (access.State value) reads writes ordering = numbered 3 0 value 0 ordering
 access_crossed (access.Ring target vector) reads writes ordering = numbered 4 target vector 0 ordering
+
+-- words that come one after the other, and three times such words
+abbrev pub stretch_crossed : Stretch → crossed_stretch.Stretch
+stretch_crossed s = record { word = s.word; count = s.count }
+
+abbrev pub stretches_crossed : Stretches → crossed_stretches.Stretches
+stretches_crossed s = record { frame = stretch_crossed s.frame; descriptor = stretch_crossed s.descriptor; entry = stretch_crossed s.entry }
 
 -- what was refused
 abbrev pub refusal_crossed : Refused → crossed_note.Note

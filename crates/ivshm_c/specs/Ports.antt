@@ -1,5 +1,5 @@
 -- An end and the outcome of its last offer: what its calls do.
-use Rattle.std.specs.Prelude.{ℕ, ◌≡◌, ◌↔◌, List, [], ◌∷◌, length, flat_map, true, not, IsTrue}
+use Rattle.std.specs.Prelude.{ℕ, ◌≡◌, ◌*◌, ◌↔◌, List, [], ◌∷◌, length, take, flat_map, true, not, IsTrue, Some}
 use Rattle.link_handshake.specs.declared.Phase.TheVariants.{Run}
 use Rattle.split_ring.specs.declared.steps.Access.{Access}
 use Rattle.split_ring.specs.declared.steps.Access.TheVariants.{Nothing, Read, Write, State}
@@ -12,6 +12,8 @@ use Rattle.call_grammar.specs.Reach.{InReach}
 use Rattle.call_grammar.specs.StepBounds.{HasFewInFlight}
 use Rattle.call_grammar.specs.Words.{word_bytes}
 use Rattle.call_grammar.specs.Stretches.{Each, ReadsOn, WritesOn}
+use Rattle.tx_engine.specs.declared.ahead.Stretches.{Stretches}
+use Rattle.tx_engine.specs.Ahead.{words_of, listed, WritesAll}
 use Rattle.link_endpoint.specs.declared.place.Call.{Call}
 use Rattle.link_endpoint.specs.declared.place.Call.TheVariants.{Stop}
 use Rattle.link_endpoint.specs.Engine.{Engine, fresh_engine, engine_after_reset, is_busy, is_down, is_leaving, is_looking, is_tick, offered, delivered, call_of, comes_down, reads_ahead}
@@ -60,6 +62,11 @@ pub record IsAhead (engine : Engine) (told : Ordering) : Type 0 where
 abbrev pub AreWritten : Engine → List ℕ → Type 0
 AreWritten engine bytes = (who : Who) (end : End) (place : places.Place) (word value : ℕ) → StandsAt engine who end place →
     places.access_at who place ≡ Write word value → WritesOn who place word bytes
+
+-- the first of these bytes are the words of these stretches, which are written next, one behind the other
+abbrev pub AreStretched : Engine → Stretches → (bytes : List ℕ) → Type 0
+AreStretched engine stretches bytes = (who : Who) (end : End) (place : places.Place) → StandsAt engine who end place →
+    WritesAll who place (listed stretches) (take (4 * words_of (Some stretches)) bytes)
 
 -- steps of the open call at once, whose reads gave the words that these bytes spell, four each: as many single steps
 abbrev pub ReadsAtOnce : Engine → (bytes : List ℕ) → List Note → Engine → Type 0

@@ -1,14 +1,15 @@
 //! The calls of an end with their answers, where what a program in C hands over is tested.
-ghost use Rattle.std.specs.Prelude.{◌≡◌, ◌*◌, ◌%◌, ◌<◌, ◌≤◌, length, IfOk, IfErr};
+ghost use Rattle.std.specs.Prelude.{◌≡◌, ◌*◌, ◌%◌, ◌<◌, ◌≤◌, length, Some, IfOk, IfErr};
 ghost use Rattle.split_ring.specs.Layout.{IsVersion};
+ghost use Rattle.tx_engine.specs.Ahead.{words_of};
 ghost use Rattle.link_endpoint.specs.Engine.{delivered, offered};
-ghost use Rattle.ivshm_c.specs.Answers.{begin_answer, offer_answer, step_answer, count_answer, bytes_answer, reads_answer, words_answer, writes_answer, frame_answer, BeginsAnswered, OffersAnswered, TellsNext, TakesAnswered, TakesWords, TellsWords, TakesWritten, CopiesFrame, IsNew, RefusesNew};
+ghost use Rattle.ivshm_c.specs.Answers.{begin_answer, offer_answer, step_answer, count_answer, bytes_answer, reads_answer, words_answer, writes_answer, stretches_answer, stretched_answer, frame_answer, BeginsAnswered, OffersAnswered, TellsNext, TakesAnswered, TakesWords, TellsWords, TakesWritten, TellsStretches, TakesStretches, CopiesFrame, IsNew, RefusesNew};
 
-use crate::crossing::{access_crossed, call_numbered, notes_crossed};
+use crate::crossing::{access_crossed, call_numbered, notes_crossed, stretches_crossed};
 use crate::device::{Found, sized};
 use crate::port::Port;
 use crate::status::Status;
-use crate::{Access, Notes};
+use crate::{Access, Notes, Stretches};
 use link_endpoint::Endpoint;
 use std::alloc::Global;
 
@@ -198,6 +199,49 @@ pub(crate) fn took_written(port: &mut Port, count: u32) -> Status
         port.took_written(count);
     }
     status
+}
+
+/// Tells the words that an offer writes before its index, and puts them at the front of the room.
+pub(crate) fn stretches(port: &Port, told: &mut Stretches, room: &mut [u8]) -> Status
+    ensures answer { result ≡ stretches_answer (length room.old) port.now }
+    ensures words { TellsStretches port.now told.old told.new room.old room.new }
+{
+    if !port.endpoint.busy() {
+        return Status::NoCall;
+    }
+    let Some(stretches) = port.endpoint.stretches() else {
+        return Status::OtherAccess;
+    };
+    let bytes = bytes_of(&stretches);
+    if room.len() < bytes {
+        return Status::ShortRoom;
+    }
+    port.endpoint.stretch_words(&mut room[..bytes]);
+    *told = stretches_crossed(stretches);
+    Status::Done
+}
+
+/// The bytes of these words.
+fn bytes_of(stretches: &link_endpoint::Stretches) -> usize
+    ensures { result ≡ 4 * words_of (Some stretches.now) }
+{
+    let frame = stretches.frame.count as usize;
+    4 * (frame + stretches.descriptor.count as usize + stretches.entry.count as usize)
+}
+
+/// Takes the steps of all these writes.
+pub(crate) fn took_stretches(port: &mut Port) -> Status
+    ensures answer { result ≡ stretched_answer port.old }
+    ensures step { TakesStretches port.old port.new }
+{
+    if !port.endpoint.busy() {
+        return Status::NoCall;
+    }
+    if port.endpoint.stretches().is_none() {
+        return Status::OtherAccess;
+    }
+    port.took_stretches();
+    Status::Done
 }
 
 /// Copies the frame delivered last, where it fits, and tells its length.

@@ -1,6 +1,6 @@
 //! What crosses to C of an end.
 ghost use Rattle.std.specs.Prelude.{◌≡◌, ◌≤◌, length};
-ghost use Rattle.ivshm_c.specs.Crossing.{call_numbered, state_of, field_number, outcome_number, order_number, access_crossed, refusal_crossed, note_crossed, notes_crossed, field_of, value_of, view_of, CrossingsAreTold};
+ghost use Rattle.ivshm_c.specs.Crossing.{call_numbered, state_of, field_number, outcome_number, order_number, access_crossed, stretch_crossed, stretches_crossed, refusal_crossed, note_crossed, notes_crossed, field_of, value_of, view_of, CrossingsAreTold};
 
 use crate::port::{Outcome, Port};
 use link_endpoint::{Call, Order, Ordering};
@@ -20,6 +20,23 @@ pub struct Access {
     pub order: u32,
     pub fence_before: u32,
     pub fence_after: u32,
+}
+
+/// Some words of the region, one after the other: the first, and how many.
+#[repr(C)]
+#[derive(Clone, Copy)]
+pub struct Stretch {
+    pub word: u32,
+    pub count: u32,
+}
+
+/// The words that an offer writes before its index: those of its frame, of the descriptor and of the entry.
+#[repr(C)]
+#[derive(Clone, Copy)]
+pub struct Stretches {
+    pub frame: Stretch,
+    pub descriptor: Stretch,
+    pub entry: Stretch,
 }
 
 /// A note of a step. Kind 0 is Over, 1 Saw, 2 Reclaim, 3 Full, 4 Accept, 5 Look, 6 Deliver, 7 Return, 8 Done, 9 Down and 10 Refuse; `field`
@@ -126,6 +143,25 @@ pub(crate) fn access_crossed(
         order: order_number(ordering.order),
         fence_before: if ordering.fence_before { 1 } else { 0 },
         fence_after: if ordering.fence_after { 1 } else { 0 },
+    }
+}
+
+fn stretch_crossed(stretch: link_endpoint::Stretch) -> Stretch
+    ensures { result ≡ stretch_crossed stretch }
+{
+    Stretch {
+        word: stretch.word,
+        count: stretch.count,
+    }
+}
+
+pub(crate) fn stretches_crossed(stretches: link_endpoint::Stretches) -> Stretches
+    ensures { result ≡ stretches_crossed stretches }
+{
+    Stretches {
+        frame: stretch_crossed(stretches.frame),
+        descriptor: stretch_crossed(stretches.descriptor),
+        entry: stretch_crossed(stretches.entry),
     }
 }
 

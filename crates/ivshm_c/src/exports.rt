@@ -4,15 +4,16 @@ ghost use Rattle.ivshm_c.specs.Statuses.{number_of};
 ghost use Rattle.ivshm_c.specs.declared.status.Status.{Status as Answer};
 ghost use Rattle.link_endpoint.specs.Engine.{delivered};
 ghost use Rattle.ivshm_c.specs.Crossing.{view_of};
-ghost use Rattle.ivshm_c.specs.Answers.{answer_at, Leads, begin_answer, offer_answer, again_answer, step_answer, reads_answer, words_answer, writes_answer, frame_answer, done_answer, BeginsAnswered, OffersAnswered, OffersAgain, TellsNext, TakesAnswered, TakesWords, TellsWords, TakesWritten, CopiesFrame, Renews, MakesAnswered};
+ghost use Rattle.ivshm_c.specs.Answers.{answer_at, Leads, begin_answer, offer_answer, again_answer, step_answer, reads_answer, words_answer, writes_answer, stretches_answer, stretched_answer, frame_answer, done_answer, BeginsAnswered, OffersAnswered, OffersAgain, TellsNext, TakesAnswered, TakesWords, TellsWords, TakesWritten, TellsStretches, TakesStretches, CopiesFrame, Renews, MakesAnswered};
 
 use crate::calls::{
-    begun, framed, made, next, offered, offered_again, took, took_words, took_written, words,
+    begun, framed, made, next, offered, offered_again, stretches, took, took_stretches, took_words,
+    took_written, words,
 };
 use crate::crossing::view_of;
 use crate::device::Found;
 use crate::status::Status;
-use crate::{Access, End, Notes, View};
+use crate::{Access, End, Notes, Stretches, View};
 use std::alloc::Global;
 
 /// Makes the end of peer `me` of a region of these sizes, with so many peers, for frames of this MTU; its doorbells have the vector
@@ -195,6 +196,42 @@ pub extern "C" fn ivshm_end_took_written(alloc: Global, end: &mut End, count: u3
         return Status::NoEnd.number();
     };
     let status = took_written(&mut port, count);
+    end.put(port);
+    status.number()
+}
+
+/// Tells the words that an offer writes before its index, from the next one on: three stretches, those of the frame, of the descriptor and of the
+/// entry. The words stand at the front of `room` then, one stretch behind the other, each as four bytes, the lowest first.
+#[unsafe(no_mangle)]
+pub extern "C" fn ivshm_end_stretches(
+    alloc: Global,
+    end: &mut End,
+    told: &mut Stretches,
+    room: &mut [u8],
+) -> u32
+    ensures answer { result ≡ number_of (answer_at end.old.port (stretches_answer (length room.old))) }
+    ensures words { IfSome end.old.port (λ port. TellsStretches port told.old told.new room.old room.new) }
+    ensures untouched { end.old.port ≡ None → (told.new ≡ told.old) × (room.new ≡ room.old) }
+    ensures kept { end.new.port ≡ end.old.port }
+{
+    let Some(port) = end.take(alloc) else {
+        return Status::NoEnd.number();
+    };
+    let status = stretches(&port, told, room);
+    end.put(port);
+    status.number()
+}
+
+/// Takes the steps of all these writes at once. None of them has a note.
+#[unsafe(no_mangle)]
+pub extern "C" fn ivshm_end_took_stretches(alloc: Global, end: &mut End) -> u32
+    ensures answer { result ≡ number_of (answer_at end.old.port stretched_answer) }
+    ensures step { Leads end.old.port TakesStretches end.new.port }
+{
+    let Some(mut port) = end.take(alloc) else {
+        return Status::NoEnd.number();
+    };
+    let status = took_stretches(&mut port);
     end.put(port);
     status.number()
 }

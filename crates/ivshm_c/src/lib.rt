@@ -13,7 +13,7 @@ mod port;
 mod status;
 mod tables;
 
-pub use crossing::{Access, Note, Notes, View, crossings_are_told};
+pub use crossing::{Access, Note, Notes, Stretch, Stretches, View, crossings_are_told};
 pub use device::{Found, Layout, Limits};
 pub use held::End;
 

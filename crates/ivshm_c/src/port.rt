@@ -1,6 +1,7 @@
 //! An end of the link, with the outcome of its last offer.
 ghost use Rattle.std.specs.Prelude.{◌≡◌, ℕ, ◌+◌, ◌*◌, ◌%◌, ◌<◌, ◌≤◌, true, false, length};
-ghost use Rattle.link_endpoint.specs.Engine.{is_busy, reads_ahead, writes_ahead, offered};
+ghost use Rattle.tx_engine.specs.Ahead.{words_of};
+ghost use Rattle.link_endpoint.specs.Engine.{is_busy, reads_ahead, writes_ahead, stretches_of, offered};
 ghost use Rattle.link_endpoint.specs.declared.place.Call.TheVariants.{Stop};
 ghost use Rattle.ivshm_c.specs.Ports.{Begins, Offers, Steps, ReadsAtOnce, WritesAtOnce, Restarts, outcome_after, outcome_cut, outcome_with, outcome_told, told_by};
 
@@ -107,6 +108,15 @@ impl Port {
         ensures outcome { self.new.outcome ≡ self.old.outcome }
     {
         self.endpoint.took_written(count);
+    }
+
+    /// Takes all the writes that come before the index.
+    pub(crate) fn took_stretches(&mut self)
+        requires { 0 < words_of (stretches_of self.old.endpoint) }
+        ensures steps { WritesAtOnce self.old.endpoint (words_of (stretches_of self.old.endpoint)) self.new.endpoint }
+        ensures outcome { self.new.outcome ≡ self.old.outcome }
+    {
+        self.endpoint.took_stretches();
     }
 
     /// The device was reset: the open call is cut, and the State step comes with which the end begins anew.

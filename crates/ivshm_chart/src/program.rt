@@ -112,7 +112,7 @@ pub fn chart<S: Source, K: Sink>(
     requires { drawn.old ≡ None }
     ensures cause { HasCause result (form_of (map string_bytes words.now)) (S.input source.old) (S.input source.new)
         (K.output sink.old) (K.output sink.new) drawn.new }
-    // Words that are no form read nothing, and take no memory.
+    // Words that are no form read nothing, and are never answered by NoMemory.
     ensures usage { form_of (map string_bytes words.now) ≡ None → (result ≡ Status.Usage) ⊎ (result ≡ Status.WriteFault) }
     ensures unread { form_of (map string_bytes words.now) ≡ None → source.new ≡ source.old }
 {

@@ -1,5 +1,6 @@
 -- The headline whole: what holds of every record that `sim` writes, law by law.
 use Rattle.std.specs.Prelude.{ℕ, ◌≡◌, ◌≢◌, ◌-◌, ◌<◌, true, Some, List, [], ◌∷◌, ◌++◌, length, reverse, All}
+use Rattle.split_ring.specs.Layout.{has_events, AvailableIndex, UsedIndex}
 use Rattle.section_map.specs.MayWrite.{MayWrite}
 use Rattle.split_ring.specs.declared.ranges.Refused.{Refused}
 use Rattle.ivs_base.specs.Ends.{Input, Output}
@@ -13,7 +14,10 @@ use Rattle.lawful_history.specs.Sessions.{without_sessions}
 use Rattle.lawful_history.specs.Lawful.{IsLawfulBy}
 use Rattle.link_machine.specs.LinkMachine.{DeliversInOrder}
 use Rattle.history_laws.specs.Calls.{MakesCalls}
-use Rattle.history_laws.specs.Told.{side_of}
+use Rattle.history_laws.specs.Indexes.{IsIndexRead, IsLoneIndex}
+use Rattle.history_laws.specs.Polls.{deliver_count, IsWithin}
+use Rattle.history_laws.specs.Told.{telling_of, side_of}
+use Rattle.history_laws.specs.Wake.{EventIs, LeavesEvent, GoesOn, AcceptsNothing, IsRungIn}
 use Rattle.history_laws.specs.Rows.{KeepsRows}
 use Rattle.history_laws.specs.Reads.{got, reads_of, IsReadFrame, IsReadBeyond}
 use Rattle.history_laws.specs.Refusals.{IsRefusal}
@@ -27,6 +31,31 @@ use Rattle.ivshm_cli.specs.declared.exit.Status.TheVariants.{Done}
 use Rattle.ivshm_cli.specs.Due.{IsDue}
 use Rattle.ivshm_cli.specs.Headline.{Simulates}
 use Rattle.ivshm_cli.specs.Replay.{verdict_line}
+
+-- each look, each reclaim and each refusal of an index has a read of that index of its own, which is the line right before it
+pub record ReadsIndexesOnce (world : World) (history : List Line) : Type 0 where
+  pub looks : (before after : List Line) (p count : ℕ) → history ≡ before ++ line.Look p count ∷ after →
+      IsIndexRead (who_of world p) p (reverse before) AvailableIndex (length (side_of (reverse before) p).delivered) count
+  pub reclaims : (before after : List Line) (p count : ℕ) → history ≡ before ++ line.Reclaim p count ∷ after →
+      IsIndexRead (who_of world p) p (reverse before) UsedIndex (side_of (reverse before) p).freed count
+  pub refusals : (before after : List Line) (p : ℕ) (refused : Refused) → history ≡ before ++ line.Refuse p refused ∷ after →
+      IsLoneIndex (who_of world p) p (reverse before) refused.field refused.value
+
+-- in a link with events a poll that is done and found nothing leaves its peer's event at the next frame, which is the next that an honest other accepts; an
+-- honest peer rings where the other's event stands at the frame that it accepts; so a peer whose poll found nothing is rung at the next frame
+pub record RingsWhoWaits (world : World) (history : List Line) : Type 0 where
+  pub armed : (before after : List Line) (p : ℕ) → has_events world.queue ≡ true → history ≡ before ++ line.Look p 0 ∷ line.Done p ∷ after →
+      EventIs world (reverse before) p (length (side_of (reverse before) p).delivered)
+  pub next : (before after : List Line) (p : ℕ) → is_link world (1 - p) ≡ true → history ≡ before ++ line.Look p 0 ∷ after →
+      length (side_of (reverse before) (1 - p)).accepted ≡ length (side_of (reverse before) p).delivered
+  pub rung : (before since offer after : List Line) (p : ℕ) (frame : List ℕ) → p < 2 → is_link world (1 - p) ≡ true →
+      history ≡ before ++ since ++ line.Accept (1 - p) frame ∷ offer ++ line.Over (1 - p) ∷ after →
+      EventIs world (reverse before) p (length (side_of (reverse (before ++ since)) (1 - p)).accepted) →
+      All (LeavesEvent world p) since → All (LeavesEvent world p) offer → All (λ found. GoesOn (1 - p) (telling_of found)) offer → IsRungIn world (1 - p) offer
+  pub wakes : (before since offer after : List Line) (p : ℕ) (frame : List ℕ) → has_events world.queue ≡ true → p < 2 → is_link world (1 - p) ≡ true →
+      history ≡ before ++ line.Look p 0 ∷ line.Done p ∷ [] ++ since ++ line.Accept (1 - p) frame ∷ offer ++ line.Over (1 - p) ∷ after →
+      All (LeavesEvent world p) since → All (λ found. AcceptsNothing (1 - p) (telling_of found)) since →
+      All (LeavesEvent world p) offer → All (λ found. GoesOn (1 - p) (telling_of found)) offer → IsRungIn world (1 - p) offer
 
 -- A history that keeps the laws
 pub record KeepsTheLaws (world : World) (history : List Line) : Type 0 where
@@ -43,6 +72,15 @@ pub record KeepsTheLaws (world : World) (history : List Line) : Type 0 where
       IsReadFrame (who_of world p) (length (side_of (reverse before) p).delivered) (reads_of (reverse before) p) frame
   pub spelled : (before after : List Line) (p : ℕ) (frame : List ℕ) → history ≡ before ++ line.Accept p frame ∷ after
       → SpellsNext world (reverse before) p frame
+  pub indexes : ReadsIndexesOnce world history
+  -- between a look and the end of its poll as many frames are delivered as the look found
+  pub done : (before between after : List Line) (p count : ℕ) → history ≡ before ++ line.Look p count ∷ between ++ line.Done p ∷ after →
+      All (λ found. IsWithin p (telling_of found)) between → deliver_count p between ≡ count
+  -- an honest link peer in RESET writes nothing to its section
+  pub quiet : (before after : List Line) (p word value : ℕ) → is_link world p ≡ true → history ≡ before ++ line.Write p word value ∷ after →
+      (side_of (reverse before) p).state ≢ 0
+  -- who sleeps after a poll that found nothing is rung at the next frame
+  pub wakes : RingsWhoWaits world history
   -- a value read out of range refuses the link at once, by its field; nothing else is refused, and the end stays refused until its reset
   pub refused : (before after : List Line) (p word value : ℕ) (refused : Refused) → is_link world p ≡ true
       → history ≡ before ++ line.Read p word value ∷ after →

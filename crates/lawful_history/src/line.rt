@@ -169,7 +169,7 @@ impl Model for Lines {
 }
 
 impl Lines {
-    /// The history without a line; it takes no memory.
+    /// The history without a line.
     pub fn new(alloc: Global) -> Lines
         ensures { result ≡ [] }
     {
@@ -178,7 +178,7 @@ impl Lines {
         }
     }
 
-    /// Makes room for so many lines more, so that as many pushes take no memory. NoMemory comes only where memory ran out.
+    /// Makes room for so many lines more. NoMemory says that memory ran out.
     pub fn reserve(&mut self, more: usize) -> Result<(), NoMemory>
         ensures { self.new ≡ self.old }
     {
@@ -186,7 +186,7 @@ impl Lines {
         Ok(())
     }
 
-    /// Puts a line last. At NoMemory, which comes only where memory ran out, the history is unchanged and the line is dropped.
+    /// Puts a line last. After NoMemory the history is unchanged and the line is dropped.
     pub fn push(&mut self, line: Line) -> Result<(), NoMemory>
         ensures put { OnOk result (self.new ≡ self.old ++ line ∷ []) }
         ensures unchanged { OnErr result (self.new ≡ self.old) }

@@ -8,13 +8,18 @@ ghost use Rattle.line_text.specs.Reading.{Gives, Reads};
 use crate::cuts::cut;
 use ivs_base::NoMemory;
 use std::alloc::{AllocError, Global};
+use std::fmt::Display;
+use thiserror::Error;
 
 /// Why a line was not taken.
-#[derive(Clone, Copy, Debug, PartialEq, Eq)]
+#[derive(Clone, Copy, Debug, PartialEq, Eq, Error)]
+#[error_bound(C: Display)]
 pub enum LineFault<C> {
     /// There was no memory left.
+    #[error("out of memory")]
     NoMemory,
     /// The line is wrong.
+    #[error("{0}")]
     Wrong(C),
 }
 
@@ -35,15 +40,20 @@ impl<C> From<NoMemory> for LineFault<C> {
 }
 
 /// What is wrong with a text. Lines count from 1.
-#[derive(Clone, Copy, Debug, PartialEq, Eq)]
+#[derive(Clone, Copy, Debug, PartialEq, Eq, Error)]
+#[error_bound(C: Display)]
 pub enum TextFault<C> {
     /// There was no memory left.
+    #[error("out of memory")]
     NoMemory,
     /// The first line that is wrong, and its number.
+    #[error("line {1}: {0}")]
     At(C, u64),
     /// Bytes stand after the end, on the line with this number.
+    #[error("line {0} stands after the end")]
     After(u64),
     /// All whole lines are good, and none of them is the end.
+    #[error("the text has no end")]
     NoEnd,
 }
 

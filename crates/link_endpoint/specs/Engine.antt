@@ -12,6 +12,8 @@ use Rattle.call_grammar.specs.Calls.{Who}
 use Rattle.call_grammar.specs.Calls as calls
 use Rattle.tx_engine.specs.Sender.{Sender, fresh_sender}
 use Rattle.tx_engine.specs.Sender as sender
+use Rattle.tx_engine.specs.Ahead as ahead
+use Rattle.tx_engine.specs.declared.ahead.Stretches.{Stretches}
 use Rattle.rx_engine.specs.Receiver.{Receiver, fresh_receiver, renewed}
 use Rattle.rx_engine.specs.Receiver as receiver
 use Rattle.link_endpoint.specs.declared.place.Call.{Call}
@@ -108,6 +110,14 @@ writes_ahead_at _ who tx rx = 0
 
 abbrev pub writes_ahead : Engine → ℕ
 writes_ahead e = writes_ahead_at e.place e.who e.sender e.receiver
+
+-- the words that an offer writes before its index, where a word of its frame is next
+abbrev pub stretches_at : Place → Sender → Option Stretches
+stretches_at Offering tx = ahead.stretches_of tx
+stretches_at _ tx = None
+
+abbrev pub stretches_of : Engine → Option Stretches
+stretches_of e = stretches_at e.place e.sender
 
 -- where its handshake stands: it bears the mark where it refused something
 abbrev pub standing_of : Engine → Standing

@@ -51,7 +51,7 @@ impl Model for Auto {
 }
 
 impl Auto {
-    /// An automatic peer without frames, which expects so many deliveries. It takes no memory.
+    /// An automatic peer without frames, which expects so many deliveries.
     pub fn new(alloc: Global, expect: u64) -> Auto
         ensures value { result ≡ fresh_plan expect }
         ensures counted { HasCounted result 0 }

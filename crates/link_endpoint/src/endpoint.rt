@@ -1,5 +1,5 @@
 //! One end of the link, which takes its calls step by step. It makes no access itself.
-ghost use Rattle.std.specs.Prelude.{◌≡◌, ℕ, ◌+◌, ◌*◌, ◌%◌, ◌<◌, ◌≤◌, ◌↔◌, not, is_some, None, List, [], ◌∷◌, true, false, IsTrue, IfOk, length, flat_map};
+ghost use Rattle.std.specs.Prelude.{◌≡◌, ℕ, ◌+◌, ◌*◌, ◌%◌, ◌<◌, ◌≤◌, ◌↔◌, not, is_some, None, List, [], ◌∷◌, true, false, IsTrue, IfOk, IfSome, length, flat_map};
 ghost use Rattle.link_handshake.specs.declared.Phase.TheVariants.{Run};
 ghost use Rattle.call_grammar.specs.Ends.{End, fresh, after_reset};
 ghost use Rattle.call_grammar.specs.Calls.{Who, Offer, in_run};
@@ -9,7 +9,8 @@ ghost use Rattle.call_grammar.specs.Ticks.{other_state};
 ghost use Rattle.call_grammar.specs.Stretches.{Each, ReadsOn, WritesOn};
 ghost use Rattle.call_grammar.specs.Words.{word_bytes};
 ghost use Rattle.call_grammar.specs.StepBounds.{HasFewInFlight};
-ghost use Rattle.link_endpoint.specs.Engine.{who_of, fresh_engine, engine_after_reset, is_busy, is_down, is_leaving, is_looking, is_tick, offered, delivered, call_of, comes_down, refused_after, reads_ahead, writes_ahead};
+ghost use Rattle.tx_engine.specs.Ahead.{words_of, listed, WritesAll};
+ghost use Rattle.link_endpoint.specs.Engine.{who_of, fresh_engine, engine_after_reset, is_busy, is_down, is_leaving, is_looking, is_tick, offered, delivered, call_of, comes_down, refused_after, reads_ahead, writes_ahead, stretches_of};
 ghost use Rattle.link_endpoint.specs.Stands.{StandsAt, is_armed, Takes, Opens};
 ghost use Rattle.link_endpoint.specs.Leaving.{Refuses, Leaves, KeepsRefused, Stays, KeepsAway};
 ghost use Rattle.link_endpoint.specs.Stretches.{IsTaken};
@@ -26,7 +27,7 @@ use split_ring::steps::{Access, Note, Notes, WordKind, leaving, left, noted};
 use split_ring::{Queue, Refused};
 use std::alloc::Global;
 use std::marker::Model;
-use tx_engine::Tx;
+use tx_engine::{Stretches, Tx};
 
 /// An end of the link: its handshake, its sender and its receiver, and the place in the open call.
 ///
@@ -59,7 +60,7 @@ impl Endpoint {
     /// The end of peer `me` in a region of this geometry, whose output sections hold this queue. Its doorbells have the vector
     /// `traffic`.
     ///
-    /// NoMemory comes only where memory ran out. No later call takes memory.
+    /// NoMemory says that memory ran out. No later call answers it.
     pub fn new(
         alloc: Global,
         me: u32,
@@ -345,6 +346,42 @@ impl Endpoint {
             Place::Offering => self.tx.took_written(count),
             Place::Polling => self.rx.took_written(count),
             Place::Clearing { at, then } => self.took_clears(at, then, count),
+            _ => unreachable!(),
+        }
+    }
+
+    /// Which words the open offer writes before its index: those that are left of its frame, those of the descriptor and that of the entry,
+    /// one behind the other and with no note. None where no word of a frame is next.
+    pub fn stretches(&self) -> Option<Stretches>
+        ensures { result ≡ stretches_of self.now }
+    {
+        match self.place {
+            Place::Offering => self.tx.stretches(),
+            _ => None,
+        }
+    }
+
+    /// Puts all the words that `stretches` tells into `into`, each as four bytes, the lowest first.
+    pub fn stretch_words(&self, into: &mut [u8])
+        requires sized { length into.old ≡ 4 * words_of (stretches_of self.now) }
+        ensures writes { (who : Who) (end : End) (place : places.Place) → StandsAt self.now who end place →
+            IfSome (stretches_of self.now) (λ stretches. WritesAll who place (listed stretches) into.new) }
+        ensures sized { length into.new ≡ length into.old }
+    {
+        if let Place::Offering = self.place {
+            self.tx.stretch_words(into);
+        }
+    }
+
+    /// Takes the steps of all the writes that `stretches` tells at once.
+    ///
+    /// It is the same as `took` so many times, each of which has no note.
+    pub fn took_stretches(&mut self)
+        requires { 0 < words_of (stretches_of self.old) }
+        ensures { (values : List ℕ) → length values ≡ words_of (stretches_of self.old) → Each IsTaken self.old values [] self.new }
+    {
+        match self.place {
+            Place::Offering => self.tx.took_stretches(),
             _ => unreachable!(),
         }
     }

@@ -2,6 +2,19 @@
 //! It stands on `tx_engine` and `rx_engine` for offers and polls, on `link_handshake` for the phases, and on `call_grammar` for the call
 //! grammar. Its contracts promise that each call is one of the grammar's, for each end for which the endpoint stands, and that the
 //! choice of calls is the grammar's. `laws` holds what follows for two ends.
+//!
+//! # Design
+//!
+//! - An `Endpoint` is seen as an `Engine`: whose end it is, its phase, what it refused, its place, its sender and its receiver. An offer's
+//!   place is the sender's, a poll's the receiver's.
+//! - `Endpoint::offered` tells the frame of the open offer, of which the endpoint has a copy: whoever writes a history needs it at the
+//!   Accept mark, and would have to hold it a second time.
+//! - `Auto::cut` begins the round of an automatic peer anew. A reset cuts the call that the peer chose, and only the caller knows of it.
+//! - An access is in reach without a condition, also before anything is known of the values read: the invariant says that the endpoint
+//!   stands for some end.
+//! - An automatic peer counts deliveries up to the number expected, so no count overflows; the rule asks only whether so many came.
+//! - A State step of READY resets sender and receiver, and so do the State step of a refusal and a device reset. The frame delivered
+//!   last stays through all of these (`renewed`).
 #![tactic(auto)]
 
 mod auto;
@@ -14,6 +27,4 @@ pub use auto::{Auto, Choice};
 pub use endpoint::{Endpoint, endpoints_make_calls};
 pub use order::{Order, Ordering};
 pub use place::Call;
-
-#[cfg(test)]
-mod tests;
+pub use tx_engine::{Stretch, Stretches};

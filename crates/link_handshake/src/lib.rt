@@ -1,6 +1,13 @@
 //! The handshake of a link's end: its phase, the mark of an end that refused the link, and the move
 //! that each state of the other end calls for. It stands on nothing. Its contract is the phase table
-//! itself, with the laws that follow from it: no phase is skipped, and nobody runs alone.
+//! itself, with the laws that follow from it: no phase is skipped; READY waits until the other end has left RESET,
+//! and RUN until it is at least READY; RESET is set only from READY or RUN, where the other end is found there; and
+//! INIT only while the other end is at RESET or INIT.
+//!
+//! # Design
+//!
+//! - The table is a definition by cases, `move_on` of `specs/PhaseTable`, with a line for each arm of `saw`. The laws of `phases_in_step`
+//!   follow from it and don't hold each arm in its place: a must-fail edit for each arm does.
 #![tactic(auto)]
 
 ghost use Rattle.std.specs.Prelude.{◌≡◌, true, false};
@@ -150,6 +157,3 @@ pub fn phases_in_step()
     ensures follows_reset { FollowsReset }
     ensures starts_afresh { StartsAfresh }
 {}
-
-#[cfg(test)]
-mod tests;

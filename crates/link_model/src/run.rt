@@ -36,7 +36,7 @@ impl<'a> Model for Run<'a> {
 }
 
 impl<'a> Run<'a> {
-    /// A run that has taken no line, for a record of this version, 1 or 2. NoMemory comes only where memory ran out.
+    /// A run that has taken no line, for a record of this version, 1 or 2. NoMemory says that memory ran out.
     pub fn new(alloc: Global, scenario: &'a Scenario, version: u32) -> Result<Run<'a>, NoMemory>
         requires { is_version version ≡ true }
         ensures { IfOk result (λ run. run ≡ record { world = world_of scenario.now; version = version; lines = []; fault = None }) }
@@ -49,7 +49,7 @@ impl<'a> Run<'a> {
     }
 
     /// Takes the next line of the history. Unlawful comes exactly where a record of the run's version tells no lawful history of the scenario
-    /// that goes on with this line, with its number and the law that it breaks. NoMemory comes only where memory ran out. After a fault
+    /// that goes on with this line, with its number and the law that it breaks. NoMemory says that memory ran out. After a fault
     /// each step returns that fault.
     pub fn step(&mut self, line: &Line) -> Result<(), StepFault>
         ensures taken { OnOk result (self.new ≡ record self.old { lines = self.old.lines ++ line.now ∷ [] }) }

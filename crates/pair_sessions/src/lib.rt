@@ -1,6 +1,13 @@
 //! The sessions of two honest ends: runs in which each opens one at most, and runs in which the ends number them by a session word each.
 //! It stands on `ends_pair` for the runs and on `link_machine` for the logs of sessions. It holds no code: each law is the contract of
 //! a function with an empty body.
+//!
+//! # Design
+//!
+//! - Numbered sessions keep the link machine's own log (`log_told`): a State step with 3 carries the number that was loaded, and the law
+//!   says that it is the number that the other opened.
+//! - A store of the session word outlives a reset and a State step with 0 or 1: only the State step with 2 uses it up. A load is for the
+//!   next State step alone.
 #![tactic(auto)]
 
 ghost use Rattle.pair_sessions.specs.Numbers.{SessionsArePaired};

@@ -277,7 +277,7 @@ fn drive_storm<G: Gate>(
 /// this peer alone, and its list is empty; the driver is at its start; the routes are those with which the words were made. The answer
 /// is the peer's own trace, without its quiet calls: it has taken all its turns, or is finished.
 ///
-/// NoMemory comes only where memory ran out. Then the pass has what was done so far, and the gate isn't told the end.
+/// NoMemory says that memory ran out. Then the pass has what was done so far, and the gate isn't told the end.
 pub fn drive<G: Gate>(
     alloc: Global,
     words: &Words,

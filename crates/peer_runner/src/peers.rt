@@ -128,7 +128,7 @@ fn listed(alloc: Global, traces: Vec<OwnTrace>) -> Result<OwnTraces, NoMemory>
 /// for this scenario, and no access was made by the pass. After either answer the pass has all peers again, with the list of the
 /// accesses of each.
 ///
-/// NoMemory comes only where memory ran out, in whichever thread; none is left then.
+/// NoMemory says that memory ran out, in whichever thread.
 pub fn run_peers<R: Threads + Sync, G: Gate + Sync>(
     rt: &R,
     alloc: Global,

@@ -54,7 +54,7 @@ fn devices_for(scenario: &Scenario) -> Device
     device
 }
 
-/// The routes of the scenario's peers, by their numbers. It takes no memory.
+/// The routes of the scenario's peers, by their numbers.
 pub fn routes_of(scenario: &Scenario) -> ArrayVec<Route, 8>
     ensures { AreRoutesOf (world_of scenario.now) result.items }
 {

@@ -20,7 +20,7 @@ impl Model for Spans {
 }
 
 impl Spans {
-    /// The empty list. It takes no memory.
+    /// The empty list.
     pub fn new(alloc: Global) -> Self
         ensures { result ≡ [] }
     {
@@ -29,7 +29,7 @@ impl Spans {
         }
     }
 
-    /// Puts a span last. After NoMemory, which comes only where memory ran out, the list is unchanged.
+    /// Puts a span last. After NoMemory the list is unchanged.
     pub fn push(&mut self, turns: u64) -> Result<(), NoMemory>
         ensures ok { OnOk result (self.new ≡ self.old ++ turns ∷ []) }
         ensures err { OnErr result (self.new ≡ self.old) }

@@ -66,7 +66,7 @@ fn first_words(alloc: Global, key: &Key) -> Result<Vec<u64>, NoMemory>
 
 /// The words at their start, and one pass with all peers and empty lists. All words are 0 but those of Interrupt Control.
 ///
-/// NoMemory comes only where memory ran out.
+/// NoMemory says that memory ran out.
 pub fn words_for(alloc: Global, scenario: &Scenario) -> Result<(Words, Pass), NoMemory>
     requires running { not_running (world_of scenario.now) ≡ None }
     ensures whole { IfOk result (λ r. IsWhole (world_of scenario.now) r.0.shared.table_id r.0.shared.key r.1) }
@@ -92,7 +92,7 @@ fn split_at<M: Split<View>>(words: &Words, pass: &mut Pass, from: u32) -> Pass
     }
 }
 
-/// Gives a pass with the peers of the range from `from` on, and their lists, and leaves the others in `pass`. It takes no memory.
+/// Gives a pass with the peers of the range from `from` on, and their lists, and leaves the others in `pass`.
 pub fn split_pass(words: &Words, pass: &mut Pass, from: u32) -> Pass
     requires of { IsOf words.now.shared.table_id words.now.shared.key pass.old }
     requires inside { (pass.old.from ≤ from) × (from ≤ pass.old.from + length pass.old.lists) }
@@ -102,7 +102,7 @@ pub fn split_pass(words: &Words, pass: &mut Pass, from: u32) -> Pass
     split_at::<Brand>(words, pass, from)
 }
 
-/// Takes the other's peers and lists. It takes no memory.
+/// Takes the other's peers and lists.
 pub fn join_pass(words: &Words, pass: &mut Pass, other: Pass)
     requires own { IsOf words.now.shared.table_id words.now.shared.key pass.old }
     requires of { IsOf words.now.shared.table_id words.now.shared.key other × (other.from ≡ pass.old.from + length pass.old.lists) }

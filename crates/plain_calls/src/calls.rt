@@ -77,7 +77,7 @@ fn place_after(
     Ok(Some(place))
 }
 
-/// Are these steps a call that the end makes, from its first step to its last? NoMemory comes only where memory ran out.
+/// Are these steps a call that the end makes, from its first step to its last? NoMemory says that memory ran out.
 pub fn is_call(
     alloc: Global,
     who: &Who,
@@ -99,7 +99,7 @@ pub fn is_call(
 }
 
 /// The step with which the call goes on after these steps, where a read gives this value; None where the call is over, or these
-/// steps don't begin it. NoMemory comes only where memory ran out.
+/// steps don't begin it. NoMemory says that memory ran out.
 pub fn next_step(
     alloc: Global,
     who: &Who,

@@ -114,7 +114,7 @@ impl End {
         Ok(())
     }
 
-    /// The end takes a step. NoMemory comes only where memory ran out.
+    /// The end takes a step. NoMemory says that memory ran out.
     pub fn follow(&mut self, step: &Step) -> Result<(), NoMemory>
         requires storable { IsStorable (step_seen step.now).access }
         requires room { HasRoom self.old (step_seen step.now).marks }

@@ -51,7 +51,7 @@ impl OpenCall {
         }
     }
 
-    /// The call that an end begins, before its first step. NoMemory comes only where memory ran out.
+    /// The call that an end begins, before its first step. NoMemory says that memory ran out.
     pub fn open(alloc: Global, who: &Who, end: &End, asked: &Call) -> Result<OpenCall, NoMemory>
         ensures { IfOk result (λ call. (seen : ends.End) → IsSeenAs end.now seen → place_of call ≡ first_place (who_seen who.now) seen (call_seen asked.now)) }
     {
@@ -74,7 +74,7 @@ impl OpenCall {
         access_at(who, &self.begun, &self.place)
     }
 
-    /// Its next step, where a read gives this value. NoMemory comes only where memory ran out.
+    /// Its next step, where a read gives this value. NoMemory says that memory ran out.
     pub fn step(&self, alloc: Global, who: &Who, value: u32) -> Result<Step, NoMemory>
         ensures { IfOk result (λ step. step_seen step ≡ step_at (who_seen who.now) (place_of self.now) value) }
     {
@@ -87,7 +87,7 @@ impl OpenCall {
         })
     }
 
-    /// The call after that step. NoMemory comes only where memory ran out.
+    /// The call after that step. NoMemory says that memory ran out.
     pub fn after(self, alloc: Global, who: &Who, value: u32) -> Result<OpenCall, NoMemory>
         ensures { IfOk result (λ next. place_of next ≡ next_place (who_seen who.now) (place_of self) value) }
     {

@@ -4,6 +4,18 @@
 //! needs them. Each mark of a session, of version 2, it works out by itself, from the lines before it. It stands on
 //! `plain_calls` for the calls and on `doorbell_irq` for the devices, and shares no code with an engine or a stage. Its contract
 //! promises an answer of yes exactly where the lines are what a record of the version tells of the lawful history.
+//!
+//! # Design
+//!
+//! - A moment holds how many lines were read, how many interrupts of each peer are to be lost, and for each peer its end, its open call,
+//!   the calls that wait and its driver. What this program has in common with the engines are the definitions, `link_handshake`, the layout
+//!   of `split_ring`, the devices of `doorbell_irq` and the region's sizes.
+//! - The counts of an end have 32 bits. A peer's step bears at most two marks, and a schedule has at most 4,000,000 events, so that no
+//!   count goes past 8,000,000 (`IsPeer` has the bound).
+//! - A line of the history has words of 32 bits, and an access of `plain_calls` has 64. They are compared as they stand, so that nothing
+//!   need be known of an access to compare it.
+//! - The marks of sessions of version 2 are looked at first, by a program of their own (`marks`). The lines that are left are read as those
+//!   of version 1.
 #![tactic(auto)]
 
 ghost use Rattle.std.specs.Prelude.{◌≡◌, ◌↔◌, ℕ, ◌+◌, ◌≤◌, IsTrue, IfOk};
@@ -37,15 +49,6 @@ use marks::without_marks;
 use moments::Moment;
 use scenario_text::{Act, Scenario};
 use std::alloc::Global;
-
-#[cfg(test)]
-mod tests;
-#[cfg(test)]
-mod worked;
-#[cfg(test)]
-mod worked_bytes;
-#[cfg(test)]
-mod worked_events;
 
 /// Reads the lines of an act. False where they don't stand there.
 fn read_act(
@@ -88,7 +91,7 @@ fn is_history(alloc: Global, scenario: Scenario, lines: &[Line]) -> Result<bool,
 }
 
 /// Are these lines what a record of this version tells of a lawful history of the scenario? In version 2 the marks of sessions have to
-/// stand where they are due; the others are the lines of a history. NoMemory comes only where memory ran out.
+/// stand where they are due; the others are the lines of a history. NoMemory says that memory ran out.
 pub fn is_lawful(
     alloc: Global,
     scenario: Scenario,

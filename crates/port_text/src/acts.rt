@@ -77,7 +77,7 @@ impl Model for Acts {
 }
 
 impl Acts {
-    /// The empty list. It takes no memory.
+    /// The empty list.
     pub fn new(alloc: Global) -> Self
         ensures { result ≡ [] }
     {
@@ -86,7 +86,7 @@ impl Acts {
         }
     }
 
-    /// Puts the act last. After NoMemory, which comes only where memory ran out, the list is unchanged and the act is dropped.
+    /// Puts the act last. After NoMemory the list is unchanged and the act is dropped.
     pub fn push(&mut self, item: Act) -> Result<(), NoMemory>
         ensures ok { OnOk result (self.new ≡ self.old ++ item ∷ []) }
         ensures err { OnErr result (self.new ≡ self.old) }

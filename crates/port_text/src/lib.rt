@@ -15,8 +15,6 @@ mod printing;
 mod reading;
 mod scenarios;
 mod taking;
-#[cfg(test)]
-mod tests;
 
 pub use acts::{Act, Acts, Message};
 pub use faults::{Cause, PortsFault};

@@ -31,7 +31,7 @@ fn geometry(peers: u32, out: u64) -> Geometry
 }
 
 impl Draft {
-    /// The draft of a text of which nothing is read. It takes no memory.
+    /// The draft of a text of which nothing is read.
     pub fn new(alloc: Global) -> Draft
         ensures { so_far result ≡ at_start }
     {
@@ -67,7 +67,7 @@ impl Draft {
     }
 }
 
-/// The schedule that the text spells, or the first fault of the text, in one pass over it. NoMemory comes only where memory ran out.
+/// The schedule that the text spells, or the first fault of the text, in one pass over it. NoMemory says that memory ran out.
 pub fn parse(alloc: Global, bytes: &[u8]) -> Result<Scenario, PortsFault>
     // What is read is spelled so.
     ensures found { IfOk result (λ scenario. IsSpelling (world_of scenario) bytes.now) }

@@ -50,14 +50,9 @@ fn counted(alloc: Global, count: u64, one: &str, many: &str) -> Result<String, A
 fn frame_text(alloc: Global, verb: &str, frame: &Frame) -> Result<String, AllocError> {
     let bytes = frame.bytes();
     let size = bytes.len();
-    let mut text = format!(in alloc; "{verb} {size} bytes ")?;
-    for byte in bytes.iter().take(FIRST_BYTES) {
-        write!(text, "{byte:02x}")?;
-    }
-    if size > FIRST_BYTES {
-        text.push_str("..")?;
-    }
-    Ok(text)
+    let first = hex::encode(alloc, &bytes[..size.min(FIRST_BYTES)])?;
+    let more = if size > FIRST_BYTES { ".." } else { "" };
+    format!(in alloc; "{verb} {size} bytes {first}{more}")
 }
 
 /// The field of a refusal, as the record names it.

@@ -69,7 +69,7 @@ fn pair_arrows(
     Ok(arrows)
 }
 
-/// What a picture of these lines of a record shows: from one number to another, counted from 1. NoMemory comes only where memory ran out.
+/// What a picture of these lines of a record shows: from one number to another, counted from 1. NoMemory says that memory ran out.
 pub fn picture_of(alloc: Global, trace: &Trace, first: u64, last: u64) -> Result<Picture, NoMemory>
     requires { 1 ≤ first }
     ensures { IfOk result (IsPicture (world_of trace.now.scenario) trace.now.lines first last) }
@@ -93,7 +93,7 @@ pub fn picture_of(alloc: Global, trace: &Trace, first: u64, last: u64) -> Result
 }
 
 /// What a picture shows of a record of which the trace has the first lines, and so many others come after them: the same whatever those are.
-/// There is none where more lines have to be known. NoMemory comes only where memory ran out.
+/// There is none where more lines have to be known. NoMemory says that memory ran out.
 pub fn picture_of_front(
     alloc: Global,
     trace: &Trace,

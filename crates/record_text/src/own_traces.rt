@@ -25,7 +25,7 @@ impl Model for OwnTraces {
 }
 
 impl OwnTraces {
-    /// The empty list. It takes no memory.
+    /// The empty list.
     pub fn new(alloc: Global) -> Self
         ensures { result ≡ [] }
     {
@@ -34,8 +34,7 @@ impl OwnTraces {
         }
     }
 
-    /// Puts the trace last. After NoMemory, which comes only where memory ran out, the list is unchanged and the trace is
-    /// dropped.
+    /// Puts the trace last. After NoMemory the list is unchanged and the trace is dropped.
     pub fn push(&mut self, item: OwnTrace) -> Result<(), NoMemory>
         ensures ok { OnOk result (self.new ≡ self.old ++ part_of item ∷ []) }
         ensures err { OnErr result (self.new ≡ self.old) }

@@ -148,7 +148,7 @@ fn put_record(out: &mut Vec<u8>, trace: &Trace) -> Result<(), AllocError>
     Ok(())
 }
 
-/// The text of the record, which is its one spelling. NoMemory comes only where memory ran out.
+/// The text of the record, which is its one spelling. NoMemory says that memory ran out.
 pub fn print(alloc: Global, trace: &Trace) -> Result<Vec<u8>, NoMemory>
     ensures text { IfOk result (λ text. text.items ≡ spelling (record_of trace.now)) }
     // What is written is read as the record.

@@ -51,7 +51,7 @@ impl<'a> Reader<'a> {
     ghost use Rattle.record_text.specs.Answers.{Refuses};
     ghost use Rattle.record_text.specs.Readers.{IsReading, ReadsOn, GoesPast};
 
-    /// Reads what stands before the history of a record: its version and its scenario. NoMemory comes only where memory ran out.
+    /// Reads what stands before the history of a record: its version and its scenario. NoMemory says that memory ran out.
     pub fn begin(alloc: Global, bytes: &'a [u8]) -> Result<(u32, Scenario, Reader<'a>), RecordFault>
         ensures begun { IfOk result (λ front. IsReading bytes.now front.0 (world_of front.1) [] front.2) }
         ensures known { IfOk result (λ front. is_version front.0 ≡ true) }
@@ -83,7 +83,7 @@ impl<'a> Reader<'a> {
     }
 
     /// Reads the next line of the history. None comes at the end of the text, where the count agrees. After a fault the reader is of no more
-    /// use. NoMemory comes only where memory ran out.
+    /// use. NoMemory says that memory ran out.
     pub fn next(&mut self, alloc: Global) -> Result<Option<Line>, RecordFault>
         ensures shorter { IfOk result (λ found. IfSome found (λ _. length self.new.rest.now < length self.old.rest.now)) }
         ensures reads { (bytes : List ℕ) (version : ℕ) (world : World) (lines : List HistoryLine) → IsReading bytes version world lines self.old → ReadsOn bytes version world lines result self.new }
@@ -114,7 +114,7 @@ impl<'a> Reader<'a> {
     }
 
     /// Goes past these lines, if the bytes that come next are theirs: they are written and compared, and no line is read. Else nothing is read.
-    /// NoMemory comes only where memory ran out.
+    /// NoMemory says that memory ran out.
     pub fn pass(&mut self, lines: &[Line]) -> Result<bool, NoMemory>
         requires { HaveFrames lines.now }
         ensures shorter { IfOk result (λ is. is ≡ true → length self.new.rest.now + length lines.now ≤ length self.old.rest.now) }

@@ -18,7 +18,7 @@ use scenario_text::Draft;
 use std::alloc::Global;
 
 impl RecordDraft {
-    /// The draft of a text of which nothing is read. It takes no memory.
+    /// The draft of a text of which nothing is read.
     pub fn new(alloc: Global) -> RecordDraft
         ensures { part_so_far result ≡ AtFirst }
     {
@@ -50,8 +50,8 @@ impl RecordDraft {
     }
 }
 
-/// The record that the text spells, or the first fault of the text, in one pass over it. NoMemory comes only where
-/// memory ran out.
+/// The record that the text spells, or the first fault of the text, in one pass over it. NoMemory says that memory
+/// ran out.
 pub fn parse(alloc: Global, bytes: &[u8]) -> Result<Trace, RecordFault>
     // What is read is spelled so.
     ensures found { IfOk result (λ trace. IsSpelling (record_of trace) bytes.now) }

@@ -86,7 +86,7 @@ fn put_run(out: &mut Vec<u8>, trace: &RunTrace) -> Result<(), AllocError>
     put(out, RunForm::Own(LineForm::Count), &[count])
 }
 
-/// The text of the running record, which is its one spelling. NoMemory comes only where memory ran out.
+/// The text of the running record, which is its one spelling. NoMemory says that memory ran out.
 pub fn print_run(alloc: Global, trace: &RunTrace) -> Result<Vec<u8>, NoMemory>
     ensures text { IfOk result (λ text. IsRunSpelling (run_of trace.now) text.items) }
     // No other running record has this text.

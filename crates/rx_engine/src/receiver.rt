@@ -29,8 +29,8 @@ const LONGEST: u32 = 65_553;
 /// delivered last.
 ///
 /// It has two buffers, each as long as the longest frame that passes the checks: one for the frame that is read, and one for the frame
-/// delivered last. They are swapped when a frame is delivered, and nothing is copied. A step reads or writes one word, and takes no
-/// memory.
+/// delivered last. They are swapped when a frame is delivered, and nothing is copied. A step reads or writes one word, and never
+/// answers NoMemory.
 #[derive(Debug, Drop)]
 pub struct Rx {
     queue: Queue,
@@ -106,7 +106,7 @@ fn giving(more: u32, count: u32) -> Place
 
 impl Rx {
     /// A receiver for a peer whose own section begins at word `own` of the region and whose partner's begins at word `theirs`; it
-    /// rings `target` by `vector`. NoMemory comes only where memory ran out.
+    /// rings `target` by `vector`. NoMemory says that memory ran out.
     pub fn new(
         alloc: Global,
         queue: &Queue,

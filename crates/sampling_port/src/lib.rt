@@ -10,14 +10,10 @@ mod lines;
 mod notes;
 mod place;
 mod port;
-#[cfg(test)]
-mod record_tests;
 mod run;
 mod scene;
 mod seat;
 mod stage;
-#[cfg(test)]
-mod tests;
 
 pub use laws::{
     calls_are_lists, calls_stay_in_reach, fields_are_read_once, history_is_lawful,

@@ -20,7 +20,7 @@ const LONGEST: u32 = 65_536;
 /// The port of one peer. It keeps how many messages it published, the number got last of each peer, its place in the open call, and two
 /// buffers: the message in hand, which it publishes or has read so far, and the message got last.
 ///
-/// It makes no access itself: `next` says which one comes, and `took` is handed what it gave. After `new` no call takes memory.
+/// It makes no access itself: `next` says which one comes, and `took` is handed what it gave. After `new` no call answers NoMemory.
 #[derive(Debug, Drop)]
 pub struct Port {
     geometry: Geometry,

@@ -33,7 +33,7 @@ fn record(alloc: Global, scenario: &Scenario) -> Result<Vec<u8>, NoMemory>
 }
 
 /// The record of the schedule that a text spells: the text, and the one history that its schedule has. Else the first fault of the text.
-/// NoMemory comes only where memory ran out.
+/// NoMemory says that memory ran out.
 pub fn ports(alloc: Global, bytes: &[u8]) -> Result<Vec<u8>, PortsFault>
     // What is given is the text read, with the lawful history of its schedule.
     ensures found { IfOk result (λ text. IsRecord bytes.now text.items) }

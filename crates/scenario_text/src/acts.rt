@@ -168,7 +168,7 @@ impl Model for Flags {
 }
 
 impl Flags {
-    /// The empty list. It takes no memory.
+    /// The empty list.
     pub fn new(alloc: Global) -> Self
         ensures { result ≡ [] }
     {
@@ -177,7 +177,7 @@ impl Flags {
         }
     }
 
-    /// Puts the flag last. After NoMemory, which comes only where memory ran out, the list is unchanged.
+    /// Puts the flag last. After NoMemory the list is unchanged.
     pub fn push(&mut self, item: bool) -> Result<(), NoMemory>
         ensures ok { OnOk result (self.new ≡ self.old ++ item ∷ []) }
         ensures err { OnErr result (self.new ≡ self.old) }
@@ -210,7 +210,7 @@ impl Model for Acts {
 }
 
 impl Acts {
-    /// The empty list. It takes no memory.
+    /// The empty list.
     pub fn new(alloc: Global) -> Self
         ensures { result ≡ [] }
     {
@@ -219,8 +219,7 @@ impl Acts {
         }
     }
 
-    /// Puts the act last. After NoMemory, which comes only where memory ran out, the list is unchanged and the act
-    /// is dropped.
+    /// Puts the act last. After NoMemory the list is unchanged and the act is dropped.
     pub fn push(&mut self, item: Act) -> Result<(), NoMemory>
         ensures ok { OnOk result (self.new ≡ self.old ++ item ∷ []) }
         ensures err { OnErr result (self.new ≡ self.old) }

@@ -7,14 +7,21 @@ use line_text::TextFault;
 use thiserror::Error;
 
 /// What is wrong with a line: the first of these that fits, in this order.
-#[derive(Clone, Copy, Debug, PartialEq, Eq)]
+#[derive(Clone, Copy, Debug, PartialEq, Eq, Error)]
 pub enum Cause {
+    #[error("the line has no form")]
     BadLine,
+    #[error("the line is out of order")]
     BadOrder,
+    #[error("the line has a number out of its range")]
     BadNumber,
+    #[error("the line names a peer that cannot do this")]
     BadPeer,
+    #[error("the line has no frame that fits")]
     BadFrame,
+    #[error("the line gives sizes that do not fit")]
     BadGeometry,
+    #[error("the line makes too many turns")]
     TooManyTurns,
 }
 

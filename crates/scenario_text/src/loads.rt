@@ -100,7 +100,7 @@ fn section() -> Queue
 
 /// The scenario of a load of so many frames, 1 to 80,000 (profile): peer 0 offers them, peer 1 chooses its calls until
 /// it has delivered as many, and after the offers come 200 rounds of turns and one more for each three frames.
-/// NoMemory comes only where memory ran out.
+/// NoMemory says that memory ran out.
 pub fn load(alloc: Global, count: u32) -> Result<Scenario, NoMemory>
     requires some { 1 ≤ count }
     requires few { count ≤ 80000 }

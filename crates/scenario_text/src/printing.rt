@@ -207,7 +207,7 @@ pub fn put_scenario(out: &mut Vec<u8>, scenario: &Scenario) -> Result<(), AllocE
     Ok(())
 }
 
-/// The text of the scenario, which is its one spelling. NoMemory comes only where memory ran out.
+/// The text of the scenario, which is its one spelling. NoMemory says that memory ran out.
 pub fn print(alloc: Global, scenario: &Scenario) -> Result<Vec<u8>, NoMemory>
     ensures { IfOk result (λ text. text.items ≡ spelling (world_of scenario.now)) }
 {

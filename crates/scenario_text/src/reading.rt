@@ -16,7 +16,7 @@ use pci_space::Wiring;
 use std::alloc::Global;
 
 impl Draft {
-    /// The draft of a text of which nothing is read. It takes no memory.
+    /// The draft of a text of which nothing is read.
     pub fn new(alloc: Global) -> Draft
         ensures { so_far result ≡ at_start }
     {
@@ -69,8 +69,8 @@ impl Draft {
     }
 }
 
-/// The scenario that the text spells, or the first fault of the text, in one pass over it. NoMemory comes only where
-/// memory ran out.
+/// The scenario that the text spells, or the first fault of the text, in one pass over it. NoMemory says that memory
+/// ran out.
 pub fn parse(alloc: Global, bytes: &[u8]) -> Result<Scenario, ScenarioFault>
     // What is read is spelled so.
     ensures found { IfOk result (λ scenario. IsSpelling (world_of scenario) bytes.now) }

@@ -112,8 +112,7 @@ impl Before {
     }
 }
 
-/// The first line that the running form doesn't allow (docs/FORMATS.md), or None where it allows them all. It takes
-/// no memory.
+/// The first line that the running form doesn't allow (docs/FORMATS.md), or None where it allows them all.
 pub fn not_running(scenario: &Scenario) -> Option<u64>
     ensures { result ≡ not_running (world_of scenario.now) }
 {

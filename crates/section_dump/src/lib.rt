@@ -2,6 +2,17 @@
 //! rings of the link, each item as the frame that it spells or as the first field that a receiver would refuse. It
 //! stands on `section_map` and `split_ring`, reads words by `byteorder` and writes frames by `hex`. Its contract
 //! promises a listing exactly for the bytes that are an image, and that listing alone.
+//!
+//! # Design
+//!
+//! - A listing is a relation between an image and a text (`IsListing`): the lines of the header, the queue, the states, the sections and
+//!   the end. Each line of a position is a frame that is spelled there (`Spells` of `split_ring`) or the first field that a poll would
+//!   refuse (`IsFirstRefused`). Nothing in it follows the code's loops; that an image has one listing is a law (`listings_are_one`).
+//! - Words are numbered from the image's start, and the header is the first eight of them; `section_words` gives the words of a peer's
+//!   section.
+//! - The ranges and the queue's size don't depend on the MTU, which an image doesn't tell. The definitions and the code take one of 256,
+//!   with which a queue is refused exactly where no queue size fits.
+//! - `dump` reads each word of the rings and each frame once, straight from the image.
 #![tactic(auto)]
 
 mod images;
@@ -70,6 +81,3 @@ pub fn dump(alloc: Global, image: &[u8]) -> Result<Vec<u8>, DumpFault>
         Err(_) => Err(DumpFault::NoMemory),
     }
 }
-
-#[cfg(test)]
-mod tests;

@@ -2,6 +2,14 @@
 //! region itself as words. It stands on `ivs_base`. Its contracts promise that a geometry is made
 //! exactly where its sizes are right, that `may_write` is true exactly at the words of the peer's own
 //! output section and of the common section, and that a write changes one such word or nothing.
+//!
+//! # Design
+//!
+//! - A `Geometry` is seen as a `Shape`, all in words. Each accessor also ensures `IsShape`, so that a caller learns from any call what
+//!   `new` tested.
+//! - `Geometry::new` has one relation for its faults, `IsFirstFault`: each fault holds exactly where every test before it passed and its
+//!   own failed. Together with `made`, `shape` and `pages` this settles the answer for all sizes.
+//! - `Region::read` takes the peer that reads, though every peer reads every word: a reader has to be one of the region's.
 #![tactic(auto)]
 
 mod laws;
@@ -11,6 +19,3 @@ mod sizes;
 pub use laws::sections_stand_apart;
 pub use regions::{Denied, Outside, Region};
 pub use sizes::{Geometry, GeometryFault, Part, Section};
-
-#[cfg(test)]
-mod tests;

@@ -45,7 +45,7 @@ impl Model for Region {
 }
 
 impl Region {
-    /// A region of this geometry, all words 0. NoMemory comes only where memory ran out.
+    /// A region of this geometry, all words 0. NoMemory says that memory ran out.
     pub fn new(alloc: Global, geometry: &Geometry) -> Result<Region, NoMemory>
         ensures zero { IfOk result (λ r. r ≡ record { words = replicate (word_count geometry.now) 0; shape = geometry.now }) }
         ensures region { IfOk result IsRegion }

@@ -8,7 +8,7 @@ use scenario_text::Scenario;
 use std::alloc::Global;
 
 /// Is the text that is made without a history the one that `print` makes of the simulated record? It is, whatever the scenario is.
-/// NoMemory comes only where memory ran out.
+/// NoMemory says that memory ran out.
 pub fn writes_alike(alloc: Global, scenario: Scenario) -> Result<bool, NoMemory>
     ensures { IfOk result (λ alike. alike ≡ true) }
 {

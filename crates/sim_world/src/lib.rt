@@ -2,6 +2,14 @@
 //! `record_text` for the trace and the text that it makes. The contract of `simulate` promises what a record of version 2 tells of the
 //! one lawful history of its scenario, whatever its acts are. That of `simulate_text` promises the text of this record, made without
 //! the history in memory, and that of `play` that a listener hears the same lines part by part.
+//!
+//! # Design
+//!
+//! - The answer is told twice: its lines are `history`, which a checker can compare line by line, and they are lawful, by
+//!   `history_is_lawful`.
+//! - A listener has one relation, of two states: `heard` says that from the one to the other these lines were heard. A relation of one
+//!   state wouldn't do, since a call of a listener that isn't known may change any of its fields, as a reference to the scenario.
+//! - `play` hands over the lines once 256 stand there, also within one act of many turns, so lines don't pile up with the history.
 #![tactic(auto)]
 
 ghost use Rattle.std.specs.Prelude.{◌≡◌, IfOk};
@@ -13,8 +21,6 @@ ghost use Rattle.lawful_history.specs.History.{history};
 mod laws;
 mod playing;
 mod telling;
-#[cfg(test)]
-mod tests;
 
 use ivs_base::NoMemory;
 use lawful_history::history_is_lawful;
@@ -40,7 +46,7 @@ fn turn_count(acts: &[Act]) -> usize {
     turns
 }
 
-/// The scenario with its one lawful history, as a record of version 2 tells it. NoMemory comes only where memory ran out.
+/// The scenario with its one lawful history, as a record of version 2 tells it. NoMemory says that memory ran out.
 pub fn simulate(alloc: Global, scenario: Scenario) -> Result<Trace, NoMemory>
     ensures scenario { IfOk result (λ trace. trace.scenario ≡ scenario) }
     ensures version { IfOk result (λ trace. trace.version ≡ 2) }

@@ -17,16 +17,19 @@ use lawful_history::Line;
 use scenario_text::{Act, Scenario};
 use stage::Stage;
 use std::alloc::Global;
+use thiserror::Error;
 
 /// So many lines are heard at once, or a few more.
 const PART: usize = 256;
 
 /// Why a scenario wasn't played to its end.
-#[derive(Clone, Copy, Debug, PartialEq, Eq)]
+#[derive(Clone, Copy, Debug, PartialEq, Eq, Error)]
 pub enum Stopped {
     /// There was no memory left.
+    #[error("out of memory")]
     NoMemory,
     /// The listener has heard enough.
+    #[error("the listener has heard enough")]
     HeardEnough,
 }
 
@@ -99,7 +102,7 @@ fn play_act<L: Listener>(stage: &mut Stage, listener: &mut L, act: &Act) -> Resu
 }
 
 /// Plays a scenario, and has heard, part by part, what a record of this version tells of its one lawful history. No history is kept.
-/// NoMemory comes only where memory ran out, and HeardEnough only from the listener.
+/// NoMemory says that memory ran out, HeardEnough that the listener has heard enough.
 pub fn play<L: Listener>(
     alloc: Global,
     scenario: &Scenario,

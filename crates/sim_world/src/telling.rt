@@ -39,7 +39,7 @@ impl Listener for Telling {
     }
 }
 
-/// The text of the scenario's record of version 2, with what it tells of the one lawful history. NoMemory comes only where memory ran out.
+/// The text of the scenario's record of version 2, with what it tells of the one lawful history. NoMemory says that memory ran out.
 pub fn simulate_text(alloc: Global, scenario: &Scenario) -> Result<Vec<u8>, NoMemory>
     ensures spelled { IfOk result (λ text. IsSpelling (lawful_record 2 (world_of scenario.now)) text.items) }
     // What is written is read as the record.

@@ -5,6 +5,7 @@ ghost use Rattle.split_ring.specs.Ranges.{IsAvailIndex, IsAvailEntry, IsDescAddr
 
 use crate::Queue;
 use ivs_base::distance;
+use thiserror::Error;
 
 /// A field that the other peer writes, by the name that a refusal gives it.
 #[derive(Clone, Copy, Debug, PartialEq, Eq)]
@@ -26,7 +27,8 @@ pub enum FieldName {
 }
 
 /// A value that was refused: its field, and the value as it was read.
-#[derive(Clone, Copy, Debug, PartialEq, Eq)]
+#[derive(Clone, Copy, Debug, PartialEq, Eq, Error)]
+#[error("{field:?} {value} is out of range")]
 pub struct Refused {
     /// The field whose range the value is outside of.
     pub field: FieldName,

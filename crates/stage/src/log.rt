@@ -28,7 +28,7 @@ pub struct Log {
 }
 
 impl Log {
-    /// The log without a line. It takes no memory.
+    /// The log without a line.
     pub fn new(alloc: Global, version: u32, honest: [bool; 2]) -> Log
         ensures { (world : World) → ((p : ℕ) → p < 2 → slice_index_or honest p false ≡ is_link world p) → IsLogOf world (no_output version) [] result }
     {
@@ -41,7 +41,7 @@ impl Log {
         }
     }
 
-    /// Tells a line, and before it the mark of the session that it enters. NoMemory comes only where memory ran out.
+    /// Tells a line, and before it the mark of the session that it enters. NoMemory says that memory ran out.
     pub fn push(&mut self, line: Line) -> Result<(), NoMemory>
         ensures { OnOk result (Tells line self.old self.new) }
     {
@@ -50,7 +50,7 @@ impl Log {
         self.lines.push(line)
     }
 
-    /// Makes room for so many lines more. NoMemory comes only where memory ran out.
+    /// Makes room for so many lines more. NoMemory says that memory ran out.
     pub fn reserve(&mut self, more: usize) -> Result<(), NoMemory>
         ensures { self.new ≡ self.old }
     {

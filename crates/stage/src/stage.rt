@@ -249,7 +249,7 @@ impl Stage {
         }
     }
 
-    /// Makes room for so many lines more. NoMemory comes only where memory ran out.
+    /// Makes room for so many lines more. NoMemory says that memory ran out.
     pub fn reserve(&mut self, more: usize) -> Result<(), NoMemory>
         ensures { self.new ≡ self.old }
     {

@@ -13,7 +13,7 @@ use link_endpoint::{Auto, Endpoint};
 use split_ring::steps::Note;
 use std::alloc::Global;
 
-/// The line of a note of peer `me`, whose endpoint took the step. NoMemory comes only where memory ran out for the copy of a frame.
+/// The line of a note of peer `me`, whose endpoint took the step. NoMemory says that memory ran out for the copy of a frame.
 pub fn line_of(alloc: Global, me: u32, end: &Endpoint, note: Note) -> Result<Line, NoMemory>
     ensures { IfOk result (λ line. line ≡ mark_line me (mark_between (offered end.now) (delivered end.now) note)) }
 {

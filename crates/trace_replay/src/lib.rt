@@ -1,6 +1,15 @@
 //! The check of a record: is its history the lawful one, and if not, which line is the first that differs, and which law
 //! does it break? It stands on `link_model` for the run that takes a history line by line, and on `record_text` for records. The contracts of
 //! `replay` and of `replay_text` promise the verdict of `specs/Verdict`.
+//!
+//! # Design
+//!
+//! - A text and the lawful history go side by side (`IsBeside`): the lines that were read are the lines that were taken on the course. As
+//!   long as they agree, the lines that wait are written and held to the bytes, some 256 at a time, and no line is read. At the first part
+//!   that differs the lines are read and taken one by one, up to the first that differs. What comes after it is read, since a later line
+//!   that is none is told first, and forgotten.
+//! - So a text is passed over once, and nothing of it is kept. The law of a difference is found by the course, and the first fault of a
+//!   text by the reader: each in one place.
 #![tactic(auto)]
 
 ghost use Rattle.std.specs.Prelude.{◌≡◌, true, IfOk, IfErr};
@@ -11,8 +20,6 @@ ghost use Rattle.trace_replay.specs.Texts.{IsLawfulText, IsVerdictOfText};
 ghost use Rattle.trace_replay.specs.Verdict.{IsVerdict};
 
 mod beside;
-#[cfg(test)]
-mod tests;
 mod verdict;
 
 use beside::{judge, pass_alike};
@@ -26,7 +33,7 @@ pub use verdict::Verdict;
 
 /// Is the record's history what a record of its version tells of the lawful one of its scenario? Else the first line that differs, and the
 /// law that is broken there.
-/// NoMemory comes only where memory ran out.
+/// NoMemory says that memory ran out.
 pub fn replay(alloc: Global, trace: &Trace) -> Result<Verdict, NoMemory>
     ensures { IfOk result (IsVerdict (world_of trace.now.scenario) trace.now.version trace.now.lines) }
 {
@@ -46,7 +53,7 @@ pub fn replay(alloc: Global, trace: &Trace) -> Result<Verdict, NoMemory>
 }
 
 /// Whether the history of the record that the text spells is what a record of its version tells of the lawful one; or the first fault of the
-/// text. NoMemory comes only where memory ran out. The lawful history is played once and held to the text. From the first difference on the lines
+/// text. NoMemory says that memory ran out. The lawful history is played once and held to the text. From the first difference on the lines
 /// are read one by one, judged and forgotten.
 pub fn replay_text(alloc: Global, bytes: &[u8]) -> Result<Verdict, RecordFault>
     ensures verdict { IfOk result (IsVerdictOfText bytes.now) }
@@ -64,7 +71,7 @@ pub fn replay_text(alloc: Global, bytes: &[u8]) -> Result<Verdict, RecordFault>
     judge(alloc, &mut course, &mut reader)
 }
 
-/// Is this the text of a record of either version with the lawful history of its scenario? NoMemory comes only where memory ran out.
+/// Is this the text of a record of either version with the lawful history of its scenario? NoMemory says that memory ran out.
 pub fn is_lawful_text(alloc: Global, bytes: &[u8]) -> Result<bool, NoMemory>
     ensures { IfOk result (λ is. is ≡ true → IsLawfulText bytes.now) }
 {

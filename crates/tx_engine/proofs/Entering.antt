@@ -1,7 +1,7 @@
 -- What a sender does after the write of an entry.
 use Rattle.std.proofs.Common.{◌≡◌, ℕ, ◌+◌, ◌*◌, ◌/◌, ◌%◌, ◌<◌, ◌==◌, if◌then◌else◌, List, [], length, slice_index, slice_set, set, arith, refl, ap, sym, ◌∙◌, subst, inl, inr, eq-eqb, ne_eqb}
 use Rattle.std.proofs.lemmas.Bool.Decides.{eqb_tells}
-use Rattle.std.proofs.lemmas.List.{get_or-set_same, get_or-set_other}
+use Rattle.std.proofs.lemmas.List.{get_or-set_same, get_or-set_other, length-set}
 use Rattle.split_ring.specs.declared.steps.Note.{Note}
 use Rattle.split_ring.specs.Layout.{Sizes, size_of, word_place, Entry}
 use Rattle.call_grammar.specs.Steps.{marks_of}
@@ -14,8 +14,8 @@ use Rattle.call_grammar.specs.Places as laws
 use Rattle.call_grammar.proofs.OfferLists.{yes, no}
 use Rattle.frame_slots.specs.declared.slots.Slot as slots
 use Rattle.tx_engine.specs.declared.place.Place.TheVariants.{WritingEntry, WritingIndex}
-use Rattle.tx_engine.specs.Sender.{Sender, IsSender, entry_word_of}
-use Rattle.tx_engine.specs.Stands.{IsAt, HasCopy, Takes}
+use Rattle.tx_engine.specs.Sender.{Sender, IsSender, IsPlace, entry_word_of}
+use Rattle.tx_engine.specs.Stands.{IsAt, HasCopy, Takes, TakesOn}
 use Rattle.tx_engine.proofs.Accesses.{entry_is, entry_below, entry_word_is}
 use Rattle.tx_engine.proofs.Reading.{takes}
 
@@ -68,3 +68,23 @@ entry_taken tx old slot value at word notes tx_is is here at_is word_is notes_ar
         },
       ),
     )))
+
+-- and the offer goes on
+pub entry_left : (tx old : Sender) (slot : slots.Slot) (value at word : ℕ) → tx ≡ old → IsSender tx → tx.place ≡ WritingEntry slot → at ≡ old.accepted % size_of old.sizes →
+    word ≡ entry_word_of old slot.descriptor → TakesOn old value [] (record tx { entries = slice_set tx.entries (at / 2) word; place = WritingIndex })
+entry_left tx old slot value at word tx_is is here at_is word_is = record {
+  takes = entry_taken tx old slot value at word [] tx_is is here at_is word_is refl;
+  opened = refl;
+  sender = record {
+    queue = is.queue;
+    bounds = is.bounds;
+    own_room = is.own_room;
+    their_room = is.their_room;
+    entries = ap (λ n. 2 * n) (length-set tx.entries (at / 2) word) ∙ is.entries;
+    next = is.next;
+    in_flight = is.in_flight;
+    lengths = is.lengths;
+    flight = is.flight;
+    place = let has : IsPlace tx (WritingEntry slot) = subst (IsPlace tx) here is.place in has.0;
+  };
+}

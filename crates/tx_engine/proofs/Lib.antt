@@ -10,3 +10,4 @@ pub mod Filling
 pub mod Entering
 pub mod Padding
 pub mod Stretching
+pub mod Together

@@ -29,7 +29,7 @@ fill_at slot at zero = WritingLow slot
 fill_at slot at (suc more) = Filling slot at more
 
 -- a sender at another place
-placed : (tx : Sender) (place : Place) → IsSender tx → IsPlace (record tx { place = place }) place → IsSender (record tx { place = place })
+pub placed : (tx : Sender) (place : Place) → IsSender tx → IsPlace (record tx { place = place }) place → IsSender (record tx { place = place })
 placed tx place is holds = record {
   queue = is.queue;
   bounds = is.bounds;
@@ -161,7 +161,7 @@ describes tx slot count (a ∷ b ∷ c ∷ d ∷ e ∷ values) is has here some 
 abbrev pub descriptor_bytes : (address bytes : ℕ) → List ℕ
 descriptor_bytes address bytes = word_bytes address ++ (word_bytes 0 ++ (word_bytes bytes ++ word_bytes 0))
 
-described_word : (who : Who) (job : Job) (word address n : ℕ) (values : List ℕ) → address < 4294967296 → length job.frame < 4294967296 → n ≤ 16 → n % 4 ≡ 0 → 4 * length values < n →
+pub described_word : (who : Who) (job : Job) (word address n : ℕ) (values : List ℕ) → address < 4294967296 → length job.frame < 4294967296 → n ≤ 16 → n % 4 ≡ 0 → 4 * length values < n →
     who.own + word_place who.sizes (Address (descriptor_of who job.number)) ≡ word → address ≡ start_at who job →
     laws.access_at who (place_after who (laws.WritingLow job) values) ≡ access.Write (word + length values) (word_of (take 4 (drop (4 * length values) (take n (descriptor_bytes address (length job.frame))))))
 described_word who job word address n [] fits fits_too few whole fit word_is address_is =

@@ -1,4 +1,5 @@
 pub mod Sender
 pub mod Reads
+pub mod Ahead
 pub mod Stands
 pub mod Kept

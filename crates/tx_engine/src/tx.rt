@@ -1,5 +1,5 @@
 //! The sender of an end.
-ghost use Rattle.std.specs.Prelude.{◌≡◌, ℕ, ◌+◌, ◌-◌, ◌*◌, ◌%◌, ◌<◌, ◌≤◌, ◌^◌, IfOk, true, false, List, [], ◌∷◌, ◌++◌, length, take, replicate};
+ghost use Rattle.std.specs.Prelude.{◌≡◌, ℕ, ◌+◌, ◌-◌, ◌*◌, ◌%◌, ◌<◌, ◌≤◌, ◌^◌, IfOk, IfSome, true, false, List, [], ◌∷◌, ◌++◌, length, take, replicate};
 ghost use Rattle.split_ring.specs.Layout.{size_of, limit_of};
 ghost use Rattle.call_grammar.specs.Ends.{End};
 ghost use Rattle.call_grammar.specs.Ticks.{Who};
@@ -11,8 +11,10 @@ ghost use Rattle.call_grammar.specs.Stretches.{Each, WritesOn};
 ghost use Rattle.call_grammar.specs.Orders.{word_kind};
 ghost use Rattle.link_handshake.specs.declared.Phase.TheVariants.{Run};
 ghost use Rattle.tx_engine.specs.Sender.{IsSender, fresh_sender, is_open, writes_ahead, IsFrame, IsPlace, IsInReach, entry_word_of};
+ghost use Rattle.tx_engine.specs.Ahead.{stretches_of, words_of, listed, WritesAll};
 ghost use Rattle.tx_engine.specs.Stands.{StandsAt, Takes, TakesOn, IsMadeFor, IsFreshSession, ClosedStays};
 
+use crate::ahead::{Stretch, Stretches};
 use crate::place::{Place, describing, filling, offer_after_ids, told};
 use frame_slots::{Slot, Slots};
 use ivs_base::{NoMemory, plus, word_of};
@@ -25,7 +27,7 @@ use std::marker::Model;
 ///
 /// It makes no access itself: `next` says which one comes, and `took` is handed what it gave. It keeps the number of accepted frames
 /// modulo 65,536, the descriptors in flight with the lengths of their frames, and a copy of the entry words that it wrote, since two entries
-/// share a word. After `new` no call takes memory.
+/// share a word. After `new` no call answers NoMemory.
 #[derive(Debug, Drop)]
 pub struct Tx {
     queue: Queue,
@@ -56,7 +58,7 @@ impl Model for Tx {
 impl Tx {
     /// The sender of a link's end whose section begins at the word `own`, and its partner's at `theirs`. It rings `target` by `vector`.
     ///
-    /// Words are numbered from the base of the region. NoMemory comes only where memory ran out.
+    /// Words are numbered from the base of the region. NoMemory says that memory ran out.
     pub fn new(
         alloc: Global,
         queue: &Queue,
@@ -259,6 +261,55 @@ impl Tx {
         }
     }
 
+    /// Which words are written before the index: those that are left of the frame, those of its descriptor and that of its entry, one behind
+    /// the other and with no note. None where no word of the frame is next.
+    pub fn stretches(&self) -> Option<Stretches>
+        ensures { result ≡ stretches_of self.now }
+    {
+        let Place::Filling { slot, at, more } = self.place else {
+            return None;
+        };
+        let queue = &self.queue;
+        Some(Stretches {
+            frame: self.stretch(slot.address / 4 + at, more + 1),
+            descriptor: self.stretch(queue.descriptor(slot.descriptor), 4),
+            entry: self.stretch(queue.entry_word(u32::from(self.accepted)), 1),
+        })
+    }
+
+    /// Puts all the words that `stretches` tells into `into`, each as its four bytes, the lowest first.
+    pub fn stretch_words(&self, into: &mut [u8])
+        requires sized { length into.old ≡ 4 * words_of (stretches_of self.now) }
+        ensures writes { (who : Who) (end : End) (place : laws.Place) → StandsAt self.now who end place →
+            IfSome (stretches_of self.now) (λ stretches. WritesAll who place (listed stretches) into.new) }
+        ensures sized { length into.new ≡ length into.old }
+    {
+        let Place::Filling { slot, at, .. } = self.place else {
+            return;
+        };
+        put_all(
+            into,
+            &self.buffer[4 * at as usize..self.length as usize],
+            slot.address,
+            self.length,
+            self.entry_word(slot.descriptor),
+        );
+    }
+
+    /// Takes the steps of all the writes that `stretches` tells at once. It is the same as `took` so many times.
+    pub fn took_stretches(&mut self)
+        requires { 0 < words_of (stretches_of self.old) }
+        ensures { (values : List ℕ) → length values ≡ words_of (stretches_of self.old) → Each TakesOn self.old values [] self.new }
+    {
+        match self.place {
+            Place::Filling { slot, .. } => {
+                self.place = Place::WritingEntry(slot);
+                self.enter(slot);
+            }
+            _ => unreachable!(),
+        }
+    }
+
     /// Forgets the offer, the frames and the entries: a session begins.
     pub fn reset(&mut self)
         ensures value { self.new ≡ fresh_sender self.old.sizes self.old.own self.old.theirs self.old.target self.old.vector }
@@ -286,6 +337,17 @@ impl Tx {
         ensures { result ≡ Access.Write (self.now.own + word) value }
     {
         Access::Write(self.own + word, value)
+    }
+
+    /// So many words of the own section from this one on.
+    fn stretch(&self, word: u32, count: u32) -> Stretch
+        requires { 4 * word + 4 ≤ self.now.sizes.out }
+        ensures { result ≡ record { word = self.now.own + word; count = count } }
+    {
+        Stretch {
+            word: self.own + word,
+            count,
+        }
     }
 
     /// How many frames were freed, modulo 65,536.
@@ -336,15 +398,23 @@ impl Tx {
         Notes::new()
     }
 
-    /// Takes the write of the entry: its word goes into the own copy.
+    /// Takes the write of the entry.
     fn wrote_entry(&mut self, slot: Slot) -> Notes
         requires { self.old.place ≡ Place.WritingEntry slot }
         ensures { (value : ℕ) → Takes self.old value result.items self.new }
     {
+        self.enter(slot);
+        Notes::new()
+    }
+
+    /// Goes past the write of the entry: its word goes into the own copy.
+    fn enter(&mut self, slot: Slot)
+        requires { self.old.place ≡ Place.WritingEntry slot }
+        ensures { (value : ℕ) → TakesOn self.old value [] self.new }
+    {
         let at = (self.entry() / 2) as usize;
         self.entries[at] = self.entry_word(slot.descriptor);
         self.place = Place::WritingIndex;
-        Notes::new()
     }
 
     /// Takes the write of the index, with which the frame is accepted.
@@ -460,6 +530,27 @@ fn put_descriptor(into: &mut [u8], address: u32, bytes: u32)
         0, 0,
     ];
     into.copy_from_slice(&words[..into.len()]);
+}
+
+/// Puts a word as its four bytes.
+fn put_word(into: &mut [u8], word: u32)
+    requires { length into.old ≡ 4 }
+    ensures { into.new ≡ word_bytes word }
+{
+    into.copy_from_slice(&word.to_le_bytes());
+}
+
+/// Puts the words of a frame, with 0 after its last byte, those of its descriptor and that of its entry, one behind the other.
+fn put_all(into: &mut [u8], frame: &[u8], address: u32, bytes: u32, entry: u32)
+    requires { 20 ≤ length into.old }
+    ensures { into.new ≡ (take (length into.old - 20) frame.now ++ replicate (length into.old - 20 - length frame.now) 0) ++
+        ((word_bytes address ++ (word_bytes 0 ++ (word_bytes bytes ++ word_bytes 0))) ++ word_bytes entry) }
+{
+    let (front, rest) = into.split_at_mut(into.len() - 20);
+    let (descriptor, last) = rest.split_at_mut(16);
+    copy_padded(front, frame);
+    put_descriptor(descriptor, address, bytes);
+    put_word(last, entry);
 }
 
 /// Law: a closed sender stands for an end as long as its session goes on: Ticks, Stops and Polls change nothing of it.

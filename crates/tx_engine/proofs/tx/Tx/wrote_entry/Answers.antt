@@ -1,9 +1,6 @@
-use Rattle.std.proofs.Common.{ap, ◌∙◌}
-use Rattle.tx_engine.specs.Sender.{Sender}
-use Rattle.tx_engine.proofs.Entering.{entry_taken}
+use Rattle.std.proofs.Common.{sym, subst}
+use Rattle.tx_engine.specs.Stands.{Takes}
 use Rattle.tx_engine.proofs.tx.Tx.wrote_entry.Goals as goal
 
 pub returns : goal.returns
-returns c = λ value.
-    let here = ap (λ (s : Sender). s.place) c.self.view_is ∙ c.requires in
-    entry_taken _ _ c.args.slot value c.entry.result c.entry_word.result _ c.self.view_is c.self.invariant.sender here c.entry.ensures c.entry_word.ensures c.new.ensures
+returns c = λ value. subst (λ n. Takes c.args.self.now value n c.enter.new.self) (sym c.new.ensures) (c.enter.ensures value).takes

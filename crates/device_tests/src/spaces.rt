@@ -1,0 +1,242 @@
+//! Values from outside: the tables of the device's documents and the worked configuration.
+
+ghost use Rattle.pci_space.specs.Wiring.{IsWiring};
+
+use pci_space::{
+    BadAccess, CapabilityFault, ConfigSpace, Field, FieldFault, FieldTable, Found, MsixFound,
+    Wiring, device_space, walk,
+};
+use section_map::Geometry;
+use std::test::Fail;
+
+/// The space of a device of the worked configuration.
+fn worked_space(wiring: Wiring) -> Result<ConfigSpace, Fail>
+    requires { IsWiring wiring }
+{
+    let geometry = Geometry::new(2, 4096, 0, 16384)?;
+    Ok(device_space(&geometry, 1, wiring))
+}
+
+/// All bytes of a space.
+fn bytes_of(space: &ConfigSpace) -> Result<[u8; 256], Fail> {
+    let mut bytes = [0; 256];
+    for k in 0..256u16 {
+        bytes[usize::from(k)] = space.read(k, 1)?.to_le_bytes()[0];
+    }
+    Ok(bytes)
+}
+
+#[test]
+fn reads_and_writes(rt: HostRuntime) -> Result<(), Fail> {
+    let mut space = worked_space(Wiring::Msix(2))?;
+    assert_eq!(rt; space.read(0x00, 4), Ok(1090916618));
+    for (offset, width, value, reads) in [
+        (0x04, 4, 0xFFFF_FFFF, 0x0010_040E),
+        (0x10, 4, 0xFFFF_FFFF, 0xFFFF_F000),
+        (0x43, 1, 0xFF, 1),
+        (0x62, 2, 0xFFFF, 0xC001),
+        (0x00, 2, 0, 0x110A),
+        (0xF0, 4, 0xFFFF_FFFF, 0),
+    ] {
+        assert_eq!(rt; space.write(offset, width, value), Ok(()), "at {offset}");
+        assert_eq!(rt; space.read(offset, width), Ok(reads), "at {offset}");
+    }
+    for (offset, width) in [
+        (0x00, 3),
+        (0x02, 4),
+        (0xFF, 2),
+        (0x01, 2),
+        (0x100, 1),
+        (0x00, 0),
+    ] {
+        let refused = Err(BadAccess { offset, width });
+        assert_eq!(rt; space.read(offset, width), refused);
+        assert_eq!(rt; space.write(offset, width, 0).err(), refused.err());
+    }
+    space.reset();
+    assert_eq!(rt; space.read(0x10, 4), Ok(0));
+    assert_eq!(rt; space.read(0x43, 1), Ok(0));
+    Ok(())
+}
+
+/// A field of these values, with no mask.
+fn field(place: u16, width: u16, reset: u64) -> Field {
+    Field {
+        place,
+        width,
+        reset,
+        mask: 0,
+    }
+}
+
+#[test]
+fn tables_with_faults(rt: HostRuntime) {
+    for (second, fault) in [
+        (field(6, 2, 0), FieldFault::Overlap(1, 0)),
+        (field(8, 3, 0), FieldFault::BadWidth(1)),
+        (field(8, 1, 256), FieldFault::TooWide(1)),
+        (field(254, 4, 0), FieldFault::Outside(1)),
+    ] {
+        assert_eq!(rt;
+            FieldTable::of([field(4, 4, 0), second], 256).err(),
+            Some(fault)
+        );
+    }
+    let first = [field(0, 3, 0), field(0, 2, 0)];
+    assert_eq!(rt;
+        FieldTable::of(first, 256).err(),
+        Some(FieldFault::BadWidth(0))
+    );
+}
+
+#[test]
+fn configuration(rt: HostRuntime) -> Result<(), Fail> {
+    for (wiring, lines) in [
+        (
+            Wiring::Msix(2),
+            [
+                *b"\x0a\x11\x06\x41\x00\x00\x10\x00\x00\x01\x00\xff\x00\x00\x00\x00",
+                [0; 16],
+                [0; 16],
+                *b"\x00\x00\x00\x00\x40\x00\x00\x00\x00\x00\x00\x00\x00\x00\x00\x00",
+                *b"\x09\x60\x20\x00\x00\x10\x00\x00\x00\x00\x00\x00\x00\x00\x00\x00",
+                *b"\x00\x40\x00\x00\x00\x00\x00\x00\x00\x00\x00\x00\x01\x00\x00\x00",
+                *b"\x11\x00\x01\x00\x01\x00\x00\x00\x01\x08\x00\x00\x00\x00\x00\x00",
+                [0; 16],
+            ],
+        ),
+        (
+            Wiring::Intx,
+            [
+                *b"\x0a\x11\x06\x41\x00\x00\x10\x00\x00\x01\x00\xff\x00\x00\x00\x00",
+                [0; 16],
+                [0; 16],
+                *b"\x00\x00\x00\x00\x40\x00\x00\x00\x00\x00\x00\x00\x00\x01\x00\x00",
+                *b"\x09\x00\x20\x00\x00\x10\x00\x00\x00\x00\x00\x00\x00\x00\x00\x00",
+                *b"\x00\x40\x00\x00\x00\x00\x00\x00\x00\x00\x00\x00\x01\x00\x00\x00",
+                [0; 16],
+                [0; 16],
+            ],
+        ),
+    ] {
+        let bytes = bytes_of(&worked_space(wiring)?)?;
+        for (k, byte) in bytes.iter().enumerate() {
+            let expected = if k < 128 { lines[k / 16][k % 16] } else { 0 };
+            assert_eq!(rt; *byte, expected, "byte {k}");
+        }
+    }
+    Ok(())
+}
+
+#[test]
+fn finds_the_device(rt: HostRuntime) -> Result<(), Fail> {
+    let found = Found {
+        protocol: 1,
+        one_shot: false,
+        table: 4096,
+        common: 0,
+        out: 16384,
+        base: Some(1 << 32),
+        msix: Some(MsixFound {
+            vectors: 2,
+            table: 1,
+            pending: 0x801,
+        }),
+    };
+    let mut bytes = bytes_of(&worked_space(Wiring::Msix(2))?)?;
+    assert_eq!(rt; walk(&bytes), Ok(found));
+    // A pointer's low two bits don't count, and one-shot mode is a bit of Privileged Control.
+    bytes[0x34] = 0x43;
+    bytes[0x43] = 1;
+    assert_eq!(rt;
+        walk(&bytes).ok(),
+        Some(Found {
+            one_shot: true,
+            ..found
+        })
+    );
+    // The shorter vendor capability has no base.
+    bytes[0x42] = 0x18;
+    bytes[0x43] = 0;
+    assert_eq!(rt;
+        walk(&bytes).ok(),
+        Some(Found {
+            base: None,
+            ..found
+        })
+    );
+    // Other capabilities are passed over, and the list may run downwards.
+    bytes[0x41] = 0x80;
+    bytes[0x80] = 0x10;
+    bytes[0x81] = 0;
+    assert_eq!(rt;
+        walk(&bytes).ok(),
+        Some(Found {
+            base: None,
+            msix: None,
+            ..found
+        })
+    );
+    Ok(())
+}
+
+#[test]
+fn faults_of_a_walk(rt: HostRuntime) -> Result<(), Fail> {
+    let whole = bytes_of(&worked_space(Wiring::Msix(2))?)?;
+    let other = CapabilityFault::NotThisDevice {
+        vendor: 0x110B,
+        device: 0x4106,
+    };
+    let cases: [([(u8, u8); 3], CapabilityFault); 12] = [
+        ([(0x00, 0x0B), (0x0B, 0), (0x06, 0)], other),
+        (
+            [(0x0B, 0x02), (0x06, 0), (0x34, 0)],
+            CapabilityFault::BadClass(2),
+        ),
+        (
+            [(0x06, 0xEF), (0x34, 0x3C), (0x41, 0)],
+            CapabilityFault::NoVendor,
+        ),
+        ([(0x34, 0), (0x41, 0), (0x42, 0)], CapabilityFault::NoVendor),
+        (
+            [(0x34, 0x3C), (0x41, 0), (0x42, 0)],
+            CapabilityFault::OutOfSpace(0x3C),
+        ),
+        (
+            [(0x41, 0x40), (0x60, 0), (0x61, 0)],
+            CapabilityFault::Loop(64),
+        ),
+        (
+            [(0x61, 0x40), (0x43, 0), (0x43, 0)],
+            CapabilityFault::Loop(64),
+        ),
+        (
+            [(0x42, 0x19), (0x41, 0x40), (0x43, 0)],
+            CapabilityFault::BadVendorLength(0x19),
+        ),
+        (
+            [(0x34, 0xF0), (0xF0, 0x09), (0xF2, 0x19)],
+            CapabilityFault::BadVendorLength(0x19),
+        ),
+        (
+            [(0x34, 0xF0), (0xF0, 0x09), (0xF2, 0x20)],
+            CapabilityFault::OutOfSpace(0xF0),
+        ),
+        (
+            [(0x41, 0xF8), (0xF8, 0x11), (0xF9, 0x40)],
+            CapabilityFault::OutOfSpace(0xF8),
+        ),
+        (
+            [(0x34, 0x60), (0x61, 0), (0x40, 0)],
+            CapabilityFault::NoVendor,
+        ),
+    ];
+    for (changes, fault) in cases {
+        let mut bytes = whole;
+        for (place, byte) in changes {
+            bytes[usize::from(place)] = byte;
+        }
+        assert_eq!(rt; walk(&bytes), Err(fault));
+    }
+    Ok(())
+}

@@ -1,0 +1,333 @@
+//! Files, histories and scenarios by their bytes.
+ghost use Rattle.std.specs.Prelude.{◌≡◌, ◌≤◌, All, IfOk, IsTrue, length, vec_len};
+ghost use Rattle.frame_capture.specs.Deliveries.{IsShortLine};
+
+use frame_capture::{
+    Capture, CaptureFault, FeedFault, Packet, Packets, captured, faults_are_exact,
+    file_is_of_one_capture, frames_are_delivered, parse, print, scenario_of,
+};
+use ivs_base::Frame;
+use lawful_history::Line;
+use std::alloc::{AllocError, Global};
+use std::process::Abort;
+use std::test::Fail;
+
+/// The frame of the worked examples.
+const FRAME: [u8; 14] = *b"\xff\xff\xff\xff\xff\xff\x02\x00\x00\x00\x00\x01\x08\x00";
+
+/// A file with that frame, at 8,245 microseconds.
+const LITTLE: [u8; 54] =
+    *b"\xd4\xc3\xb2\xa1\x02\x00\x04\x00\x00\x00\x00\x00\x00\x00\x00\x00\x00\x00\x04\x00\x01\x00\x00\x00\
+    \x00\x00\x00\x00\x35\x20\x00\x00\x0e\x00\x00\x00\x0e\x00\x00\x00\xff\xff\xff\xff\xff\xff\x02\x00\x00\x00\x00\x01\x08\x00";
+
+/// The same file in the other byte order.
+const BIG: [u8; 54] =
+    *b"\xa1\xb2\xc3\xd4\x00\x02\x00\x04\x00\x00\x00\x00\x00\x00\x00\x00\x00\x04\x00\x00\x00\x00\x00\x01\
+    \x00\x00\x00\x00\x00\x00\x20\x35\x00\x00\x00\x0e\x00\x00\x00\x0e\xff\xff\xff\xff\xff\xff\x02\x00\x00\x00\x00\x01\x08\x00";
+
+#[test]
+fn one_packet_in_both_orders(rt: HostRuntime) -> Result<(), Fail> {
+    let alloc = rt.alloc();
+    for file in [LITTLE, BIG] {
+        let capture = parse(alloc, &file)?;
+        assert_eq!(rt; capture.snaplen, 262_144);
+        let packets = capture.packets.items();
+        assert_eq!(rt; packets.len(), 1);
+        let packet = &packets[0];
+        assert_eq!(rt; packet.seconds, 0);
+        assert_eq!(rt; packet.micros, 8_245);
+        assert_eq!(rt; packet.original, 14);
+        assert!(rt; packet.frame.bytes() == FRAME.as_slice());
+        let bytes = print(alloc, &capture)?;
+        assert!(rt; bytes.as_slice() == LITTLE.as_slice());
+    }
+    file_is_of_one_capture();
+    faults_are_exact();
+    Ok(())
+}
+
+/// The file with these bytes at a place, where they fit.
+fn with(alloc: Global, file: &[u8], place: usize, bytes: &[u8]) -> Result<Vec<u8>, AllocError>
+    ensures { IfOk result (λ edited. vec_len edited ≡ length file.now) }
+{
+    let mut edited = file.to_vec(alloc)?;
+    if place <= edited.len() && bytes.len() <= edited.len() - place {
+        edited[place..place + bytes.len()].copy_from_slice(bytes);
+    }
+    Ok(edited)
+}
+
+#[test]
+fn a_fault_of_each_kind(rt: HostRuntime) -> Result<(), Fail> {
+    let alloc = rt.alloc();
+    // what is put at a place of the little file, and of the big one
+    let cases: [(usize, &[u8], &[u8], Option<CaptureFault>); 13] = [
+        (
+            0,
+            b"\xd4\xc3\xb2\xa2",
+            b"\xd4\xc3\xb2\xa2",
+            Some(CaptureFault::BadMagic(2_729_624_532)),
+        ),
+        // nanoseconds
+        (
+            0,
+            b"\x4d\x3c\xb2\xa1",
+            b"\x4d\x3c\xb2\xa1",
+            Some(CaptureFault::BadMagic(2_712_812_621)),
+        ),
+        (
+            4,
+            b"\x04\x00\x02\x00",
+            b"\x00\x04\x00\x02",
+            Some(CaptureFault::BadVersion { major: 4, minor: 2 }),
+        ),
+        (
+            6,
+            b"\x03\x00",
+            b"\x00\x03",
+            Some(CaptureFault::BadVersion { major: 2, minor: 3 }),
+        ),
+        // zone and figures may be any
+        (
+            8,
+            b"\x10\x0e\x00\x00\x06\x00\x00\x00",
+            b"\xff\xff\xff\xff\xff\xff\xff\xff",
+            None,
+        ),
+        (
+            20,
+            b"\x65\x00\x00\x00",
+            b"\x00\x00\x00\x65",
+            Some(CaptureFault::BadLinkType(101)),
+        ),
+        (
+            20,
+            b"\x00\x00\x00\x01",
+            b"\x01\x00\x00\x00",
+            Some(CaptureFault::BadLinkType(16_777_216)),
+        ),
+        // a captured length of 2^32 - 1, of 262,145, of 262,144, and one byte too many
+        (
+            32,
+            b"\xff\xff\xff\xff",
+            b"\xff\xff\xff\xff",
+            Some(CaptureFault::BadPacket(1)),
+        ),
+        (
+            32,
+            b"\x01\x00\x04\x00",
+            b"\x00\x04\x00\x01",
+            Some(CaptureFault::BadPacket(1)),
+        ),
+        (
+            32,
+            b"\x00\x00\x04\x00",
+            b"\x00\x04\x00\x00",
+            Some(CaptureFault::CutPacket(1)),
+        ),
+        (
+            32,
+            b"\x0f\x00\x00\x00",
+            b"\x00\x00\x00\x0f",
+            Some(CaptureFault::CutPacket(1)),
+        ),
+        // an original length of 2^32 - 1, and times
+        (36, b"\xff\xff\xff\xff", b"\xff\xff\xff\xff", None),
+        (
+            24,
+            b"\xff\xff\xff\xff\xff\xff\xff\xff",
+            b"\xff\xff\xff\xff\xff\xff\xff\xff",
+            None,
+        ),
+    ];
+    for (place, little, big, fault) in cases {
+        let file = with(alloc, &LITTLE, place, little)?;
+        assert!(rt; parse(alloc, &file).err() == fault, "little at {place}");
+        let file = with(alloc, &BIG, place, big)?;
+        assert!(rt; parse(alloc, &file).err() == fault, "big at {place}");
+    }
+    Ok(())
+}
+
+#[test]
+fn cut_at_each_byte(rt: HostRuntime) -> Result<(), Fail> {
+    let alloc = rt.alloc();
+    for file in [LITTLE, BIG] {
+        let mut two = file.to_vec(alloc)?;
+        two.extend_from_slice(&file[24..])?;
+        for cut in 0..=60 {
+            let fault = match cut {
+                0..=23 => Some(CaptureFault::Short(cut as u64)),
+                24 | 54 => None,
+                25..=53 => Some(CaptureFault::CutPacket(1)),
+                _ => Some(CaptureFault::CutPacket(2)),
+            };
+            assert!(rt; cut <= two.len());
+            assert!(rt; parse(alloc, &two[..cut]).err() == fault, "{cut} bytes");
+        }
+        let capture = parse(alloc, &two)?;
+        assert_eq!(rt; capture.packets.items().len(), 2);
+    }
+    Ok(())
+}
+
+/// Is the frame of the line short enough for a packet?
+fn is_short(line: &Line) -> bool
+    ensures { IsTrue result → IsShortLine line.now }
+{
+    match line {
+        Line::Deliver { frame, .. } => frame.bytes().len() <= 262_144,
+        _ => true,
+    }
+}
+
+/// Are those of all lines?
+fn are_short(lines: &[Line]) -> bool
+    ensures { IsTrue result → All IsShortLine lines.now }
+{
+    lines.iter().all(|line| is_short(line))
+}
+
+/// The file of what a record delivers to the peer.
+fn file_of<R: Abort>(rt: &R, alloc: Global, record: &[u8], peer: u32) -> Result<Vec<u8>, Fail> {
+    let trace = record_text::parse(alloc, record)?;
+    assert!(rt; peer < 2);
+    assert!(rt; trace.lines.items().len() < 4_294_967_296);
+    assert!(rt; are_short(trace.lines.items()));
+    let capture = captured(alloc, &trace, peer)?;
+    Ok(print(alloc, &capture)?)
+}
+
+/// A record up to its history.
+const UP_TO_THE_HISTORY: &[u8] =
+    b"record 1\nivshm 1\npeers 2\ntable 4096\ncommon 0\nout 16384\nmtu 256\nirq msix 2\npeer 0 honest\npeer 1 honest\nbegin\nend\n";
+
+#[test]
+fn what_a_history_delivers(rt: HostRuntime) -> Result<(), Fail> {
+    let alloc = rt.alloc();
+    let mut record = UP_TO_THE_HISTORY.to_vec(alloc)?;
+    record.extend_from_slice(
+        b"deliver 1 0102\nidle 0\ndeliver 0 05\naccept 1 0506\ndeliver 1 ffffffffffff0200000000010800\ndeliver 2 07\nend 6\n",
+    )?;
+    let mut want = LITTLE[..24].to_vec(alloc)?;
+    want.extend_from_slice(
+        b"\x00\x00\x00\x00\x01\x00\x00\x00\x02\x00\x00\x00\x02\x00\x00\x00\x01\x02",
+    )?;
+    want.extend_from_slice(b"\x00\x00\x00\x00\x05\x00\x00\x00\x0e\x00\x00\x00\x0e\x00\x00\x00")?;
+    want.extend_from_slice(&FRAME)?;
+    assert!(rt; file_of(&rt, alloc, &record, 1)?.as_slice() == want.as_slice());
+    want.truncate(24);
+    want.extend_from_slice(
+        b"\x00\x00\x00\x00\x03\x00\x00\x00\x01\x00\x00\x00\x01\x00\x00\x00\x05",
+    )?;
+    assert!(rt; file_of(&rt, alloc, &record, 0)?.as_slice() == want.as_slice());
+    frames_are_delivered();
+    Ok(())
+}
+
+#[test]
+fn lines_above_a_million_have_seconds(rt: HostRuntime) -> Result<(), Fail> {
+    let alloc = rt.alloc();
+    let mut record = UP_TO_THE_HISTORY.to_vec(alloc)?;
+    for _ in 0..2_000_006 {
+        record.extend_from_slice(b"idle 0\n")?;
+    }
+    record.extend_from_slice(b"deliver 0 ff\nend 2000007\n")?;
+    let mut want = LITTLE[..24].to_vec(alloc)?;
+    want.extend_from_slice(
+        b"\x02\x00\x00\x00\x07\x00\x00\x00\x01\x00\x00\x00\x01\x00\x00\x00\xff",
+    )?;
+    assert!(rt; file_of(&rt, alloc, &record, 0)?.as_slice() == want.as_slice());
+    Ok(())
+}
+
+/// The text of a scenario up to its acts.
+const HEAD: &[u8] =
+    b"ivshm 1\npeers 2\ntable 4096\ncommon 0\nout 520192\nmtu 16384\nirq msix 2\npeer 0 honest\npeer 1 honest\nbegin\n";
+
+/// The text of the scenario made of a file.
+fn fed<R: Abort>(rt: &R, alloc: Global, file: &[u8], peer: u32) -> Result<Vec<u8>, Fail> {
+    let capture = parse(alloc, file)?;
+    assert!(rt; peer < 2);
+    let scenario = scenario_of(alloc, &capture, peer)?;
+    Ok(scenario_text::print(alloc, &scenario)?)
+}
+
+/// The head, these acts, so many rounds and the end.
+fn text_of(alloc: Global, acts: &[u8], rounds: u32) -> Result<Vec<u8>, Fail> {
+    let mut text = HEAD.to_vec(alloc)?;
+    text.extend_from_slice(acts)?;
+    for _ in 0..rounds {
+        text.extend_from_slice(b"turn 0 1000\nturn 1 1000\n")?;
+    }
+    text.extend_from_slice(b"end\n")?;
+    Ok(text)
+}
+
+#[test]
+fn whole_frames_are_offered(rt: HostRuntime) -> Result<(), Fail> {
+    let alloc = rt.alloc();
+    let want = text_of(
+        alloc,
+        b"auto 0 0\nauto 1 1\noffer 0 ffffffffffff0200000000010800\n",
+        300,
+    )?;
+    assert!(rt; fed(&rt, alloc, &BIG, 0)?.as_slice() == want.as_slice());
+    // the second packet was shortened to 14 bytes of 60
+    let mut two = LITTLE.to_vec(alloc)?;
+    two.extend_from_slice(&with(alloc, &LITTLE, 36, b"\x3c")?[24..])?;
+    let want = text_of(
+        alloc,
+        b"auto 1 0\nauto 0 1\noffer 1 ffffffffffff0200000000010800\n",
+        300,
+    )?;
+    assert!(rt; fed(&rt, alloc, &two, 1)?.as_slice() == want.as_slice());
+    // a frame of 13 bytes is too short for an offer
+    let mut file = with(alloc, &LITTLE, 32, b"\x0d\x00\x00\x00\x0d")?;
+    file.truncate(53);
+    let want = text_of(alloc, b"auto 0 0\nauto 1 0\n", 300)?;
+    assert!(rt; fed(&rt, alloc, &file, 0)?.as_slice() == want.as_slice());
+    Ok(())
+}
+
+/// A capture of so many frames of so many bytes.
+fn many(alloc: Global, count: u32, size: u32) -> Result<Capture, Fail> {
+    let bytes = vec![in alloc; 0u8; size as usize]?;
+    let mut packets = Packets::new(alloc);
+    for number in 0..count {
+        packets.push(Packet {
+            seconds: 0,
+            micros: number,
+            original: size,
+            frame: Frame::of(alloc, &bytes)?,
+        })?;
+    }
+    Ok(Capture {
+        snaplen: 65_535,
+        packets,
+    })
+}
+
+#[test]
+fn frames_give_rounds_and_acts_have_a_limit(rt: HostRuntime) -> Result<(), Fail> {
+    let alloc = rt.alloc();
+    // so many frames of this size are offered in so many acts, and one frame more is too much
+    for (size, most, acts) in [
+        (14, 16_365, 3_998_367),
+        (1_514, 1_992, 3_999_994),
+        (16_402, 204, 3_984_206),
+    ] {
+        let scenario = scenario_of(alloc, &many(alloc, most, size)?, 1)?;
+        let mut all = 0u64;
+        for act in scenario.acts.items() {
+            all = all.saturating_add(act.cost());
+        }
+        assert_eq!(rt; all, acts);
+        let too_many = scenario_of(alloc, &many(alloc, most + 1, size)?, 1);
+        assert!(rt; too_many.err() == Some(FeedFault::TooLarge));
+    }
+    // a longer frame isn't offered
+    let scenario = scenario_of(alloc, &many(alloc, 3, 16_403)?, 1)?;
+    assert_eq!(rt; scenario.acts.items().len(), 602);
+    Ok(())
+}

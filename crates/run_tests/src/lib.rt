@@ -1,0 +1,9 @@
+//! Tests of the top call with the word `run`: peers in threads under gates.
+#![tactic(auto)]
+
+#[cfg(test)]
+mod gates;
+#[cfg(test)]
+mod heads;
+#[cfg(test)]
+mod run_rows;

@@ -140,6 +140,7 @@ static int check_handles(void) {
     WANT(ivshm_end_took_words(&none, frame, 4, &notes) == IVSHM_NO_END && ivshm_end_words(&none, frame, 4) == IVSHM_NO_END);
     WANT(ivshm_end_took_written(&none, 1) == IVSHM_NO_END && ivshm_end_took_stretches(&none) == IVSHM_NO_END);
     WANT(ivshm_end_stretches(&none, stretches, frame, 14) == IVSHM_NO_END && stretches[0].word == 7);
+    WANT(ivshm_end_tail(&none, stretches, frame, 14) == IVSHM_NO_END && stretches[0].word == 7);
     WANT(ivshm_end_view(&none, &view) == IVSHM_NO_END && ivshm_end_frame(&none, frame, 14, &length) == IVSHM_NO_END);
     WANT(ivshm_end_reset(&none) == IVSHM_NO_END && ivshm_end_free(&none) == IVSHM_NO_END && none.at == NULL);
     return 0;
@@ -164,6 +165,38 @@ static int check_before_index(ivshm_end *a, ivshm_end *b, const uint8_t *frame) 
     WANT(ivshm_end_took_stretches(a) == IVSHM_DONE && run(a, 0) == 0 && ivshm_end_begin(b, IVSHM_POLL) == IVSHM_DONE && run(b, 1) == 1);
     WANT(ivshm_end_frame(b, room, 64, &length) == IVSHM_DONE && length == 38);
     for (int i = 0; i < 38; i++) WANT(frame[i] == room[i]);
+    return 0;
+}
+
+/* Once more, with the words of the frame from this copy of it, but for the first one, and taken from the words that the other read at once. */
+static int check_tail(ivshm_end *a, ivshm_end *b, const uint8_t *frame) {
+    static uint8_t room[64];
+    ivshm_stretch stretches[3] = {{7, 7}};
+    ivshm_access access;
+    ivshm_notes notes;
+    ivshm_view view;
+    WANT(ivshm_end_tail(a, stretches, room, 64) == IVSHM_NO_CALL && ivshm_end_offer_again(a) == IVSHM_DONE);
+    while (ivshm_end_tail(a, stretches, room, 64) == IVSHM_OTHER_ACCESS)
+        WANT(stretches[0].word == 7 && room[0] == 0 && ivshm_end_next(a, &access) == IVSHM_DONE && ivshm_end_took(a, words[access.word], &notes) == IVSHM_DONE);
+    WANT(stretches[0].count == 10 && ivshm_end_next(a, &access) == IVSHM_DONE && access.word == stretches[0].word);
+    words[access.word] = access.value;
+    memset(room, 0, sizeof room);
+    WANT(ivshm_end_took(a, 0, &notes) == IVSHM_DONE && ivshm_end_tail(a, stretches, room, 19) == IVSHM_SHORT_ROOM && stretches[0].count == 10 && room[8] == 0);
+    WANT(ivshm_end_tail(a, stretches, room, 20) == IVSHM_DONE && stretches[0].count == 9 && room[8] == 38 && room[20] == 0);
+    WANT(stretches[1].count == 4 && stretches[2].word == 1282 && stretches[2].count == 1);
+    words[stretches[0].word + 8] = 0;
+    memcpy(words + stretches[0].word, frame + 4, 34);
+    memcpy(words + stretches[1].word, room, 16);
+    memcpy(words + stretches[2].word, room + 16, 4);
+    WANT(ivshm_end_took_stretches(a) == IVSHM_DONE && ivshm_end_tail(a, stretches, room, 64) == IVSHM_OTHER_ACCESS && run(a, 0) == 0);
+    WANT(ivshm_end_begin(b, IVSHM_POLL) == IVSHM_DONE);
+    do WANT(ivshm_end_next(b, &access) == IVSHM_DONE && (access.count || ivshm_end_took(b, words[access.word], &notes) == IVSHM_DONE));
+    while (access.count == 0);
+    memcpy(room, words + access.word, 40);
+    WANT(access.count == 10 && ivshm_end_took_words(b, room, 40, &notes) == IVSHM_DONE && notes.note[0].kind == IVSHM_DELIVER);
+    WANT(ivshm_end_view(b, &view) == IVSHM_DONE && view.delivered == 38);
+    for (int i = 0; i < 38; i++) WANT(frame[i] == room[i]);
+    WANT(run(b, 1) == 0);
     return 0;
 }
 
@@ -214,6 +247,7 @@ static int check_stretches(void) {
     for (int i = 0; i < 38; i++) WANT(frame[i] == room[i]);
     WANT(run(&b, 1) == 0);
     int line = check_before_index(&a, &b, frame);
+    if (!line) line = check_tail(&a, &b, frame);
     if (line) return line;
     WANT(ivshm_end_free(&a) == IVSHM_DONE && ivshm_end_free(&b) == IVSHM_DONE);
     return 0;

@@ -159,6 +159,8 @@ uint32_t ivshm_end_stretches(ivshm_end *end, ivshm_stretch stretches[3], uint8_t
     return IVSHM_DONE;
 }
 
+uint32_t ivshm_end_tail(ivshm_end *end, ivshm_stretch stretches[3], uint8_t *room, size_t size) { return ivshm_end_stretches(end, stretches, room, size); }
+
 uint32_t ivshm_end_took_stretches(ivshm_end *end) {
     struct empty *e = end->at;
     if (!e) return IVSHM_NO_END;

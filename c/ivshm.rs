@@ -50,6 +50,13 @@ struct Notes {
 
 #[repr(C)]
 #[derive(Clone, Copy, Debug, Default)]
+struct Stretch {
+    word: u32,
+    count: u32,
+}
+
+#[repr(C)]
+#[derive(Clone, Copy, Debug, Default)]
 pub struct View {
     pub refused_value: u64,
     pub delivered: u64,
@@ -70,6 +77,8 @@ extern "C" {
     fn ivshm_end_offer(end: &mut Handle, frame: *const u8, length: usize) -> u32;
     fn ivshm_end_next(end: &mut Handle, access: &mut Access) -> u32;
     fn ivshm_end_took(end: &mut Handle, value: u32, notes: &mut Notes) -> u32;
+    fn ivshm_end_tail(end: &mut Handle, stretches: &mut [Stretch; 3], room: *mut u8, size: usize) -> u32;
+    fn ivshm_end_took_stretches(end: &mut Handle) -> u32;
     fn ivshm_end_view(end: &mut Handle, view: &mut View) -> u32;
     fn ivshm_end_frame(end: &mut Handle, room: *mut u8, size: usize, length: &mut usize) -> u32;
     fn ivshm_end_reset(end: &mut Handle) -> u32;
@@ -93,20 +102,43 @@ fn done(answer: u32) -> Result<(), u32> {
     if answer == 0 { Ok(()) } else { Err(answer) }
 }
 
+/// The word of these bytes, the lowest first, with 0 for those that it hasn't.
+fn word_of(bytes: &[u8]) -> u32 {
+    bytes.iter().rev().fold(0, |word, byte| word << 8 | u32::from(*byte))
+}
+
 // SAFETY of the calls below: each pointer is a reference or a slice of this program, and `&mut self` gives the handle to one call at a time.
 impl End {
     /// Makes the end of peer `me` and writes State 0.
     pub fn new(found: &Found, peers: u32, me: u32, mtu: u32, vector: u32, region: &mut impl Region) -> Result<End, u32> {
         let mut end = End(Handle(std::ptr::null_mut()));
         done(unsafe { ivshm_end_new(&mut end.0, found, peers, me, mtu, vector) })?;
-        end.finish(region, &mut |_, _| ());
+        end.finish(region, &[], &mut |_, _| ());
         Ok(end)
     }
 
-    /// Makes the accesses of the open call. `told` is handed each note, and the frame at a delivery.
-    fn finish(&mut self, region: &mut impl Region, told: &mut impl FnMut(&Note, &[u8])) {
+    /// Makes all that an offer of this frame writes before its index, where a word of the frame is next: its words come from here.
+    fn write_frame(&mut self, region: &mut impl Region, frame: &[u8]) -> bool {
+        let (mut stretches, mut tail) = ([Stretch::default(); 3], [0u8; 20]);
+        if unsafe { ivshm_end_tail(&mut self.0, &mut stretches, tail.as_mut_ptr(), tail.len()) } != 0 {
+            return false;
+        }
+        let written = (frame.len() + 3) / 4 - stretches[0].count as usize;
+        let places = stretches.iter().flat_map(|stretch| stretch.word..stretch.word + stretch.count);
+        for (word, bytes) in places.zip(frame.chunks(4).skip(written).chain(tail.chunks(4))) {
+            region.write(word, word_of(bytes));
+        }
+        unsafe { ivshm_end_took_stretches(&mut self.0) };
+        true
+    }
+
+    /// Makes the accesses of the open call, which offers this frame, or none. `told` is handed each note, and the frame at a delivery.
+    fn finish(&mut self, region: &mut impl Region, offered: &[u8], told: &mut impl FnMut(&Note, &[u8])) {
         let (mut access, mut notes) = (Access::default(), Notes::default());
         while unsafe { ivshm_end_next(&mut self.0, &mut access) } == 0 {
+            if !offered.is_empty() && access.count > 1 && self.write_frame(region, offered) {
+                continue;
+            }
             let mut value = 0;
             match access.kind {
                 1 => value = region.read(access.word),
@@ -139,13 +171,13 @@ impl End {
     /// Looks at the other's State and moves on.
     pub fn tick(&mut self, region: &mut impl Region) {
         unsafe { ivshm_end_begin(&mut self.0, 0) };
-        self.finish(region, &mut |_, _| ());
+        self.finish(region, &[], &mut |_, _| ());
     }
 
     /// Takes the frames that the other published.
     pub fn poll(&mut self, region: &mut impl Region, mut take: impl FnMut(&[u8])) {
         unsafe { ivshm_end_begin(&mut self.0, 1) };
-        self.finish(region, &mut |note, frame| {
+        self.finish(region, &[], &mut |note, frame| {
             if note.kind == 6 {
                 take(frame)
             }
@@ -155,20 +187,20 @@ impl End {
     /// Leaves the link.
     pub fn stop(&mut self, region: &mut impl Region) {
         unsafe { ivshm_end_begin(&mut self.0, 2) };
-        self.finish(region, &mut |_, _| ());
+        self.finish(region, &[], &mut |_, _| ());
     }
 
     /// Offers a frame, and tells the outcome by its number.
     pub fn offer(&mut self, region: &mut impl Region, frame: &[u8]) -> Result<u32, u32> {
         done(unsafe { ivshm_end_offer(&mut self.0, frame.as_ptr(), frame.len()) })?;
-        self.finish(region, &mut |_, _| ());
+        self.finish(region, frame, &mut |_, _| ());
         Ok(self.view().outcome)
     }
 
     /// The own device was reset.
     pub fn reset(&mut self, region: &mut impl Region) {
         unsafe { ivshm_end_reset(&mut self.0) };
-        self.finish(region, &mut |_, _| ());
+        self.finish(region, &[], &mut |_, _| ());
     }
 }
 

@@ -86,7 +86,7 @@ enum {
     IVSHM_BAD_CALL = 6,   /* ivshm_end_begin: none of the three calls */
     IVSHM_SHORT_FRAME = 7,/* ivshm_end_offer: fewer than IVSHM_SHORTEST bytes */
     IVSHM_LONG_FRAME = 8, /* ivshm_end_offer: more than the MTU and 18 bytes */
-    IVSHM_SHORT_ROOM = 9, /* ivshm_end_frame, ivshm_end_stretches: what is to be copied doesn't fit */
+    IVSHM_SHORT_ROOM = 9, /* ivshm_end_frame, ivshm_end_stretches, ivshm_end_tail: what is to be copied doesn't fit */
     /* why sizes make no end: the first that is wrong */
     IVSHM_BAD_PEER = 10,     /* the peer isn't 0 or 1 */
     IVSHM_BAD_PEERS = 11,    /* the peers aren't 2 to 65,536 */
@@ -253,7 +253,7 @@ enum {
     IVSHM_FULL = 3,    /* full: as many frames as may be are in flight; the offer is over */
     IVSHM_ACCEPT = 4,  /* accept: the frame offered is published */
     IVSHM_LOOK = 5,    /* look: a poll found `value` frames */
-    IVSHM_DELIVER = 6, /* deliver: a frame was read whole; take it by ivshm_end_frame before the next step */
+    IVSHM_DELIVER = 6, /* deliver: a frame was read whole; take it by ivshm_end_frame before the next step, or from the words that were read at once */
     IVSHM_RETURN = 7,  /* return: a frame's slot was handed back */
     IVSHM_FINISH = 8,  /* done: the poll is over */
     IVSHM_DOWN = 9,    /* down: the call was made outside RUN; it is over */
@@ -291,6 +291,8 @@ uint32_t ivshm_end_took(ivshm_end *end, uint32_t value, ivshm_notes *notes);
  * them at once, or some, or go on by single steps: it is the same. Each word is still read once, into memory of your own, and written once. */
 
 /* Takes the steps of size / 4 reads: `words` has what each gave, as four bytes, the lowest first. The notes are those of the last.
+ * Where the access before was no read with a count, the first word of a frame is read next, and `count` is all its words: handed over at once, they
+ * begin with the frame, as long as ivshm_end_view then says in `delivered`. So it need not be copied out by ivshm_end_frame.
  * IVSHM_DONE; or the end and the notes are as they were: IVSHM_NO_END, IVSHM_NO_CALL, IVSHM_OTHER_ACCESS, IVSHM_BAD_COUNT. */
 uint32_t ivshm_end_took_words(ivshm_end *end, const uint8_t *words, size_t size, ivshm_notes *notes);
 
@@ -318,7 +320,14 @@ typedef struct ivshm_stretch {
  * IVSHM_SHORT_ROOM. */
 uint32_t ivshm_end_stretches(ivshm_end *end, ivshm_stretch stretches[3], uint8_t *room, size_t size);
 
-/* Takes the steps of all these writes, which have no notes.
+/* Tells the same stretches, and puts the words of the descriptor and of the entry alone at the front of `room`, 20 bytes; the rest of it stays. The words
+ * of the frame are the last stretches[0].count ones of the frame that was handed to ivshm_end_offer, as four bytes each, with 0 after its last byte:
+ * write them from there, where you have it still. So the library's own copy of the frame is read no more. Then call ivshm_end_took_stretches.
+ * IVSHM_DONE; or the stretches and the room are as they were: IVSHM_NO_END, IVSHM_NO_CALL, IVSHM_OTHER_ACCESS (no word of a frame is next),
+ * IVSHM_SHORT_ROOM (size < 20). */
+uint32_t ivshm_end_tail(ivshm_end *end, ivshm_stretch stretches[3], uint8_t *room, size_t size);
+
+/* Takes the steps of all these writes, which have no notes, where ivshm_end_stretches or ivshm_end_tail told them.
  * IVSHM_DONE; or the end is as it was: IVSHM_NO_END, IVSHM_NO_CALL, IVSHM_OTHER_ACCESS. */
 uint32_t ivshm_end_took_stretches(ivshm_end *end);
 

@@ -42,6 +42,9 @@ struct peer {
     struct view view;
     uint32_t me, own, theirs, ready, accepted[SESSIONS]; /* `ready`: sessions of its own so far; `accepted`: frames in each */
     uint32_t attended, taken, last;                      /* the other's session whose frames it takes, how many, and the one before */
+    uint8_t offered[300];                                /* the frame of its open offer, and its length */
+    size_t length;
+    bool reading;                                        /* its last step read words of a frame */
     bool fencing, fenced;                                /* a full fence is due after its last access, or was made before the next: a step of its own */
     bool rests, silent[FLIGHT];                          /* its last poll found nothing in the end; its frames, by their numbers, that didn't ring */
 };
@@ -115,11 +118,14 @@ static size_t make(uint8_t *frame, uint32_t from, uint32_t session, uint32_t num
     return length;
 }
 
-static void take(struct peer *p) {
+/* A frame was delivered; `room` has all its words, where these were read at once. */
+static void take(struct peer *p, const uint32_t *room) {
     uint8_t frame[300], expected[300];
     size_t length = 0;
     uint32_t session, number;
+    ivshm_view view;
     if (ivshm_end_frame(&p->end, frame, sizeof frame, &length) != IVSHM_DONE) { wrong = "a frame that is too long was delivered"; return; }
+    if (ivshm_end_view(&p->end, &view) != IVSHM_DONE || view.delivered != length || (room && memcmp(room, frame, length))) wrong = "the words read at once aren't the frame";
     memcpy(&session, frame + 6, 4);
     memcpy(&number, frame + 10, 4);
     delivered++;
@@ -178,12 +184,12 @@ static bool fences_at(const ivshm_access *access) {
 }
 
 /* Does what the notes of a step ask for. */
-static void heed(struct peer *p, const ivshm_access *access, const ivshm_notes *notes) {
+static void heed(struct peer *p, const ivshm_access *access, const ivshm_notes *notes, const uint32_t *room) {
     bool at_event = access->kind == IVSHM_READ && access->word == p->theirs + layout.available_event;
     for (uint32_t i = 0; i < notes->count; i++) {
         uint32_t kind = notes->note[i].kind;
         if (kind == IVSHM_REFUSE) wrong = "an honest peer was refused";
-        if (kind == IVSHM_DELIVER) take(p);
+        if (kind == IVSHM_DELIVER) take(p, room);
         if (kind == IVSHM_LOOK) p->rests = false;
         if (kind == IVSHM_FINISH && access->kind == IVSHM_READ) rest(p);
         if (kind == IVSHM_OVER && at_event) keep_silent(p);
@@ -194,10 +200,22 @@ static void heed(struct peer *p, const ivshm_access *access, const ivshm_notes *
     }
 }
 
+/* Puts all that an offer writes before its index into the room: as the library tells it, or of some frames the words of the frame from the frame. */
+static bool tell_before_index(struct peer *p, ivshm_stretch stretches[3], uint32_t *room, size_t bytes) {
+    uint8_t tail[20];
+    if (p->length / 4 % 2) return ivshm_end_stretches(&p->end, stretches, (uint8_t *)room, bytes) == IVSHM_DONE;
+    if (ivshm_end_tail(&p->end, stretches, tail, sizeof tail) != IVSHM_DONE) return false;
+    size_t at = 4 * ((p->length + 3) / 4 - stretches[0].count);
+    memset(room, 0, 4 * (size_t)stretches[0].count);
+    memcpy(room, p->offered + at, p->length - at);
+    memcpy(room + stretches[0].count, tail, sizeof tail);
+    return true;
+}
+
 /* Makes all the writes of an offer before its index, in some order: from the last to the first, or the frame first. */
 static bool step_before_index(struct peer *p, uint32_t *room, size_t bytes) {
     ivshm_stretch stretches[3];
-    if (ivshm_end_stretches(&p->end, stretches, (uint8_t *)room, bytes) != IVSHM_DONE) return false;
+    if (!tell_before_index(p, stretches, room, bytes)) return false;
     uint32_t first[3] = {0, stretches[0].count, stretches[0].count + stretches[1].count};
     bool backwards = draw(2);
     for (int k = 0; k < 3; k++) {
@@ -217,17 +235,20 @@ static void step(struct peer *p) {
     enum row row = row_of(p, &access);
     bool ordered = access.order != IVSHM_RELAXED && (without == NONE || row != without);
     uint32_t value = 0, count = access.count;
+    bool first = !p->reading, whole = false;
     if (access.fence_before && !p->fenced && fences_at(&access)) {
         fence(p);
         p->fenced = true;
         return;
     }
     p->fenced = false;
+    p->reading = access.kind == IVSHM_READ && count > 0;
     if (count > 1 && draw(4)) {
         count = access.kind == IVSHM_READ || draw(2) ? count : 1 + draw(count);
         if (access.kind == IVSHM_READ) {
             for (uint32_t i = 0; i < count; i++) room[i] = load(p, access.word + i, false);
             ivshm_end_took_words(&p->end, (const uint8_t *)room, 4 * (size_t)count, &notes);
+            whole = first;
         } else if (draw(2) || !step_before_index(p, room, sizeof room)) {
             ivshm_end_words(&p->end, (uint8_t *)room, 4 * (size_t)count);
             for (uint32_t i = count; i-- > 0;) store(p, access.word + i, room[i], false);
@@ -243,15 +264,19 @@ static void step(struct peer *p) {
         ivshm_end_took(&p->end, value, &notes);
     }
     p->fencing = access.fence_after && fences_at(&access);
-    heed(p, &access, &notes);
+    heed(p, &access, &notes, whole ? room : NULL);
+}
+
+static void offer(struct peer *p) {
+    p->length = make(p->offered, p->me, p->ready, p->ready ? p->accepted[p->ready] : 0);
+    ivshm_end_offer(&p->end, p->offered, p->length);
 }
 
 static void begin(struct peer *p) {
-    uint8_t frame[300];
     uint32_t which = draw(100);
     if (draw(ticks) == 0) ivshm_end_begin(&p->end, IVSHM_TICK);
     else if (which < 50) ivshm_end_begin(&p->end, IVSHM_POLL);
-    else if (which < 99) ivshm_end_offer(&p->end, frame, make(frame, p->me, p->ready, p->ready ? p->accepted[p->ready] : 0));
+    else if (which < 99) offer(p);
     else ivshm_end_begin(&p->end, IVSHM_STOP);
 }
 

@@ -53,8 +53,6 @@ struct link {
     void (*deliver)(struct link *, const uint8_t *frame, size_t length);
     void (*ring)(struct link *, uint32_t peer, uint32_t vector);
     struct record *record;
-    const uint8_t *offered; /* the frame of the open offer */
-    size_t offered_length;
     void *context;
 };
 
@@ -106,7 +104,8 @@ static inline void store(_Atomic uint32_t *word, const ivshm_access *access) {
 static inline void heed(struct link *l, const ivshm_notes *notes) {
     for (uint32_t i = 0; i < notes->count; i++) {
         const ivshm_note *note = &notes->note[i];
-        size_t length = 0;
+        const uint8_t *frame = l->sections.offered;
+        size_t length = l->sections.offered_length;
         switch (note->kind) {
         case IVSHM_ACCEPT:
             l->accepted++;
@@ -119,25 +118,26 @@ static inline void heed(struct link *l, const ivshm_notes *notes) {
             l->refusal = *note;
             break;
         case IVSHM_DELIVER:
-            must(ivshm_end_frame(&l->end, l->frame, sizeof l->frame, &length), "frame");
+            frame = delivered_frame(&l->end, &l->sections, l->frame, &length);
             l->delivered++;
-            if (l->deliver) l->deliver(l, l->frame, length);
+            if (l->deliver) l->deliver(l, frame, length);
             break;
         default:
             break;
         }
-        if (!l->record) continue;
-        if (note->kind == IVSHM_ACCEPT) record_note(l->record, l->me, note, l->offered, l->offered_length);
-        else record_note(l->record, l->me, note, l->frame, length);
+        if (l->record) record_note(l->record, l->me, note, frame, length);
     }
 }
 
+/* What was read stands in the room, what was written in the own section. */
 static inline void record_several(struct link *l, uint32_t kind) {
-    const uint32_t *value = l->sections.room;
+    const struct sections *s = &l->sections;
+    const uint32_t *read = s->room;
     for (int k = 0; k < 3; k++)
-        for (uint32_t i = 0; i < l->sections.made[k].count; i++, value++) {
-            ivshm_access one = {.kind = kind, .word = l->sections.made[k].word + i, .value = kind == IVSHM_READ ? 0 : *value};
-            record_access(l->record, l->me, &one, *value);
+        for (uint32_t i = 0; i < s->made[k].count; i++) {
+            ivshm_access one = {.kind = kind, .word = s->made[k].word + i};
+            if (kind == IVSHM_WRITE) one.value = atomic_load_explicit(&s->written[one.word - s->own], memory_order_relaxed);
+            record_access(l->record, l->me, &one, kind == IVSHM_READ ? *read++ : 0);
         }
 }
 
@@ -203,10 +203,8 @@ static inline void call(struct link *l, uint32_t which) {
 /* Offers a frame, and tells what came of it. */
 static inline uint32_t offer(struct link *l, const uint8_t *frame, size_t length) {
     ivshm_view view;
-    must(ivshm_end_offer(&l->end, frame, length), "offer");
+    open_offer(&l->end, &l->sections, frame, length);
     if (l->record) record_offer(l->record, l->me, frame, length);
-    l->offered = frame;
-    l->offered_length = length;
     uint64_t steps = finish(l);
     if (l->record) record_turn(l->record, l->me, steps);
     must(ivshm_end_view(&l->end, &view), "view");

@@ -1,6 +1,7 @@
 /* Some steps of an end at once, and in an offer all before the index, as docs/C.md has it, for region.h and guests/link.h alike. The words that go at once are those that an index or a State
  * orders, so each may be relaxed (docs/ORDERS.md). The library sees the private copy alone, in which each word has one value; the machine is taken
- * to have the lowest byte of a word first.
+ * to have the lowest byte of a word first. A frame goes from the caller's memory into the section, and a frame whose words were read at once is
+ * taken from the private copy: so the library's own copy is the only other one on each side.
  *
  * The copies are made by accesses of 32 bits, or by memcpy where BY_MEMCPY is 1: a word that is torn then is one more value that the other peer might
  * have written. */
@@ -27,7 +28,10 @@ struct sections {
     const _Atomic uint32_t *read;     /* the other's */
     uint32_t data;                    /* the first word of the own data area, from the start of the section */
     uint32_t room[AT_ONCE];           /* words on their way between the region and the library */
-    ivshm_stretch made[3];            /* which words of the region these are, one stretch behind the other: the last ones may have none */
+    ivshm_stretch made[3];            /* which words of the region were read or written at once: the last stretches may have none */
+    const uint8_t *offered;           /* the frame of the open offer, which stays as it is until the offer is over */
+    size_t offered_length;
+    bool reading, whole;              /* words of a frame were read by the step before; the room has all words of the frame that was read last */
 };
 
 /* The words of the sections by the region's numbers, as peer `me` has them; where they are mapped is left to the caller. */
@@ -50,31 +54,51 @@ static inline void copy_out(uint32_t *into, const _Atomic uint32_t *from, uint32
     else for (uint32_t i = 0; i < count; i++) into[i] = atomic_load_explicit(&from[i], memory_order_relaxed);
 }
 
-static inline void copy_in(_Atomic uint32_t *into, const uint32_t *from, uint32_t count) {
+static inline void copy_in(_Atomic uint32_t *into, const uint8_t *from, uint32_t count) {
     if (BY_MEMCPY) memcpy((void *)into, from, 4 * (size_t)count);
-    else for (uint32_t i = 0; i < count; i++) atomic_store_explicit(&into[i], from[i], memory_order_relaxed);
+    else for (uint32_t i = 0; i < count; i++) {
+        uint32_t word;
+        memcpy(&word, from + 4 * (size_t)i, 4);
+        atomic_store_explicit(&into[i], word, memory_order_relaxed);
+    }
 }
 
-/* Makes the writes of an offer up to its index, and gives their number; 0 where no word of a frame is next, or where they don't fit the room or
- * aren't in the own section. */
+/* Opens an offer of this frame, whose words go into the section from here. */
+static inline void open_offer(ivshm_end *end, struct sections *s, const uint8_t *frame, size_t length) {
+    must(ivshm_end_offer(end, frame, length), "offer");
+    s->offered = frame;
+    s->offered_length = length;
+}
+
+/* Writes the last words of the frame offered, so many, with 0 after its last byte. */
+static inline void copy_frame_in(_Atomic uint32_t *into, const struct sections *s, uint32_t count) {
+    size_t at = 4 * ((s->offered_length + 3) / 4 - count), bytes = s->offered_length - at;
+    uint32_t whole = (uint32_t)(bytes / 4), last = 0;
+    copy_in(into, s->offered + at, whole);
+    if (whole == count) return;
+    memcpy(&last, s->offered + at + 4 * (size_t)whole, bytes % 4);
+    atomic_store_explicit(&into[whole], last, memory_order_relaxed);
+}
+
+/* Makes the writes of an offer up to its index, and gives their number; 0 where no word of a frame is next, or where they aren't in the own
+ * section. */
 static inline uint32_t make_offer(ivshm_end *end, struct sections *s, ivshm_notes *notes) {
-    uint32_t made = 0;
-    if (ivshm_end_stretches(end, s->made, (uint8_t *)s->room, sizeof s->room) != IVSHM_DONE) return 0;
+    const uint8_t *tail = (const uint8_t *)s->room;
+    if (!s->offered || ivshm_end_tail(end, s->made, (uint8_t *)s->room, sizeof s->room) != IVSHM_DONE) return 0;
     for (int i = 0; i < 3; i++) {
         uint32_t at = s->made[i].word - s->own;
         if (at >= s->words || s->words - at < s->made[i].count) return 0;
     }
-    for (int i = 0; i < 3; i++) {
-        copy_in(&s->written[s->made[i].word - s->own], s->room + made, s->made[i].count);
-        made += s->made[i].count;
-    }
+    copy_frame_in(&s->written[s->made[0].word - s->own], s, s->made[0].count);
+    copy_in(&s->written[s->made[1].word - s->own], tail, 4);
+    copy_in(&s->written[s->made[2].word - s->own], tail + 16, 1);
     must(ivshm_end_took_stretches(end), "took_stretches");
     notes->count = 0;
-    return made;
+    return s->made[0].count + 5;
 }
 
-/* The accesses that the library tells at once, where there are several. */
-static inline uint32_t make_several(ivshm_end *end, struct sections *s, const ivshm_access *access, ivshm_notes *notes) {
+/* The accesses that the library tells at once, where there are several; `first`: no word of the frame was read before. */
+static inline uint32_t make_several(ivshm_end *end, struct sections *s, const ivshm_access *access, ivshm_notes *notes, bool first) {
     bool reads = access->kind == IVSHM_READ;
     uint32_t at = access->word - (reads ? s->theirs : s->own), count = access->count < AT_ONCE ? access->count : AT_ONCE;
     if (at >= s->words || s->words - at < count) return 0;
@@ -88,18 +112,36 @@ static inline uint32_t make_several(ivshm_end *end, struct sections *s, const iv
     if (reads) {
         copy_out(s->room, &s->read[at], count);
         must(ivshm_end_took_words(end, (const uint8_t *)s->room, bytes, notes), "took_words");
+        s->whole = first && count == access->count;
     } else {
         must(ivshm_end_words(end, (uint8_t *)s->room, bytes), "words");
-        copy_in(&s->written[at], s->room, count);
+        copy_in(&s->written[at], (const uint8_t *)s->room, count);
         must(ivshm_end_took_written(end, count), "took_written");
         notes->count = 0;
     }
     return count;
 }
 
-/* Makes as many accesses at once as the library tells that there may be, and gives their number; their values stay in the room, and their words in
- * `made`. 0: the access is to be made by itself, since it is alone, or isn't in the section that it is of. */
+/* Makes as many accesses at once as the library tells that there may be, and gives their number; what was read stays in the room, and which words
+ * these are in `made`. 0: the access is to be made by itself, since it is alone, or isn't in the section that it is of. It is asked before each
+ * access of the end. */
 static inline uint32_t several(ivshm_end *end, struct sections *s, const ivshm_access *access, ivshm_notes *notes) {
-    return access->count < 2 ? 0 : make_several(end, s, access, notes);
+    bool first = !s->reading;
+    s->reading = access->kind == IVSHM_READ && access->count > 0;
+    s->whole = false;
+    return access->count < 2 ? 0 : make_several(end, s, access, notes, first);
+}
+
+/* The frame delivered by the last step, and its length: in the room where all its words were read at once, else copied to `into`, which has room for the
+ * longest. */
+static inline const uint8_t *delivered_frame(ivshm_end *end, const struct sections *s, uint8_t *into, size_t *length) {
+    if (s->whole) {
+        ivshm_view view;
+        must(ivshm_end_view(end, &view), "view");
+        *length = (size_t)view.delivered;
+        return (const uint8_t *)s->room;
+    }
+    must(ivshm_end_frame(end, into, IVSHM_LONGEST, length), "frame");
+    return into;
 }
 #endif

@@ -1,5 +1,5 @@
 /* speed OUT MTU SIZE ROUNDS: what the library costs, both ends in one thread. In a round each end offers 8 frames of SIZE bytes and polls, and a
- * frame that is delivered is copied out of the library. It prints calls of ivshm_end_next a frame and frames a second. Built with WAY 0 it prints
+ * frame that is delivered is copied out of the library, where its words weren't read at once. It prints calls of ivshm_end_next a frame and frames a second. Built with WAY 0 it prints
  * too what an access costs, and the floor of that: the accesses of the rounds made again, by a loop that has them as a list and no end in
  * between. */
 #include "region.h"
@@ -32,7 +32,7 @@ static inline void run(struct link *l, bool listed) {
         }
         if (notes.count > 0 && notes.note[0].kind == IVSHM_DELIVER) {
             size_t length;
-            ivshm_end_frame(&l->end, l->frame, sizeof l->frame, &length);
+            (void)delivered_frame(&l->end, &l->sections, l->frame, &length);
         }
         if (listed) {
             if (count == room) list = realloc(list, (room = 2 * room + 1024) * sizeof *list);
@@ -43,9 +43,9 @@ static inline void run(struct link *l, bool listed) {
 
 static void round_of(struct link *a, struct link *b, size_t size, bool listed) {
     for (int i = 0; i < BATCH; i++) {
-        must(ivshm_end_offer(&a->end, frame, size), "offer");
+        open_offer(&a->end, &a->sections, frame, size);
         run(a, listed);
-        must(ivshm_end_offer(&b->end, frame, size), "offer");
+        open_offer(&b->end, &b->sections, frame, size);
         run(b, listed);
     }
     must(ivshm_end_begin(&a->end, IVSHM_POLL), "poll");

@@ -72,6 +72,7 @@ static inline uint32_t make(struct link *l, const ivshm_access *access) {
 }
 
 static inline void take_note(struct link *l, const ivshm_note *note) {
+    const uint8_t *frame;
     size_t length;
     switch (note->kind) {
     case IVSHM_ACCEPT:
@@ -86,9 +87,9 @@ static inline void take_note(struct link *l, const ivshm_note *note) {
         l->refusal = *note;
         break;
     case IVSHM_DELIVER:
-        must(ivshm_end_frame(&l->end, l->frame, sizeof l->frame, &length), "frame");
+        frame = delivered_frame(&l->end, &l->sections, l->frame, &length);
         l->delivered++;
-        l->deliver(l, l->frame, length);
+        l->deliver(l, frame, length);
         break;
     default:
         break;
@@ -120,7 +121,7 @@ static inline ivshm_view view(struct link *l) {
 
 /* Offers a frame, and tells what came of it. */
 static inline uint32_t offer(struct link *l, const uint8_t *frame, size_t length) {
-    must(ivshm_end_offer(&l->end, frame, length), "offer");
+    open_offer(&l->end, &l->sections, frame, length);
     finish(l);
     return view(l).outcome;
 }

@@ -17,16 +17,16 @@ use Rattle.call_grammar.specs.Ends.{End}
 use Rattle.call_grammar.specs.Calls.{Who}
 use Rattle.call_grammar.specs.Places as places
 use Rattle.tx_engine.specs.declared.ahead.Stretches.{Stretches}
-use Rattle.tx_engine.specs.Ahead.{words_of, listed, WritesAll}
+use Rattle.tx_engine.specs.Ahead.{words_of, listed, last_words, WritesAll}
 use Rattle.link_endpoint.specs.Stands.{StandsAt}
 use Rattle.link_endpoint.specs.declared.order.Ordering.{Ordering}
-use Rattle.link_endpoint.specs.Engine.{is_busy, reads_ahead, writes_ahead, stretches_of}
+use Rattle.link_endpoint.specs.Engine.{is_busy, offered, reads_ahead, writes_ahead, stretches_of}
 use Rattle.ivshm_c.specs.declared.crossing.Access.{Access}
 use Rattle.ivshm_c.specs.declared.crossing.Stretches as crossed
 use Rattle.ivshm_c.specs.Crossing.{access_crossed, stretches_crossed}
-use Rattle.ivshm_c.specs.Ports.{IsNext, IsAhead, AreStretched, outcome_with, told_by}
+use Rattle.ivshm_c.specs.Ports.{IsNext, IsAhead, AreStretched, AreBehind, outcome_with, told_by}
 use Rattle.ivshm_c.specs.Sizes.{shape_found, sizes_found, layout_of, LaysOut, laid_out}
-use Rattle.ivshm_c.specs.Answers.{IsNew, RefusesNew, MakesAnswered, TellsNext, TellsStretches, Where, room_answer, stretches_answer, made, has_end, refused}
+use Rattle.ivshm_c.specs.Answers.{IsNew, RefusesNew, MakesAnswered, TellsNext, TellsStretches, TellsTail, Where, room_answer, stretches_answer, behind_answer, tail_answer, made, has_end, refused}
 
 -- one note more
 pub one_more : (notes : List Note) (i : ℕ) (before after : Outcome) (d : Note) → i < length notes → after ≡ outcome_with (get_or notes i d) before
@@ -69,6 +69,27 @@ told_stretches port before after room front stretches bytes busy some bytes_is f
     subst (λ status. Where status
     ((told : Stretches) × (stretches_of port.endpoint ≡ Some told) × (after ≡ stretches_crossed told) × AreStretched port.endpoint told filled ×
     (drop (4 * words_of (Some told)) filled ≡ drop (4 * words_of (Some told)) room))
+    ((after ≡ before) × (filled ≡ room))) (sym done) (stretches, some, crossed_is, written, rest_is)
+
+-- the same of those behind the frame
+pub told_tail : (port : Port) (before after : crossed.Stretches) (room front : List ℕ) (stretches : Stretches) → is_busy port.endpoint ≡ true → stretches_of port.endpoint ≡ Some stretches →
+    nat_lt (length room) 20 ≡ false → length front ≡ 20 → after ≡ stretches_crossed stretches →
+    ((who : Who) (end : End) (place : places.Place) → StandsAt port.endpoint who end place → IfSome (stretches_of port.endpoint) (λ s. WritesAll who place (listed s) (last_words (offered port.endpoint) s.frame.count ++ front))) →
+    TellsTail port before after room (front ++ drop 20 room)
+told_tail port before after room front stretches busy some fits sized crossed_is writes =
+    let frame = offered port.endpoint in
+    let filled = front ++ drop 20 room in
+    let done : tail_answer (length room) port ≡ Done =
+    ap (λ b. if b then behind_answer (stretches_of port.endpoint) (length room) else NoCall) busy ∙ ap (λ s. behind_answer s (length room)) some
+    ∙ ap (λ b. if b then ShortRoom else Done) fits in
+    let front_is : take 20 filled ≡ front = ap (λ k. take k filled) (sym sized) ∙ take-append_seam front (drop 20 room) in
+    let rest_is : drop 20 filled ≡ drop 20 room = ap (λ k. drop k filled) (sym sized) ∙ drop-append_seam front (drop 20 room) in
+    let written : AreBehind port.endpoint stretches filled =
+    λ who end place stands. subst (λ b. WritesAll who place (listed stretches) (last_words frame stretches.frame.count ++ b)) (sym front_is)
+    (subst (λ s. IfSome s (λ told. WritesAll who place (listed told) (last_words frame told.frame.count ++ front))) some (writes who end place stands)) in
+    subst (λ status. Where status
+    ((told : Stretches) × (stretches_of port.endpoint ≡ Some told) × (after ≡ stretches_crossed told) × AreBehind port.endpoint told filled ×
+    (drop 20 filled ≡ drop 20 room))
     ((after ≡ before) × (filled ≡ room))) (sym done) (stretches, some, crossed_is, written, rest_is)
 
 module _ (found : Found) (version peers me mtu vector : ℕ) (old new : Option Port) where

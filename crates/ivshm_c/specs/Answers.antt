@@ -16,7 +16,7 @@ use Rattle.ivshm_c.specs.declared.port.Outcome.TheVariants.{Never, Open}
 use Rattle.ivshm_c.specs.declared.status.Status.{Status}
 use Rattle.ivshm_c.specs.declared.status.Status.TheVariants.{Done, NoEnd, HasEnd, CallOpen, NoCall, NoMemory, BadCall, ShortFrame, LongFrame, ShortRoom, BadPeer, OtherAccess, BadCount, BadVersion}
 use Rattle.ivshm_c.specs.Crossing.{call_numbered, access_crossed, stretches_crossed, notes_crossed}
-use Rattle.ivshm_c.specs.Ports.{Begins, Offers, IsNext, IsAhead, AreWritten, AreStretched, ReadsAtOnce, WritesAtOnce, Steps, IsStarted, Restarts, outcome_after, outcome_cut}
+use Rattle.ivshm_c.specs.Ports.{Begins, Offers, IsNext, IsAhead, AreWritten, AreStretched, AreBehind, ReadsAtOnce, ReadsWhole, WritesAtOnce, Steps, IsStarted, Restarts, outcome_after, outcome_cut}
 use Rattle.ivshm_c.specs.Sizes.{shape_found, sizes_found, IsSizeFault}
 
 -- a handle that holds no end answers so, whatever is asked
@@ -89,6 +89,14 @@ room_answer (Some stretches) room = if nat_lt room (4 * words_of (Some stretches
 abbrev pub stretches_answer : (room : ℕ) → Port → Status
 stretches_answer room port = if is_busy port.endpoint then room_answer (stretches_of port.endpoint) room else NoCall
 
+-- where those behind the frame are asked for, which have 20 bytes
+abbrev pub behind_answer : Option Stretches → (room : ℕ) → Status
+behind_answer None room = OtherAccess
+behind_answer (Some stretches) room = if nat_lt room 20 then ShortRoom else Done
+
+abbrev pub tail_answer : (room : ℕ) → Port → Status
+tail_answer room port = if is_busy port.endpoint then behind_answer (stretches_of port.endpoint) room else NoCall
+
 -- where their steps are taken
 abbrev pub stretched_answer : Port → Status
 stretched_answer port = if is_busy port.endpoint then (if is_none (stretches_of port.endpoint) then OtherAccess else Done) else NoCall
@@ -128,10 +136,10 @@ TakesAnswered value before after old new = Where (step_answer old)
     ((notes : List Note) × Steps old.endpoint value notes new.endpoint × (new.outcome ≡ outcome_after notes old.outcome) × (after ≡ notes_crossed notes))
     ((new ≡ old) × (after ≡ before))
 
--- reads of the open call are taken at once, with the notes of the last
+-- reads of the open call are taken at once, with the notes of the last; all words of a frame are the frame delivered
 abbrev pub TakesWords : List ℕ → Notes → Notes → Port → Port → Type 0
 TakesWords words before after old new = Where (reads_answer (length words) old)
-    ((notes : List Note) × ReadsAtOnce old.endpoint words notes new.endpoint ×
+    ((notes : List Note) × ReadsAtOnce old.endpoint words notes new.endpoint × ReadsWhole old.endpoint words new.endpoint ×
     (new.outcome ≡ outcome_after notes old.outcome) × (after ≡ notes_crossed notes))
     ((new ≡ old) × (after ≡ before))
 
@@ -148,6 +156,13 @@ abbrev pub TellsStretches : Port → (before after : crossed.Stretches) → (roo
 TellsStretches port before after room filled = Where (stretches_answer (length room) port)
     ((stretches : Stretches) × (stretches_of port.endpoint ≡ Some stretches) × (after ≡ stretches_crossed stretches) × AreStretched port.endpoint stretches filled ×
     (drop (4 * words_of (Some stretches)) filled ≡ drop (4 * words_of (Some stretches)) room))
+    ((after ≡ before) × (filled ≡ room))
+
+-- the same words are told, and those behind the frame alone are put at the front of the room
+abbrev pub TellsTail : Port → (before after : crossed.Stretches) → (room filled : List ℕ) → Type 0
+TellsTail port before after room filled = Where (tail_answer (length room) port)
+    ((stretches : Stretches) × (stretches_of port.endpoint ≡ Some stretches) × (after ≡ stretches_crossed stretches) × AreBehind port.endpoint stretches filled ×
+    (drop 20 filled ≡ drop 20 room))
     ((after ≡ before) × (filled ≡ room))
 
 -- all of them are taken at once

@@ -1,5 +1,5 @@
 -- An end and the outcome of its last offer: what its calls do.
-use Rattle.std.specs.Prelude.{ℕ, ◌≡◌, ◌*◌, ◌↔◌, List, [], ◌∷◌, length, take, flat_map, true, not, IsTrue, Some}
+use Rattle.std.specs.Prelude.{ℕ, ◌≡◌, ◌*◌, ◌↔◌, List, [], ◌∷◌, ◌++◌, length, take, flat_map, true, not, IsTrue, Some, IfSome}
 use Rattle.link_handshake.specs.declared.Phase.TheVariants.{Run}
 use Rattle.split_ring.specs.declared.steps.Access.{Access}
 use Rattle.split_ring.specs.declared.steps.Access.TheVariants.{Nothing, Read, Write, State}
@@ -13,10 +13,10 @@ use Rattle.call_grammar.specs.StepBounds.{HasFewInFlight}
 use Rattle.call_grammar.specs.Words.{word_bytes}
 use Rattle.call_grammar.specs.Stretches.{Each, ReadsOn, WritesOn}
 use Rattle.tx_engine.specs.declared.ahead.Stretches.{Stretches}
-use Rattle.tx_engine.specs.Ahead.{words_of, listed, WritesAll}
+use Rattle.tx_engine.specs.Ahead.{words_of, listed, last_words, WritesAll}
 use Rattle.link_endpoint.specs.declared.place.Call.{Call}
 use Rattle.link_endpoint.specs.declared.place.Call.TheVariants.{Stop}
-use Rattle.link_endpoint.specs.Engine.{Engine, fresh_engine, engine_after_reset, is_busy, is_down, is_leaving, is_looking, is_tick, offered, delivered, call_of, comes_down, reads_ahead}
+use Rattle.link_endpoint.specs.Engine.{Engine, fresh_engine, engine_after_reset, is_busy, is_down, is_leaving, is_looking, is_tick, offered, delivered, call_of, comes_down, reads_ahead, frame_ahead}
 use Rattle.link_endpoint.specs.Stands.{StandsAt, Takes, Opens}
 use Rattle.link_endpoint.specs.declared.order.Ordering.{Ordering}
 use Rattle.link_endpoint.specs.Orders.{order_at}
@@ -68,9 +68,19 @@ abbrev pub AreStretched : Engine → Stretches → (bytes : List ℕ) → Type 0
 AreStretched engine stretches bytes = (who : Who) (end : End) (place : places.Place) → StandsAt engine who end place →
     WritesAll who place (listed stretches) (take (4 * words_of (Some stretches)) bytes)
 
+-- the first of these bytes are the words of the descriptor and of the entry, which are written next behind those of the frame: the last words of the frame
+-- that was offered
+abbrev pub AreBehind : Engine → Stretches → (bytes : List ℕ) → Type 0
+AreBehind engine stretches bytes = (who : Who) (end : End) (place : places.Place) → StandsAt engine who end place →
+    WritesAll who place (listed stretches) (last_words (offered engine) stretches.frame.count ++ take 20 bytes)
+
 -- steps of the open call at once, whose reads gave the words that these bytes spell, four each: as many single steps
 abbrev pub ReadsAtOnce : Engine → (bytes : List ℕ) → List Note → Engine → Type 0
 ReadsAtOnce old bytes notes new = (values : List ℕ) → bytes ≡ flat_map word_bytes values → Each IsTaken old values notes new
+
+-- where these are all the words of a frame, from its first one on, the frame delivered is their first bytes
+abbrev pub ReadsWhole : Engine → (bytes : List ℕ) → Engine → Type 0
+ReadsWhole old bytes new = IfSome (frame_ahead old) (λ size. length bytes ≡ 4 * reads_ahead old → delivered new ≡ take size bytes)
 
 -- so many steps of the open call at once, which write
 abbrev pub WritesAtOnce : Engine → (count : ℕ) → Engine → Type 0

@@ -3,7 +3,7 @@ ghost use Rattle.std.specs.Prelude.{◌≡◌, ◌*◌, ◌%◌, ◌<◌, ◌≤
 ghost use Rattle.split_ring.specs.Layout.{IsVersion};
 ghost use Rattle.tx_engine.specs.Ahead.{words_of};
 ghost use Rattle.link_endpoint.specs.Engine.{delivered, offered};
-ghost use Rattle.ivshm_c.specs.Answers.{begin_answer, offer_answer, step_answer, count_answer, bytes_answer, reads_answer, words_answer, writes_answer, stretches_answer, stretched_answer, frame_answer, BeginsAnswered, OffersAnswered, TellsNext, TakesAnswered, TakesWords, TellsWords, TakesWritten, TellsStretches, TakesStretches, CopiesFrame, IsNew, RefusesNew};
+ghost use Rattle.ivshm_c.specs.Answers.{begin_answer, offer_answer, step_answer, count_answer, bytes_answer, reads_answer, words_answer, writes_answer, stretches_answer, tail_answer, stretched_answer, frame_answer, BeginsAnswered, OffersAnswered, TellsNext, TakesAnswered, TakesWords, TellsWords, TakesWritten, TellsStretches, TellsTail, TakesStretches, CopiesFrame, IsNew, RefusesNew};
 
 use crate::crossing::{access_crossed, call_numbered, notes_crossed, stretches_crossed};
 use crate::device::{Found, sized};
@@ -227,6 +227,25 @@ fn bytes_of(stretches: &link_endpoint::Stretches) -> usize
 {
     let frame = stretches.frame.count as usize;
     4 * (frame + stretches.descriptor.count as usize + stretches.entry.count as usize)
+}
+
+/// Tells the same words, and puts those behind the frame alone at the front of the room.
+pub(crate) fn tail(port: &Port, told: &mut Stretches, room: &mut [u8]) -> Status
+    ensures answer { result ≡ tail_answer (length room.old) port.now }
+    ensures words { TellsTail port.now told.old told.new room.old room.new }
+{
+    if !port.endpoint.busy() {
+        return Status::NoCall;
+    }
+    let Some(stretches) = port.endpoint.stretches() else {
+        return Status::OtherAccess;
+    };
+    if room.len() < 20 {
+        return Status::ShortRoom;
+    }
+    port.endpoint.tail_words(&mut room[..20]);
+    *told = stretches_crossed(stretches);
+    Status::Done
 }
 
 /// Takes the steps of all these writes.

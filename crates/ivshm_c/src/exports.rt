@@ -4,11 +4,11 @@ ghost use Rattle.ivshm_c.specs.Statuses.{number_of};
 ghost use Rattle.ivshm_c.specs.declared.status.Status.{Status as Answer};
 ghost use Rattle.link_endpoint.specs.Engine.{delivered};
 ghost use Rattle.ivshm_c.specs.Crossing.{view_of};
-ghost use Rattle.ivshm_c.specs.Answers.{answer_at, Leads, begin_answer, offer_answer, again_answer, step_answer, reads_answer, words_answer, writes_answer, stretches_answer, stretched_answer, frame_answer, done_answer, BeginsAnswered, OffersAnswered, OffersAgain, TellsNext, TakesAnswered, TakesWords, TellsWords, TakesWritten, TellsStretches, TakesStretches, CopiesFrame, Renews, MakesAnswered};
+ghost use Rattle.ivshm_c.specs.Answers.{answer_at, Leads, begin_answer, offer_answer, again_answer, step_answer, reads_answer, words_answer, writes_answer, stretches_answer, tail_answer, stretched_answer, frame_answer, done_answer, BeginsAnswered, OffersAnswered, OffersAgain, TellsNext, TakesAnswered, TakesWords, TellsWords, TakesWritten, TellsStretches, TellsTail, TakesStretches, CopiesFrame, Renews, MakesAnswered};
 
 use crate::calls::{
-    begun, framed, made, next, offered, offered_again, stretches, took, took_stretches, took_words,
-    took_written, words,
+    begun, framed, made, next, offered, offered_again, stretches, tail, took, took_stretches,
+    took_words, took_written, words,
 };
 use crate::crossing::view_of;
 use crate::device::Found;
@@ -150,7 +150,7 @@ pub extern "C" fn ivshm_end_took(alloc: Global, end: &mut End, value: u32, notes
 }
 
 /// Takes some of the steps of the reads that `ivshm_end_next` told, 1 up to its `count`, at once: `words` has what each read gave as four
-/// bytes, the lowest first.
+/// bytes, the lowest first. Where these are all the words of a frame, the frame delivered is their first bytes.
 #[unsafe(no_mangle)]
 pub extern "C" fn ivshm_end_took_words(
     alloc: Global,
@@ -218,6 +218,28 @@ pub extern "C" fn ivshm_end_stretches(
         return Status::NoEnd.number();
     };
     let status = stretches(&port, told, room);
+    end.put(port);
+    status.number()
+}
+
+/// Tells the same three stretches. The words of the descriptor and of the entry alone stand at the front of `room` then, in 20 bytes: those of the
+/// frame are the last words of the frame that was offered, with 0 after its last byte.
+#[unsafe(no_mangle)]
+pub extern "C" fn ivshm_end_tail(
+    alloc: Global,
+    end: &mut End,
+    told: &mut Stretches,
+    room: &mut [u8],
+) -> u32
+    ensures answer { result ≡ number_of (answer_at end.old.port (tail_answer (length room.old))) }
+    ensures words { IfSome end.old.port (λ port. TellsTail port told.old told.new room.old room.new) }
+    ensures untouched { end.old.port ≡ None → (told.new ≡ told.old) × (room.new ≡ room.old) }
+    ensures kept { end.new.port ≡ end.old.port }
+{
+    let Some(port) = end.take(alloc) else {
+        return Status::NoEnd.number();
+    };
+    let status = tail(&port, told, room);
     end.put(port);
     status.number()
 }

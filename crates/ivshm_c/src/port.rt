@@ -3,7 +3,7 @@ ghost use Rattle.std.specs.Prelude.{◌≡◌, ℕ, ◌+◌, ◌*◌, ◌%◌, �
 ghost use Rattle.tx_engine.specs.Ahead.{words_of};
 ghost use Rattle.link_endpoint.specs.Engine.{is_busy, reads_ahead, writes_ahead, stretches_of, offered};
 ghost use Rattle.link_endpoint.specs.declared.place.Call.TheVariants.{Stop};
-ghost use Rattle.ivshm_c.specs.Ports.{Begins, Offers, Steps, ReadsAtOnce, WritesAtOnce, Restarts, outcome_after, outcome_cut, outcome_with, outcome_told, told_by};
+ghost use Rattle.ivshm_c.specs.Ports.{Begins, Offers, Steps, ReadsAtOnce, ReadsWhole, WritesAtOnce, Restarts, outcome_after, outcome_cut, outcome_with, outcome_told, told_by};
 
 use link_endpoint::{Call, Endpoint};
 use split_ring::steps::{Note, Notes};
@@ -93,6 +93,7 @@ impl Port {
         requires whole { length words.now % 4 ≡ 0 }
         requires within { length words.now ≤ 4 * reads_ahead self.old.endpoint }
         ensures steps { ReadsAtOnce self.old.endpoint words.now result.items self.new.endpoint }
+        ensures frame { ReadsWhole self.old.endpoint words.now self.new.endpoint }
         ensures outcome { self.new.outcome ≡ outcome_after result.items self.old.outcome }
     {
         let notes = self.endpoint.took_words(words);

@@ -4,8 +4,8 @@ ghost use Rattle.std.specs.Prelude.{◌≡◌};
 use crate::exports::{
     ivshm_end_begin, ivshm_end_frame, ivshm_end_free, ivshm_end_new, ivshm_end_new_version,
     ivshm_end_next, ivshm_end_offer, ivshm_end_offer_again, ivshm_end_reset, ivshm_end_stretches,
-    ivshm_end_took, ivshm_end_took_stretches, ivshm_end_took_words, ivshm_end_took_written,
-    ivshm_end_view, ivshm_end_words,
+    ivshm_end_tail, ivshm_end_took, ivshm_end_took_stretches, ivshm_end_took_words,
+    ivshm_end_took_written, ivshm_end_view, ivshm_end_words,
 };
 use crate::tables::{ivshm_layout, ivshm_limits, ivshm_walk};
 use crate::{Access, End, Found, Layout, Limits, Note, Notes, Stretch, Stretches, View};
@@ -209,6 +209,49 @@ fn an_offer_at_once(rt: HostRuntime) -> Result<(), Fail> {
     assert_eq!(rt; access.value, 65_536);
     assert_eq!(rt; access.order, 2);
     assert_eq!(rt; ivshm_end_took_stretches(alloc, &mut end), 26);
+    assert_eq!(rt; ivshm_end_free(alloc, &mut end), 0);
+    Ok(())
+}
+
+/// Of the same offer the words behind the frame are told alone, in 20 bytes, before and after the first word of the frame went by itself. No end,
+/// no call, another access and a room that is too short are answered so.
+#[test]
+fn an_offer_by_its_tail(rt: HostRuntime) -> Result<(), Fail> {
+    let alloc = rt.alloc();
+    let mut end = End::empty(alloc);
+    let mut notes = NO_NOTES;
+    let mut told = Stretches {
+        frame: NO_STRETCH,
+        descriptor: NO_STRETCH,
+        entry: NO_STRETCH,
+    };
+    let mut room = [9; 24];
+    let none = ivshm_end_tail(alloc, &mut end, &mut told, &mut room);
+    assert_eq!(rt; none, 1);
+    assert_eq!(rt; ivshm_end_new(alloc, &mut end, &FOUND, 2, 0, 256, 1), 0);
+    lead_to_run(alloc, &mut end);
+    let none = ivshm_end_tail(alloc, &mut end, &mut told, &mut room);
+    assert_eq!(rt; none, 4);
+    assert_eq!(rt; ivshm_end_offer(alloc, &mut end, &[7; 14]), 0);
+    let other = ivshm_end_tail(alloc, &mut end, &mut told, &mut room);
+    assert_eq!(rt; other, 26);
+    assert_eq!(rt; ivshm_end_took(alloc, &mut end, 0, &mut notes), 0);
+    let short = ivshm_end_tail(alloc, &mut end, &mut told, &mut room[..19]);
+    assert_eq!(rt; short, 9);
+    assert!(rt; room == [9; 24]);
+    let tail = [
+        0, 7, 0, 0, 0, 0, 0, 0, 14, 0, 0, 0, 0, 0, 0, 0, 0, 0, 0, 0, 9, 9, 9, 9,
+    ];
+    for at in 0..2 {
+        let done = ivshm_end_tail(alloc, &mut end, &mut told, &mut room);
+        assert_eq!(rt; done, 0);
+        assert_eq!(rt; told.frame.word, 1_472 + at);
+        assert_eq!(rt; told.frame.count, 4 - at);
+        assert_eq!(rt; told.descriptor.word, 1_024);
+        assert_eq!(rt; told.entry.word, 1_281);
+        assert!(rt; room == tail);
+        assert_eq!(rt; ivshm_end_took(alloc, &mut end, 0, &mut notes), 0);
+    }
     assert_eq!(rt; ivshm_end_free(alloc, &mut end), 0);
     Ok(())
 }

@@ -111,6 +111,14 @@ writes_ahead_at _ who tx rx = 0
 abbrev pub writes_ahead : Engine → ℕ
 writes_ahead e = writes_ahead_at e.place e.who e.sender e.receiver
 
+-- the bytes of a frame whose first word is read next
+abbrev pub frame_ahead_at : Place → Receiver → Option ℕ
+frame_ahead_at Polling rx = receiver.frame_ahead rx.place
+frame_ahead_at _ rx = None
+
+abbrev pub frame_ahead : Engine → Option ℕ
+frame_ahead e = frame_ahead_at e.place e.receiver
+
 -- the words that an offer writes before its index, where a word of its frame is next
 abbrev pub stretches_at : Place → Sender → Option Stretches
 stretches_at Offering tx = ahead.stretches_of tx

@@ -1,5 +1,5 @@
 //! One end of the link, which takes its calls step by step. It makes no access itself.
-ghost use Rattle.std.specs.Prelude.{◌≡◌, ℕ, ◌+◌, ◌*◌, ◌%◌, ◌<◌, ◌≤◌, ◌↔◌, not, is_some, None, List, [], ◌∷◌, true, false, IsTrue, IfOk, IfSome, length, flat_map};
+ghost use Rattle.std.specs.Prelude.{◌≡◌, ℕ, ◌+◌, ◌*◌, ◌%◌, ◌<◌, ◌≤◌, ◌↔◌, not, is_some, None, List, [], ◌∷◌, true, false, IsTrue, IfOk, IfSome, ◌++◌, length, take, flat_map};
 ghost use Rattle.link_handshake.specs.declared.Phase.TheVariants.{Run};
 ghost use Rattle.call_grammar.specs.Ends.{End, fresh, after_reset};
 ghost use Rattle.call_grammar.specs.Calls.{Who, Offer, in_run};
@@ -9,8 +9,8 @@ ghost use Rattle.call_grammar.specs.Ticks.{other_state};
 ghost use Rattle.call_grammar.specs.Stretches.{Each, ReadsOn, WritesOn};
 ghost use Rattle.call_grammar.specs.Words.{word_bytes};
 ghost use Rattle.call_grammar.specs.StepBounds.{HasFewInFlight};
-ghost use Rattle.tx_engine.specs.Ahead.{words_of, listed, WritesAll};
-ghost use Rattle.link_endpoint.specs.Engine.{who_of, fresh_engine, engine_after_reset, is_busy, is_down, is_leaving, is_looking, is_tick, offered, delivered, call_of, comes_down, refused_after, reads_ahead, writes_ahead, stretches_of};
+ghost use Rattle.tx_engine.specs.Ahead.{words_of, listed, last_words, WritesAll};
+ghost use Rattle.link_endpoint.specs.Engine.{who_of, fresh_engine, engine_after_reset, is_busy, is_down, is_leaving, is_looking, is_tick, offered, delivered, call_of, comes_down, refused_after, reads_ahead, frame_ahead, writes_ahead, stretches_of};
 ghost use Rattle.link_endpoint.specs.Stands.{StandsAt, is_armed, Takes, Opens};
 ghost use Rattle.link_endpoint.specs.Leaving.{Refuses, Leaves, KeepsRefused, Stays, KeepsAway};
 ghost use Rattle.link_endpoint.specs.Stretches.{IsTaken};
@@ -295,12 +295,14 @@ impl Endpoint {
 
     /// Takes some of the steps that `reads_ahead` tells at once: `words` has what each read gave as four bytes, the lowest first.
     ///
-    /// It is the same as `took` for each of these words in turn.
+    /// It is the same as `took` for each of these words in turn. Where these are all the words of a frame, the frame delivered is their first
+    /// bytes.
     pub fn took_words(&mut self, words: &[u8]) -> Notes
         requires some { 0 < length words.now }
         requires whole { length words.now % 4 ≡ 0 }
         requires within { length words.now ≤ 4 * reads_ahead self.old }
-        ensures { (values : List ℕ) → words.now ≡ flat_map word_bytes values → Each IsTaken self.old values result.items self.new }
+        ensures steps { (values : List ℕ) → words.now ≡ flat_map word_bytes values → Each IsTaken self.old values result.items self.new }
+        ensures frame { IfSome (frame_ahead self.old) (λ bytes. length words.now ≡ 4 * reads_ahead self.old → delivered self.new ≡ take bytes words.now) }
     {
         self.rx.took_words(words)
     }
@@ -370,6 +372,22 @@ impl Endpoint {
     {
         if let Place::Offering = self.place {
             self.tx.stretch_words(into);
+        }
+    }
+
+    /// Puts the words of the descriptor and of the entry that `stretches` tells into `into`, each as four bytes, the lowest first.
+    ///
+    /// The words of the frame are the last ones of `offered`, with 0 after its last byte: who has that frame writes them from there. Where no word
+    /// of a frame is next nothing is put.
+    pub fn tail_words(&self, into: &mut [u8])
+        requires sized { length into.old ≡ 20 }
+        ensures writes { (who : Who) (end : End) (place : places.Place) → StandsAt self.now who end place →
+            IfSome (stretches_of self.now) (λ stretches. WritesAll who place (listed stretches) (last_words (offered self.now) stretches.frame.count ++ into.new)) }
+        ensures untouched { stretches_of self.now ≡ None → into.new ≡ into.old }
+        ensures sized { length into.new ≡ length into.old }
+    {
+        if let Place::Offering = self.place {
+            self.tx.tail_words(into);
         }
     }
 

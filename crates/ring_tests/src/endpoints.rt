@@ -421,6 +421,9 @@ fn at_once(rt: &impl Abort, end: &mut Endpoint, told: Stretches, bytes: &[u8]) {
     let into = &mut room[..4 * count];
     end.stretch_words(into);
     assert!(rt; &*into == bytes);
+    let mut tail = [0xee; 20];
+    end.tail_words(&mut tail);
+    assert!(rt; bytes.ends_with(&tail));
     end.took_stretches();
     assert!(rt; end.stretches().is_none());
 }

@@ -1,5 +1,5 @@
 -- A receiver, as contracts see it.
-use Rattle.std.specs.Prelude.{ℕ, ◌≡◌, ◌-◌, ◌*◌, ◌<◌, ◌==◌, if◌then◌else◌, Bool, true, false, ◌&&◌, ◌||◌, not, List, []}
+use Rattle.std.specs.Prelude.{ℕ, zero, ◌≡◌, ◌-◌, ◌*◌, ◌<◌, ◌==◌, if◌then◌else◌, Bool, true, false, ◌&&◌, ◌||◌, not, Option, Some, None, List, []}
 use Rattle.split_ring.specs.Layout.{Sizes, has_events}
 use Rattle.split_ring.specs.Ranges.{IsAvailEntry, IsDescAddress, IsDescLength}
 use Rattle.call_grammar.specs.Words.{words_for}
@@ -65,6 +65,11 @@ words_read _ = 0
 abbrev pub reads_ahead : Place → ℕ
 reads_ahead (AtWord more entry address bytes at) = words_for bytes - at
 reads_ahead _ = 0
+
+-- the bytes of a frame whose first word is read next
+abbrev pub frame_ahead : Place → Option ℕ
+frame_ahead (AtWord more entry address bytes zero) = Some bytes
+frame_ahead _ = None
 
 -- how many of the coming accesses write the two words of a used element
 abbrev pub writes_ahead : Place → ℕ

@@ -1,5 +1,5 @@
 //! The receiver.
-ghost use Rattle.std.specs.Prelude.{ℕ, ◌≡◌, ◌+◌, ◌-◌, ◌*◌, ◌%◌, ◌≤◌, ◌<◌, ◌^◌, ◌⊎◌, List, [], ◌∷◌, ◌++◌, true, false, IfOk, option_to_list, min, length, take, flat_map};
+ghost use Rattle.std.specs.Prelude.{ℕ, ◌≡◌, ◌+◌, ◌-◌, ◌*◌, ◌%◌, ◌≤◌, ◌<◌, ◌^◌, ◌⊎◌, List, [], ◌∷◌, ◌++◌, true, false, IfOk, IfSome, option_to_list, min, length, take, flat_map};
 ghost use Rattle.link_handshake.specs.declared.Phase.TheVariants.{Run};
 ghost use Rattle.split_ring.specs.Spelling.{entry_half};
 ghost use Rattle.call_grammar.specs.Ends.{End};
@@ -10,7 +10,7 @@ ghost use Rattle.call_grammar.specs.Stretches.{Each, ReadsOn, WritesOn};
 ghost use Rattle.call_grammar.specs.Orders.{word_kind};
 ghost use Rattle.call_grammar.specs.Places as laws;
 ghost use Rattle.call_grammar.specs.Reach.{HasSections, InReach};
-ghost use Rattle.rx_engine.specs.Receiver.{fresh_receiver, renewed, is_last, is_armed, is_busy, reads_ahead, writes_ahead, given, words_read, IsReached, KeepsNumbers};
+ghost use Rattle.rx_engine.specs.Receiver.{fresh_receiver, renewed, is_last, is_armed, is_busy, reads_ahead, frame_ahead, writes_ahead, given, words_read, IsReached, KeepsNumbers};
 ghost use Rattle.rx_engine.specs.Stands.{IsMadeFor, IsFreshSession, StandsAt, Takes, TakesOn, ClosedStays};
 
 use crate::place::Place;
@@ -266,12 +266,14 @@ impl Rx {
 
     /// Takes some of the steps that `reads_ahead` tells at once: each word that they read is in `words` by its four bytes, the lowest first.
     ///
-    /// It is the same as `took` for each of these words in turn.
+    /// It is the same as `took` for each of these words in turn. Where these are all the words of a frame, the frame delivered is their first
+    /// bytes.
     pub fn took_words(&mut self, words: &[u8]) -> Notes
         requires some { 0 < length words.now }
         requires whole { length words.now % 4 ≡ 0 }
         requires within { length words.now ≤ 4 * reads_ahead self.old.place }
         ensures steps { (values : List ℕ) → words.now ≡ flat_map word_bytes values → Each TakesOn self.old values result.items self.new }
+        ensures frame { IfSome (frame_ahead self.old.place) (λ bytes. length words.now ≡ 4 * reads_ahead self.old.place → self.new.frame ≡ take bytes words.now) }
         ensures notes { (result.items ≡ []) ⊎ (result.items ≡ Note.Deliver ∷ []) }
         ensures kept { KeepsNumbers self.old self.new }
     {
@@ -494,6 +496,7 @@ impl Rx {
         requires whole { length words.now % 4 ≡ 0 }
         requires within { length words.now ≤ 4 * (words_for bytes - at) }
         ensures steps { (values : List ℕ) → words.now ≡ flat_map word_bytes values → Each TakesOn self.old values result.items self.new }
+        ensures frame { at ≡ 0 → length words.now ≡ 4 * words_for bytes → self.new.frame ≡ take bytes words.now }
         ensures notes { (result.items ≡ []) ⊎ (result.items ≡ Note.Deliver ∷ []) }
         ensures kept { KeepsNumbers self.old self.new }
     {

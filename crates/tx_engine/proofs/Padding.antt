@@ -1,7 +1,9 @@
 -- Words of bytes with 0 after the last.
-use Rattle.std.proofs.Common.{◌≡◌, ℕ, zero, suc, ◌+◌, ◌-◌, ◌*◌, ◌≤◌, List, [], ◌∷◌, ◌++◌, take, drop, replicate, refl, sym, ap, ◌∙◌, arith}
-use Rattle.std.proofs.lemmas.List.{drop-take, take-take, drop-drop}
+use Rattle.std.proofs.Common.{◌≡◌, ℕ, zero, suc, ◌+◌, ◌-◌, ◌*◌, ◌≤◌, List, [], ◌∷◌, ◌++◌, length, take, drop, replicate, refl, sym, ap, ◌∙◌, arith}
+use Rattle.std.proofs.lemmas.List.{drop-take, take-take, drop-drop, length-append, length-drop, length-replicate}
 use Rattle.ivs_base.specs.Numbers.{word_of}
+use Rattle.call_grammar.specs.Words.{words_for, frame_word}
+use Rattle.tx_engine.specs.Ahead.{last_words}
 
 zeros : (count some : ℕ) → word_of (take count (replicate some 0)) ≡ 0
 zeros zero some = refl
@@ -42,3 +44,22 @@ padded_word bytes n some at j within =
     let place : 4 * at + 4 * j ≡ 4 * (at + j) = omega arith in
     padded 4 (4 * j) some (take n (drop (4 * at) bytes)) ∙ ap word_of (first_word (drop (4 * at) bytes) n (4 * j) within)
     ∙ ap (λ b. word_of (take 4 b)) (drop-drop (4 * j) (4 * at) bytes) ∙ ap (λ n. word_of (take 4 (drop n bytes))) place
+
+-- word j of the bytes from word `at` on, with 0 after the last byte of all
+pub padded_tail : (bytes : List ℕ) (some at j : ℕ) → word_of (take 4 (drop (4 * j) (drop (4 * at) (bytes ++ replicate some 0)))) ≡ word_of (take 4 (drop (4 * (at + j)) bytes))
+padded_tail bytes some at j =
+    let place : 4 * at + 4 * j ≡ 4 * (at + j) = omega arith in
+    ap (λ b. word_of (take 4 b)) (drop-drop (4 * j) (4 * at) (bytes ++ replicate some 0)) ∙ ap (λ n. word_of (take 4 (drop n (bytes ++ replicate some 0)))) place
+    ∙ padded 4 (4 * (at + j)) some bytes
+
+-- the last words of a frame: their bytes, and each of them
+pub last_sized : (frame : List ℕ) (count : ℕ) → count ≤ words_for (length frame) → length (last_words frame count) ≡ 4 * count
+last_sized frame count few =
+    let some = 4 * words_for (length frame) - length frame in
+    length-drop (4 * (words_for (length frame) - count)) (frame ++ replicate some 0) ∙ omega (arith, length-append frame (replicate some 0), length-replicate {A = ℕ} some 0, few)
+
+pub last_word : (frame : List ℕ) (at count j : ℕ) → at + count ≡ words_for (length frame) → word_of (take 4 (drop (4 * j) (last_words frame count))) ≡ frame_word frame (at + j)
+last_word frame at count j whole =
+    let some = 4 * words_for (length frame) - length frame in
+    let here : words_for (length frame) - count ≡ at = omega (arith, whole) in
+    ap (λ n. word_of (take 4 (drop (4 * j) (drop (4 * n) (frame ++ replicate some 0))))) here ∙ padded_tail frame some at j

@@ -1,9 +1,10 @@
 -- All that an offer writes before its index, from a word of its frame on: what is left of the frame, its descriptor and its entry.
-use Rattle.std.specs.Prelude.{ℕ, ◌≡◌, ◌+◌, ◌*◌, ◌/◌, ◌%◌, Option, Some, None, List, [], ◌∷◌, ◌++◌, length}
+use Rattle.std.specs.Prelude.{ℕ, ◌≡◌, ◌+◌, ◌-◌, ◌*◌, ◌/◌, ◌%◌, Option, Some, None, List, [], ◌∷◌, ◌++◌, length, drop, replicate}
 use Rattle.split_ring.specs.Layout.{size_of, word_place, Address, Entry}
 use Rattle.call_grammar.specs.Ticks.{Who}
 use Rattle.call_grammar.specs.Places as laws
 use Rattle.call_grammar.specs.Stretches.{WritesOn, place_after}
+use Rattle.call_grammar.specs.Words.{words_for}
 use Rattle.tx_engine.specs.declared.ahead.Stretch.{Stretch}
 use Rattle.tx_engine.specs.declared.ahead.Stretches.{Stretches}
 use Rattle.tx_engine.specs.declared.place.Place.{Place}
@@ -38,3 +39,7 @@ WritesAll who place [] bytes = bytes ≡ []
 WritesAll who place (stretch ∷ more) bytes =
     (first : List ℕ) × (rest : List ℕ) × (bytes ≡ first ++ rest) × (length first ≡ 4 * stretch.count) × WritesOn who place stretch.word first ×
     ((values : List ℕ) → length values ≡ stretch.count → WritesAll who (place_after who place values) more rest)
+
+-- the last words of a frame, so many, as four bytes each: 0 after its last byte
+abbrev pub last_words : (frame : List ℕ) → (count : ℕ) → List ℕ
+last_words frame count = drop (4 * (words_for (length frame) - count)) (frame ++ replicate (4 * words_for (length frame) - length frame) 0)

@@ -1,5 +1,5 @@
 //! The sender of an end.
-ghost use Rattle.std.specs.Prelude.{◌≡◌, ℕ, ◌+◌, ◌-◌, ◌*◌, ◌%◌, ◌<◌, ◌≤◌, ◌^◌, IfOk, IfSome, true, false, List, [], ◌∷◌, ◌++◌, length, take, replicate};
+ghost use Rattle.std.specs.Prelude.{◌≡◌, ℕ, ◌+◌, ◌-◌, ◌*◌, ◌%◌, ◌<◌, ◌≤◌, ◌^◌, IfOk, IfSome, None, true, false, List, [], ◌∷◌, ◌++◌, length, take, replicate};
 ghost use Rattle.split_ring.specs.Layout.{size_of, limit_of};
 ghost use Rattle.call_grammar.specs.Ends.{End};
 ghost use Rattle.call_grammar.specs.Ticks.{Who};
@@ -11,7 +11,7 @@ ghost use Rattle.call_grammar.specs.Stretches.{Each, WritesOn};
 ghost use Rattle.call_grammar.specs.Orders.{word_kind};
 ghost use Rattle.link_handshake.specs.declared.Phase.TheVariants.{Run};
 ghost use Rattle.tx_engine.specs.Sender.{IsSender, fresh_sender, is_open, writes_ahead, IsFrame, IsPlace, IsInReach, entry_word_of};
-ghost use Rattle.tx_engine.specs.Ahead.{stretches_of, words_of, listed, WritesAll};
+ghost use Rattle.tx_engine.specs.Ahead.{stretches_of, words_of, listed, last_words, WritesAll};
 ghost use Rattle.tx_engine.specs.Stands.{StandsAt, Takes, TakesOn, IsMadeFor, IsFreshSession, ClosedStays};
 
 use crate::ahead::{Stretch, Stretches};
@@ -296,6 +296,24 @@ impl Tx {
         );
     }
 
+    /// Puts the words of the descriptor and of the entry that `stretches` tells into `into`, each as its four bytes, the lowest first.
+    ///
+    /// The words of the frame are the last ones of the frame that was offered, with 0 after its last byte: who has that frame writes them from
+    /// there. Where no word of the frame is next nothing is put.
+    pub fn tail_words(&self, into: &mut [u8])
+        requires sized { length into.old ≡ 20 }
+        ensures writes { (who : Who) (end : End) (place : laws.Place) → StandsAt self.now who end place →
+            IfSome (stretches_of self.now) (λ stretches. WritesAll who place (listed stretches) (last_words self.now.frame stretches.frame.count ++ into.new)) }
+        ensures untouched { stretches_of self.now ≡ None → into.new ≡ into.old }
+        ensures sized { length into.new ≡ length into.old }
+    {
+        let Place::Filling { slot, .. } = self.place else {
+            return;
+        };
+        let entry = self.entry_word(slot.descriptor);
+        put_tail(into, slot.address, self.length, entry);
+    }
+
     /// Takes the steps of all the writes that `stretches` tells at once. It is the same as `took` so many times.
     pub fn took_stretches(&mut self)
         requires { 0 < words_of (stretches_of self.old) }
@@ -540,17 +558,25 @@ fn put_word(into: &mut [u8], word: u32)
     into.copy_from_slice(&word.to_le_bytes());
 }
 
+/// Puts the words of a descriptor and that of an entry, one behind the other.
+fn put_tail(into: &mut [u8], address: u32, bytes: u32, entry: u32)
+    requires { length into.old ≡ 20 }
+    ensures { into.new ≡ (word_bytes address ++ (word_bytes 0 ++ (word_bytes bytes ++ word_bytes 0))) ++ word_bytes entry }
+{
+    let (descriptor, last) = into.split_at_mut(16);
+    put_descriptor(descriptor, address, bytes);
+    put_word(last, entry);
+}
+
 /// Puts the words of a frame, with 0 after its last byte, those of its descriptor and that of its entry, one behind the other.
 fn put_all(into: &mut [u8], frame: &[u8], address: u32, bytes: u32, entry: u32)
     requires { 20 ≤ length into.old }
     ensures { into.new ≡ (take (length into.old - 20) frame.now ++ replicate (length into.old - 20 - length frame.now) 0) ++
         ((word_bytes address ++ (word_bytes 0 ++ (word_bytes bytes ++ word_bytes 0))) ++ word_bytes entry) }
 {
-    let (front, rest) = into.split_at_mut(into.len() - 20);
-    let (descriptor, last) = rest.split_at_mut(16);
+    let (front, tail) = into.split_at_mut(into.len() - 20);
     copy_padded(front, frame);
-    put_descriptor(descriptor, address, bytes);
-    put_word(last, entry);
+    put_tail(tail, address, bytes, entry);
 }
 
 /// Law: a closed sender stands for an end as long as its session goes on: Ticks, Stops and Polls change nothing of it.

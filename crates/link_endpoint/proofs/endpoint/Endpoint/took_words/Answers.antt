@@ -1,11 +1,11 @@
-use Rattle.std.proofs.Common.{◌≡◌, ◌<◌, ℕ, List, ap, sym, refl, arith}
+use Rattle.std.proofs.Common.{◌≡◌, ◌*◌, ◌<◌, ℕ, List, length, take, ap, sym, refl, subst, arith, IfSome}
 use Rattle.std.specs.List.{flat_map}
 use Rattle.call_grammar.specs.Stretches.{Each}
 use Rattle.call_grammar.specs.Words.{word_bytes}
 use Rattle.call_grammar.proofs.Spelled.{spelled}
 use Rattle.link_endpoint.specs.declared.place.Place.{Place}
 use Rattle.link_endpoint.specs.declared.place.Place.TheVariants.{Closed, Looking, Clearing, Setting, Refusing, Downed, Offering, Polling}
-use Rattle.link_endpoint.specs.Engine.{reads_ahead_at, reads_ahead}
+use Rattle.link_endpoint.specs.Engine.{Engine, reads_ahead_at, reads_ahead, frame_ahead_at, frame_ahead}
 use Rattle.link_endpoint.specs.Kept.{seen}
 use Rattle.link_endpoint.specs.Stretches.{IsTaken}
 use Rattle.rx_engine.specs.Receiver.{Receiver}
@@ -22,15 +22,27 @@ polls Downed rx some = absurd (omega (arith, some))
 polls Offering rx some = absurd (omega (arith, some))
 polls Polling rx some = refl
 
+-- a poll is open
+here : (c : goal.After-took_words) → c.self.inside.place ≡ Polling
+here c =
+    let ahead : reads_ahead c.args.self.now ≡ reads_ahead_at c.self.inside.place c.self.inside.rx = ap reads_ahead (sym c.self.view_is) in
+    polls c.self.inside.place c.self.inside.rx (omega (arith, ahead, c.requires.some, c.requires.within))
+
 steps : (c : goal.After-took_words) (values : List ℕ) → c.args.words.now ≡ flat_map word_bytes values → Each IsTaken (seen c.self.inside) values c.took_words.result.items (seen (record (c.self.inside) { rx = c.took_words.new.self }))
 steps c values words_are =
     let kept = c.self.invariant in
-    let ahead : reads_ahead c.args.self.now ≡ reads_ahead_at c.self.inside.place c.self.inside.rx = ap reads_ahead (sym c.self.view_is) in
-    let here = polls c.self.inside.place c.self.inside.rx (omega (arith, ahead, c.requires.some, c.requires.within)) in
-    polls_on (seen c.self.inside) values c.took_words.result.items c.took_words.new.self (seen c.self.inside).who kept.end kept.at here (c.took_words.ensures.steps values words_are) kept.stands (none_refused _ c.took_words.ensures.notes)
+    polls_on (seen c.self.inside) values c.took_words.result.items c.took_words.new.self (seen c.self.inside).who kept.end kept.at (here c) (c.took_words.ensures.steps values words_are) kept.stands (none_refused _ c.took_words.ensures.notes)
 
-pub returns : goal.returns
-returns c = λ values words_are. rw (← c.self.view_is) (steps c values words_are)
+pub returns-clause-steps : goal.returns-clause-steps
+returns-clause-steps c = λ values words_are. rw (← c.self.view_is) (steps c values words_are)
+
+pub returns-clause-frame : goal.returns-clause-frame
+returns-clause-frame c =
+    let rx = c.self.inside.rx in
+    let words = c.args.words.now in
+    let frame = c.took_words.new.self.frame in
+    subst (λ (e : Engine). IfSome (frame_ahead e) (λ n. length words ≡ 4 * reads_ahead e → frame ≡ take n words)) c.self.view_is
+    (subst (λ p. IfSome (frame_ahead_at p rx) (λ n. length words ≡ 4 * reads_ahead_at p rx → frame ≡ take n words)) (sym (here c)) c.took_words.ensures.frame)
 
 pub invariant_of-self : goal.invariant_of-self
 invariant_of-self c =

@@ -1,4 +1,4 @@
-use Rattle.std.proofs.Common.{◌≡◌, ◌+◌, ◌-◌, ◌*◌, ◌++◌, length, take, min, ap, arith, ◌∙◌, sym}
+use Rattle.std.proofs.Common.{◌≡◌, ◌+◌, ◌-◌, ◌*◌, [], ◌++◌, length, take, min, ap, arith, ◌∙◌, sym}
 use Rattle.std.proofs.lemmas.Grind.{common_steps}
 use Rattle.std.proofs.lemmas.List.{take_all}
 use Rattle.std.specs.List.{flat_map}
@@ -30,3 +30,15 @@ returns-clause-steps c = λ values words_are.
     let gathered : take (4 * (c.args.at + length values)) c.put_words.new.buffer ≡ c.args.self.now.gathered ++ flat_map word_bytes values =
     ap (λ n. take n c.put_words.new.buffer) (sym some) ∙ c.put_words.ensures ∙ ap (λ f. f ++ take (c.args.bytes - 4 * c.args.at) c.args.words.now) front ∙ ap (λ w. c.args.self.now.gathered ++ w) (whole ∙ words_are) in
     words_go _ _ _ c.args.more c.args.entry c.args.address c.args.bytes c.args.at values c.requires.place (omega (arith, c.requires.some)) (omega (arith, c.if-last.false)) (grind (arith, common_steps)) c.new.ensures
+
+pub returns-then-last-clause-frame : goal.returns-then-last-clause-frame
+returns-then-last-clause-frame c = λ first whole.
+    let all : min c.args.bytes (4 * c.args.at + length c.args.words.now) ≡ c.args.bytes = omega (arith, c.if-last.true) in
+    let none : take (4 * c.args.at) c.deref_mut.result.now ≡ [] = ap (λ n. take (4 * n) c.deref_mut.result.now) first in
+    let rest : c.args.bytes - 4 * c.args.at ≡ c.args.bytes = omega (arith, first) in
+    let frame : take c.args.bytes c.put_words.new.buffer ≡ take c.args.bytes c.args.words.now =
+    ap (λ n. take n c.put_words.new.buffer) (sym all) ∙ c.put_words.ensures ∙ ap (λ f. f ++ take (c.args.bytes - 4 * c.args.at) c.args.words.now) none ∙ ap (λ n. take n c.args.words.now) rest in
+    grind (arith, common_steps)
+
+pub returns-clause-frame : goal.returns-clause-frame
+returns-clause-frame c = λ first whole. absurd (omega (arith, first, whole, c.if-last.false))

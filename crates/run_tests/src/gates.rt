@@ -1,10 +1,21 @@
-//! Gates for tests: they hold running peers beside one another, or count what is called. A gate spins, for a bounded time, and never
-//! waits; where its spins are spent it opens for good, and says so.
+//! Gates for tests: they hold running peers beside one another, or count what is called. A gate spins, for a bounded time, and lets other
+//! threads run as it does; where its spins are spent it opens for good, and says so.
 use peer_runner::Gate;
 use std::sync::atomic::{AtomicU64, Ordering};
+use std::thread::yield_now;
 
 /// The most spins of one call.
 const SPINS: u32 = 100_000_000;
+
+/// So many spins follow each other at once; then another thread runs between two of them, since the other peer may wait for this processor.
+const SPINS_AT_ONCE: u32 = 1_000;
+
+/// Between two looks of a held call.
+fn pause(spin: u32) {
+    if spin >= SPINS_AT_ONCE {
+        yield_now();
+    }
+}
 
 /// The number of a peer that isn't one of the two.
 fn other(peer: u32) -> u32 {
@@ -68,11 +79,12 @@ impl Near {
 impl Gate for Near {
     fn pass(&self, peer: u32, turn: u64) {
         self.turns.set(peer, turn);
-        for _ in 0..SPINS {
+        for spin in 0..SPINS {
             let is_near = turn <= self.turns.get(other(peer)).saturating_add(self.span);
             if is_near || self.ended.get(other(peer)) != 0 || self.is_spent() {
                 return;
             }
+            pause(spin);
         }
         self.spent.store(1, Ordering::SeqCst);
     }
@@ -109,10 +121,11 @@ impl Gate for Meeting {
             return;
         }
         self.called.set(peer, 1);
-        for _ in 0..SPINS {
+        for spin in 0..SPINS {
             if self.called.get(other(peer)) != 0 || self.spent.load(Ordering::SeqCst) != 0 {
                 return;
             }
+            pause(spin);
         }
         self.spent.store(1, Ordering::SeqCst);
     }
@@ -149,12 +162,13 @@ impl Gate for Assembly {
             return;
         }
         self.called.fetch_add(1, Ordering::SeqCst);
-        for _ in 0..SPINS {
+        for spin in 0..SPINS {
             if self.called.load(Ordering::SeqCst) >= self.peers
                 || self.spent.load(Ordering::SeqCst) != 0
             {
                 return;
             }
+            pause(spin);
         }
         self.spent.store(1, Ordering::SeqCst);
     }

@@ -10,10 +10,20 @@ use std::alloc::Global;
 use std::sync::atomic::AtomicU64;
 use std::sync::atomic::Ordering::SeqCst;
 use std::test::Fail;
-use std::thread::Threads;
+use std::thread::{Threads, yield_now};
 
-/// How often a peer looks for the other one's turns before the gate opens for good.
+/// How often a held call looks for the other peer before the gate opens for good.
 pub(crate) const SPINS: u64 = 100_000_000;
+
+/// So many looks follow each other at once; then another thread runs between two of them, since the other peer may wait for this processor.
+const LOOKS_AT_ONCE: u64 = 1_000;
+
+/// Between two looks of a held call.
+pub(crate) fn spin(look: u64) {
+    if look >= LOOKS_AT_ONCE {
+        yield_now();
+    }
+}
 
 /// Holds peers 0 and 1 within so many turns of each other until one has ended, and counts its calls for them.
 #[derive(Drop)]
@@ -55,10 +65,11 @@ impl Gate for Lockstep {
         }
         let (own, other) = if peer == 0 { (0, 1) } else { (1, 0) };
         self.passed[own].fetch_add(1, SeqCst);
-        for _ in 0..SPINS {
+        for look in 0..SPINS {
             if self.is_open(turn, other) {
                 return;
             }
+            spin(look);
         }
         self.opened.store(1, SeqCst);
     }
@@ -93,10 +104,11 @@ impl Gate for After {
         if peer == self.first {
             return;
         }
-        for _ in 0..SPINS {
+        for look in 0..SPINS {
             if self.ended.load(SeqCst) > 0 {
                 return;
             }
+            spin(look);
         }
     }
 
@@ -152,7 +164,7 @@ impl Gate for Relay {
         let (own, other) = if peer == 0 { (0, 1) } else { (1, 0) };
         self.begun[own].store(turn, SeqCst);
         let due = self.due(peer, turn);
-        for _ in 0..SPINS {
+        for look in 0..SPINS {
             if due < self.begun[other].load(SeqCst)
                 || due == 0
                 || self.ended[other].load(SeqCst) > 0
@@ -160,6 +172,7 @@ impl Gate for Relay {
             {
                 return;
             }
+            spin(look);
         }
         self.opened.store(1, SeqCst);
     }

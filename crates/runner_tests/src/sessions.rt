@@ -1,5 +1,5 @@
 //! Peers that are reset as they run, and the sessions that they number and carry.
-use crate::runs::{Lockstep, SPINS, run};
+use crate::runs::{Lockstep, SPINS, run, spin};
 use ivs_base::Frame;
 use lawful_history::Line;
 use peer_runner::{Gate, OpenGate};
@@ -219,10 +219,11 @@ impl Gate for Meeting {
         }
         let (own, other) = if peer == 0 { (0, 1) } else { (1, 0) };
         self.come[own].store(1, SeqCst);
-        for _ in 0..SPINS {
+        for look in 0..SPINS {
             if self.come[other].load(SeqCst) > 0 {
                 return;
             }
+            spin(look);
         }
         self.missed.store(1, SeqCst);
     }

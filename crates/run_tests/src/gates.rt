@@ -8,7 +8,7 @@ use std::thread::yield_now;
 const SPINS: u32 = 100_000_000;
 
 /// So many spins follow each other at once; then another thread runs between two of them, since the other peer may wait for this processor.
-const SPINS_AT_ONCE: u32 = 1_000;
+const SPINS_AT_ONCE: u32 = 100_000;
 
 /// Between two looks of a held call.
 fn pause(spin: u32) {

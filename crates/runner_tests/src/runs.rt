@@ -16,7 +16,7 @@ use std::thread::{Threads, yield_now};
 pub(crate) const SPINS: u64 = 100_000_000;
 
 /// So many looks follow each other at once; then another thread runs between two of them, since the other peer may wait for this processor.
-const LOOKS_AT_ONCE: u64 = 1_000;
+const LOOKS_AT_ONCE: u64 = 100_000;
 
 /// Between two looks of a held call.
 pub(crate) fn spin(look: u64) {

@@ -291,7 +291,7 @@ fn fifty_resets_beside_a_steady_peer(rt: HostRuntime) -> Result<(), Fail> {
     let [first, second] = fifty_resets(&rt, alloc, &near)?;
     assert!(rt; near.was_kept());
     assert!(rt; first >= 10 && second >= 10, "{first} {second}");
-    let both = MeetingLockstep::new(64);
+    let both = MeetingLockstep::new(1_024);
     let [first, second] = fifty_resets(&rt, alloc, &both)?;
     assert!(rt; both.was_kept());
     assert!(rt; first >= 10 && second >= 10, "{first} {second}");

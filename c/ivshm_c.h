@@ -291,8 +291,9 @@ uint32_t ivshm_end_took(ivshm_end *end, uint32_t value, ivshm_notes *notes);
  * them at once, or some, or go on by single steps: it is the same. Each word is still read once, into memory of your own, and written once. */
 
 /* Takes the steps of size / 4 reads: `words` has what each gave, as four bytes, the lowest first. The notes are those of the last.
- * Where the access before was no read with a count, the first word of a frame is read next, and `count` is all its words: handed over at once, they
- * begin with the frame, as long as ivshm_end_view then says in `delivered`. So it need not be copied out by ivshm_end_frame.
+ * Where a read with a count is told, and the access before, the last of a descriptor, was none, it is that of the first word of a frame, and `count` is all
+ * its words. Where these are handed over at once, the first view.delivered bytes of them (ivshm_end_view) are the frame that is delivered, and
+ * ivshm_end_frame need not be called.
  * IVSHM_DONE; or the end and the notes are as they were: IVSHM_NO_END, IVSHM_NO_CALL, IVSHM_OTHER_ACCESS, IVSHM_BAD_COUNT. */
 uint32_t ivshm_end_took_words(ivshm_end *end, const uint8_t *words, size_t size, ivshm_notes *notes);
 

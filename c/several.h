@@ -31,7 +31,8 @@ struct sections {
     ivshm_stretch made[3];            /* which words of the region were read or written at once: the last stretches may have none */
     const uint8_t *offered;           /* the frame of the open offer, which stays as it is until the offer is over */
     size_t offered_length;
-    bool reading, whole;              /* words of a frame were read by the step before; the room has all words of the frame that was read last */
+    uint32_t left;                    /* words that were left of the frame whose words were read at once last */
+    bool whole;                       /* the room has all words of the frame that was delivered just now */
 };
 
 /* The words of the sections by the region's numbers, as peer `me` has them; where they are mapped is left to the caller. */
@@ -97,12 +98,22 @@ static inline uint32_t make_offer(ivshm_end *end, struct sections *s, ivshm_note
     return s->made[0].count + 5;
 }
 
-/* The accesses that the library tells at once, where there are several; `first`: no word of the frame was read before. */
-static inline uint32_t make_several(ivshm_end *end, struct sections *s, const ivshm_access *access, ivshm_notes *notes, bool first) {
+/* Takes the reads of so many words. A read that leaves none of a frame, and finds none left of one, is that of a whole frame. */
+static inline void take_words(ivshm_end *end, struct sections *s, uint32_t at, uint32_t count, uint32_t ahead, ivshm_notes *notes) {
+    copy_out(s->room, &s->read[at], count);
+    must(ivshm_end_took_words(end, (const uint8_t *)s->room, 4 * (size_t)count, notes), "took_words");
+    s->whole = s->left == 0 && count == ahead;
+    s->left = ahead - count;
+}
+
+/* The accesses that the library tells at once, where there are several. */
+static inline uint32_t make_several(ivshm_end *end, struct sections *s, const ivshm_access *access, ivshm_notes *notes) {
     bool reads = access->kind == IVSHM_READ;
     uint32_t at = access->word - (reads ? s->theirs : s->own), count = access->count < AT_ONCE ? access->count : AT_ONCE;
-    if (at >= s->words || s->words - at < count) return 0;
-    size_t bytes = 4 * (size_t)count;
+    if (at >= s->words || s->words - at < count) {
+        s->left = 1; /* if it reads, the words behind it aren't a whole frame */
+        return 0;
+    }
     if (!reads && at >= s->data) {
         uint32_t made = make_offer(end, s, notes);
         if (made > 0) return made;
@@ -110,11 +121,9 @@ static inline uint32_t make_several(ivshm_end *end, struct sections *s, const iv
     s->made[0] = (ivshm_stretch){access->word, count};
     s->made[1].count = s->made[2].count = 0;
     if (reads) {
-        copy_out(s->room, &s->read[at], count);
-        must(ivshm_end_took_words(end, (const uint8_t *)s->room, bytes, notes), "took_words");
-        s->whole = first && count == access->count;
+        take_words(end, s, at, count, access->count, notes);
     } else {
-        must(ivshm_end_words(end, (uint8_t *)s->room, bytes), "words");
+        must(ivshm_end_words(end, (uint8_t *)s->room, 4 * (size_t)count), "words");
         copy_in(&s->written[at], (const uint8_t *)s->room, count);
         must(ivshm_end_took_written(end, count), "took_written");
         notes->count = 0;
@@ -126,10 +135,9 @@ static inline uint32_t make_several(ivshm_end *end, struct sections *s, const iv
  * these are in `made`. 0: the access is to be made by itself, since it is alone, or isn't in the section that it is of. It is asked before each
  * access of the end. */
 static inline uint32_t several(ivshm_end *end, struct sections *s, const ivshm_access *access, ivshm_notes *notes) {
-    bool first = !s->reading;
-    s->reading = access->kind == IVSHM_READ && access->count > 0;
+    if (access->count == 0) return 0;
     s->whole = false;
-    return access->count < 2 ? 0 : make_several(end, s, access, notes, first);
+    return access->count < 2 ? 0 : make_several(end, s, access, notes);
 }
 
 /* The frame delivered by the last step, and its length: in the room where all its words were read at once, else copied to `into`, which has room for the

@@ -236,8 +236,10 @@ fn an_offer_by_its_tail(rt: HostRuntime) -> Result<(), Fail> {
     let other = ivshm_end_tail(alloc, &mut end, &mut told, &mut room);
     assert_eq!(rt; other, 26);
     assert_eq!(rt; ivshm_end_took(alloc, &mut end, 0, &mut notes), 0);
-    let short = ivshm_end_tail(alloc, &mut end, &mut told, &mut room[..19]);
+    let mut small = [9; 19];
+    let short = ivshm_end_tail(alloc, &mut end, &mut told, &mut small);
     assert_eq!(rt; short, 9);
+    assert!(rt; small == [9; 19]);
     assert!(rt; room == [9; 24]);
     let tail = [
         0, 7, 0, 0, 0, 0, 0, 0, 14, 0, 0, 0, 0, 0, 0, 0, 0, 0, 0, 0, 9, 9, 9, 9,

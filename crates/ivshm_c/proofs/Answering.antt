@@ -1,15 +1,11 @@
 -- Answers with their causes, and what notes tell.
-use Rattle.std.proofs.Common.{◌≡◌, ◌<◌, ◌+◌, ◌*◌, ◌++◌, ℕ, List, sym, ap, ◌∙◌, subst, length, take, drop, get_or, Option, Some, None, IfSome, true, false, nat_lt, if◌then◌else◌}
-use Rattle.std.proofs.lemmas.List.{at_drop_more}
+use Rattle.std.proofs.Common.{◌≡◌, ◌*◌, ◌++◌, ℕ, List, sym, ap, ◌∙◌, subst, length, take, drop, Option, Some, None, IfSome, true, false, nat_lt, if◌then◌else◌}
 use Rattle.std.proofs.Math.Seq.{take-append_seam, drop-append_seam}
 use Rattle.section_map.specs.Geometry.{Shape, IsShape}
 use Rattle.split_ring.specs.Layout.{Sizes, IsQueue, IsVersion}
-use Rattle.split_ring.specs.declared.steps.Note.{Note}
 use Rattle.ivshm_c.specs.declared.device.Found.{Found}
 use Rattle.ivshm_c.specs.declared.device.Layout.{Layout}
 use Rattle.ivshm_c.specs.declared.port.Port.{Port}
-use Rattle.ivshm_c.specs.declared.port.Outcome.{Outcome}
-use Rattle.ivshm_c.specs.declared.port.Outcome.TheVariants.{Open}
 use Rattle.ivshm_c.specs.declared.status.Status.{Status}
 use Rattle.ivshm_c.specs.declared.status.Status.TheVariants.{Done, NoCall, HasEnd, ShortRoom}
 use Rattle.split_ring.specs.declared.steps.Access as steps
@@ -24,15 +20,9 @@ use Rattle.link_endpoint.specs.Engine.{is_busy, offered, reads_ahead, writes_ahe
 use Rattle.ivshm_c.specs.declared.crossing.Access.{Access}
 use Rattle.ivshm_c.specs.declared.crossing.Stretches as crossed
 use Rattle.ivshm_c.specs.Crossing.{access_crossed, stretches_crossed}
-use Rattle.ivshm_c.specs.Ports.{IsNext, IsAhead, AreStretched, AreBehind, outcome_with, told_by}
+use Rattle.ivshm_c.specs.Ports.{IsNext, IsAhead, AreStretched, AreBehind}
 use Rattle.ivshm_c.specs.Sizes.{shape_found, sizes_found, layout_of, LaysOut, laid_out}
 use Rattle.ivshm_c.specs.Answers.{IsNew, RefusesNew, MakesAnswered, TellsNext, TellsStretches, TellsTail, Where, room_answer, stretches_answer, behind_answer, tail_answer, made, has_end, refused}
-
--- one note more
-pub one_more : (notes : List Note) (i : ℕ) (before after : Outcome) (d : Note) → i < length notes → after ≡ outcome_with (get_or notes i d) before
-    → told_by (drop i notes) before ≡ told_by notes Open → told_by (drop (i + 1) notes) after ≡ told_by notes Open
-one_more notes i before after d within is so_far =
-    ap (told_by (drop (i + 1) notes)) is ∙ sym (at_drop_more (λ left. told_by left before) notes i d within) ∙ so_far
 
 -- the words of the sizes that were found
 pub words_told : (found : Found) (peers mtu : ℕ) (before after : Layout) (shape : Shape) (queue : Sizes) → shape ≡ shape_found found peers → IsShape shape

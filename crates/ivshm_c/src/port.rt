@@ -83,7 +83,7 @@ impl Port {
         ensures outcome { self.new.outcome ≡ outcome_after result.items self.old.outcome }
     {
         let notes = self.endpoint.took(value);
-        self.outcome = outcome_after(notes.as_slice(), self.outcome);
+        self.outcome = outcome_after(&notes, self.outcome);
         notes
     }
 
@@ -97,7 +97,7 @@ impl Port {
         ensures outcome { self.new.outcome ≡ outcome_after result.items self.old.outcome }
     {
         let notes = self.endpoint.took_words(words);
-        self.outcome = outcome_after(notes.as_slice(), self.outcome);
+        self.outcome = outcome_after(&notes, self.outcome);
         notes
     }
 
@@ -135,8 +135,8 @@ impl Port {
 }
 
 /// The outcome after these notes: that of an offer that isn't open stays.
-fn outcome_after(notes: &[Note], before: Outcome) -> Outcome
-    ensures { result ≡ outcome_after notes.now before }
+fn outcome_after(notes: &Notes, before: Outcome) -> Outcome
+    ensures { result ≡ outcome_after notes.now.items before }
 {
     match before {
         Outcome::Open => told_by(notes),
@@ -144,15 +144,15 @@ fn outcome_after(notes: &[Note], before: Outcome) -> Outcome
     }
 }
 
-/// What these notes tell of an open offer.
-fn told_by(notes: &[Note]) -> Outcome
-    ensures { result ≡ told_by notes.now Outcome.Open }
+/// What these notes tell of an open offer. Each is looked at by its own place, so that the compiler need not put them into memory.
+fn told_by(notes: &Notes) -> Outcome
+    ensures { result ≡ told_by notes.now.items Outcome.Open }
 {
-    let mut outcome = Outcome::Open;
-    for note in notes {
-        outcome = outcome_with(note, outcome);
+    match notes.as_slice() {
+        [] => Outcome::Open,
+        [one] => outcome_told(one),
+        [one, other, ..] => outcome_with(other, outcome_told(one)),
     }
-    outcome
 }
 
 /// The outcome after a note: an open offer's is told once.

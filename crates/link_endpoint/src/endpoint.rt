@@ -1,5 +1,5 @@
 //! One end of the link, which takes its calls step by step. It makes no access itself.
-ghost use Rattle.std.specs.Prelude.{◌≡◌, ℕ, ◌+◌, ◌*◌, ◌%◌, ◌<◌, ◌≤◌, ◌↔◌, not, is_some, None, List, [], ◌∷◌, true, false, IsTrue, IfOk, IfSome, ◌++◌, length, take, flat_map};
+ghost use Rattle.std.specs.Prelude.{◌≡◌, ℕ, ◌+◌, ◌*◌, ◌%◌, ◌<◌, ◌≤◌, ◌↔◌, not, is_some, Some, None, List, [], ◌∷◌, true, false, IsTrue, IfOk, IfSome, ◌++◌, length, take, flat_map};
 ghost use Rattle.link_handshake.specs.declared.Phase.TheVariants.{Run};
 ghost use Rattle.call_grammar.specs.Ends.{End, fresh, after_reset};
 ghost use Rattle.call_grammar.specs.Calls.{Who, Offer, in_run};
@@ -529,7 +529,7 @@ impl Endpoint {
         ensures leaving { KeepsAway self.old value result.items self.new }
     {
         let notes = self.tx.took(value);
-        if let Some(refused) = refused_in(notes.as_slice()) {
+        if let Some(refused) = refused_in(&notes) {
             self.refused = Some(refused);
             self.place = Place::Refusing;
         } else if !self.tx.busy() {
@@ -545,7 +545,7 @@ impl Endpoint {
         ensures leaving { KeepsAway self.old value result.items self.new }
     {
         let notes = self.rx.took(value);
-        if let Some(refused) = refused_in(notes.as_slice()) {
+        if let Some(refused) = refused_in(&notes) {
             self.refused = Some(refused);
             self.place = Place::Refusing;
         } else if !self.rx.busy() {
@@ -599,17 +599,26 @@ fn order_of(kind: WordKind) -> Ordering
     }
 }
 
-/// What the last Refuse of these notes refused.
-fn refused_in(notes: &[Note]) -> Option<Refused>
-    ensures { result ≡ refused_after notes.now None }
+/// What the last Refuse of these notes refused. Each is looked at by its own place, so that the compiler need not put them into memory.
+fn refused_in(notes: &Notes) -> Option<Refused>
+    ensures { result ≡ refused_after notes.now.items None }
 {
-    let mut refused = None;
-    for note in notes {
-        if let Note::Refuse(found) = note {
-            refused = Some(*found);
-        }
+    match notes.as_slice() {
+        [Note::Refuse(refused)] => Some(*refused),
+        [Note::Refuse(refused), other, ..] => Some(refused_with(other, *refused)),
+        [_, Note::Refuse(refused), ..] => Some(*refused),
+        _ => None,
     }
-    refused
+}
+
+/// What was refused, where another note stands behind it.
+fn refused_with(note: &Note, before: Refused) -> Refused
+    ensures { Some result ≡ refused_after (note.now ∷ []) (Some before) }
+{
+    match note {
+        Note::Refuse(refused) => *refused,
+        _ => before,
+    }
 }
 
 /// Law: each offer, poll, tick and stop of an endpoint is a call of the grammar, over any values, and a beginning of one where it is cut.

@@ -1,4 +1,4 @@
-use Rattle.std.proofs.Common.{◌≡◌, subst, ap, sym, ◌∙◌, refl, None, Some, arith}
+use Rattle.std.proofs.Common.{◌≡◌, subst, sym, ◌∙◌, refl, None, Some, arith}
 use Rattle.std.proofs.lemmas.Grind.{common_steps}
 use Rattle.link_endpoint.specs.declared.place.Place.TheVariants.{Closed, Refusing, Offering}
 use Rattle.link_endpoint.specs.Engine.{refused_after}
@@ -15,7 +15,7 @@ refused c =
     let i = c.self.inside in
     let kept = c.self.invariant in
     let keeps : KeepsNumbers i.tx c.took-notes.new.self = grind (arith, common_steps, c.took-notes.ensures.kept) in
-    let found : refused_after c.took-notes.result.items None ≡ Some c.in-Some.refused = ap (λ n. refused_after n None) (sym c.as_slice.ensures.value) ∙ sym c.refused_in.ensures ∙ c.in-Some.is in
+    let found : refused_after c.took-notes.result.items None ≡ Some c.in-Some.refused = sym c.refused_in.ensures ∙ c.in-Some.is in
     let offers : i.place ≡ Offering = grind (arith, common_steps) in
     let taken = takes_refused (seen i) c.args.value c.took-notes.result.items c.took-notes.new.self c.in-Some.refused (seen i).who kept.end kept.at offers c.took-notes.ensures kept.stands found in
     (keeps, subst (λ e. Takes (seen i) c.args.value c.took-notes.result.items e) (seen_sent i c.took-notes.new.self (Some c.in-Some.refused) Refusing keeps) taken)
@@ -32,7 +32,7 @@ over c =
     let i = c.self.inside in
     let kept = c.self.invariant in
     let keeps : KeepsNumbers i.tx c.took-notes.new.self = grind (arith, common_steps, c.took-notes.ensures.kept) in
-    let none : refused_after c.took-notes.result.items None ≡ None = ap (λ n. refused_after n None) (sym c.as_slice.ensures.value) ∙ sym c.refused_in.ensures ∙ c.in_default.is in
+    let none : refused_after c.took-notes.result.items None ≡ None = sym c.refused_in.ensures ∙ c.in_default.is in
     let offers : i.place ≡ Offering = grind (arith, common_steps) in
     let taken = takes_end (seen i) c.args.value c.took-notes.result.items c.took-notes.new.self c.busy.result (seen i).who kept.end kept.at offers c.took-notes.ensures kept.stands none c.busy.ensures.bounds c.busy.ensures.place c.if-not-busy.true in
     (keeps, subst (λ e. Takes (seen i) c.args.value c.took-notes.result.items e) (seen_sent i c.took-notes.new.self i.refused Closed keeps) taken)
@@ -46,7 +46,7 @@ going c =
     let i = c.self.inside in
     let kept = c.self.invariant in
     let keeps : KeepsNumbers i.tx c.took-notes.new.self = grind (arith, common_steps, c.took-notes.ensures.kept) in
-    let none : refused_after c.took-notes.result.items None ≡ None = ap (λ n. refused_after n None) (sym c.as_slice.ensures.value) ∙ sym c.refused_in.ensures ∙ c.in_default.is in
+    let none : refused_after c.took-notes.result.items None ≡ None = sym c.refused_in.ensures ∙ c.in_default.is in
     let offers : i.place ≡ Offering = grind (arith, common_steps) in
     let taken = takes_on (seen i) c.args.value c.took-notes.result.items c.took-notes.new.self c.busy.result (seen i).who kept.end kept.at offers c.took-notes.ensures kept.stands none c.busy.ensures.bounds c.busy.ensures.place c.if-not-busy.false in
     (keeps, subst (λ e. Takes (seen i) c.args.value c.took-notes.result.items e) (seen_sent i c.took-notes.new.self i.refused i.place keeps) taken)
@@ -65,15 +65,15 @@ invariant_of-self-then-not-busy c =
 -- what the step keeps of a refusal
 pub returns-in-Some-clause-leaving : goal.returns-in-Some-clause-leaving
 returns-in-Some-clause-leaving c =
-    let found : refused_after c.took-notes.result.items None ≡ Some c.in-Some.refused = ap (λ n. refused_after n None) (sym c.as_slice.ensures.value) ∙ sym c.refused_in.ensures ∙ c.in-Some.is in
+    let found : refused_after c.took-notes.result.items None ≡ Some c.in-Some.refused = sym c.refused_in.ensures ∙ c.in-Some.is in
     rw (← c.self.view_is) (away_refused (seen c.self.inside) _ c.args.value c.took-notes.result.items c.in-Some.refused (grind (arith, common_steps)) c.self.invariant.left found refl refl)
 
 pub returns-then-not-busy-clause-leaving : goal.returns-then-not-busy-clause-leaving
 returns-then-not-busy-clause-leaving c =
-    let none : refused_after c.took-notes.result.items None ≡ None = ap (λ n. refused_after n None) (sym c.as_slice.ensures.value) ∙ sym c.refused_in.ensures ∙ c.in_default.is in
+    let none : refused_after c.took-notes.result.items None ≡ None = sym c.refused_in.ensures ∙ c.in_default.is in
     rw (← c.self.view_is) (away_none (seen c.self.inside) _ c.args.value c.took-notes.result.items (grind (arith, common_steps)) c.self.invariant.left none)
 
 pub returns-else-not-busy-clause-leaving : goal.returns-else-not-busy-clause-leaving
 returns-else-not-busy-clause-leaving c =
-    let none : refused_after c.took-notes.result.items None ≡ None = ap (λ n. refused_after n None) (sym c.as_slice.ensures.value) ∙ sym c.refused_in.ensures ∙ c.in_default.is in
+    let none : refused_after c.took-notes.result.items None ≡ None = sym c.refused_in.ensures ∙ c.in_default.is in
     rw (← c.self.view_is) (away_none (seen c.self.inside) _ c.args.value c.took-notes.result.items (grind (arith, common_steps)) c.self.invariant.left none)

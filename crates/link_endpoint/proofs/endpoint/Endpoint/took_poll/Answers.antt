@@ -1,4 +1,4 @@
-use Rattle.std.proofs.Common.{◌≡◌, ap, sym, ◌∙◌, refl, None, Some, arith}
+use Rattle.std.proofs.Common.{◌≡◌, sym, ◌∙◌, refl, None, Some, arith}
 use Rattle.std.proofs.lemmas.Grind.{common_steps}
 use Rattle.link_endpoint.specs.declared.place.Place.TheVariants.{Closed, Refusing, Polling}
 use Rattle.link_endpoint.specs.Engine.{refused_after}
@@ -14,7 +14,7 @@ refused : (c : goal.After-self-in-Some-1) → Takes (seen c.self.inside) c.args.
 refused c =
     let i = c.self.inside in
     let kept = c.self.invariant in
-    let found : refused_after c.took-notes.result.items None ≡ Some c.in-Some.refused = ap (λ n. refused_after n None) (sym c.as_slice.ensures.value) ∙ sym c.refused_in.ensures ∙ c.in-Some.is in
+    let found : refused_after c.took-notes.result.items None ≡ Some c.in-Some.refused = sym c.refused_in.ensures ∙ c.in-Some.is in
     let polls : i.place ≡ Polling = grind (arith, common_steps) in
     takes_refused (seen i) c.args.value c.took-notes.result.items c.took-notes.new.self c.in-Some.refused (seen i).who kept.end kept.at polls c.took-notes.ensures.steps kept.stands found
 
@@ -29,7 +29,7 @@ over : (c : goal.After-self-then-not-busy-1) → Takes (seen c.self.inside) c.ar
 over c =
     let i = c.self.inside in
     let kept = c.self.invariant in
-    let none : refused_after c.took-notes.result.items None ≡ None = ap (λ n. refused_after n None) (sym c.as_slice.ensures.value) ∙ sym c.refused_in.ensures ∙ c.in_default.is in
+    let none : refused_after c.took-notes.result.items None ≡ None = sym c.refused_in.ensures ∙ c.in_default.is in
     let polls : i.place ≡ Polling = grind (arith, common_steps) in
     takes_end (seen i) c.args.value c.took-notes.result.items c.took-notes.new.self c.busy.result (seen i).who kept.end kept.at polls c.took-notes.ensures.steps kept.stands none c.busy.ensures.open c.if-not-busy.true
 
@@ -41,7 +41,7 @@ going : (c : goal.Else-not-busy) → Takes (seen c.self.inside) c.args.value c.t
 going c =
     let i = c.self.inside in
     let kept = c.self.invariant in
-    let none : refused_after c.took-notes.result.items None ≡ None = ap (λ n. refused_after n None) (sym c.as_slice.ensures.value) ∙ sym c.refused_in.ensures ∙ c.in_default.is in
+    let none : refused_after c.took-notes.result.items None ≡ None = sym c.refused_in.ensures ∙ c.in_default.is in
     let polls : i.place ≡ Polling = grind (arith, common_steps) in
     takes_on (seen i) c.args.value c.took-notes.result.items c.took-notes.new.self c.busy.result (seen i).who kept.end kept.at polls c.took-notes.ensures.steps kept.stands none c.busy.ensures.open c.if-not-busy.false
 
@@ -58,15 +58,15 @@ invariant_of-self-then-not-busy c = kept_received c.self.inside _ _ Closed c.arg
 -- what the step keeps of a refusal
 pub returns-in-Some-clause-leaving : goal.returns-in-Some-clause-leaving
 returns-in-Some-clause-leaving c =
-    let found : refused_after c.took-notes.result.items None ≡ Some c.in-Some.refused = ap (λ n. refused_after n None) (sym c.as_slice.ensures.value) ∙ sym c.refused_in.ensures ∙ c.in-Some.is in
+    let found : refused_after c.took-notes.result.items None ≡ Some c.in-Some.refused = sym c.refused_in.ensures ∙ c.in-Some.is in
     rw (← c.self.view_is) (away_refused (seen c.self.inside) _ c.args.value c.took-notes.result.items c.in-Some.refused (grind (arith, common_steps)) c.self.invariant.left found refl refl)
 
 pub returns-then-not-busy-clause-leaving : goal.returns-then-not-busy-clause-leaving
 returns-then-not-busy-clause-leaving c =
-    let none : refused_after c.took-notes.result.items None ≡ None = ap (λ n. refused_after n None) (sym c.as_slice.ensures.value) ∙ sym c.refused_in.ensures ∙ c.in_default.is in
+    let none : refused_after c.took-notes.result.items None ≡ None = sym c.refused_in.ensures ∙ c.in_default.is in
     rw (← c.self.view_is) (away_none (seen c.self.inside) _ c.args.value c.took-notes.result.items (grind (arith, common_steps)) c.self.invariant.left none)
 
 pub returns-else-not-busy-clause-leaving : goal.returns-else-not-busy-clause-leaving
 returns-else-not-busy-clause-leaving c =
-    let none : refused_after c.took-notes.result.items None ≡ None = ap (λ n. refused_after n None) (sym c.as_slice.ensures.value) ∙ sym c.refused_in.ensures ∙ c.in_default.is in
+    let none : refused_after c.took-notes.result.items None ≡ None = sym c.refused_in.ensures ∙ c.in_default.is in
     rw (← c.self.view_is) (away_none (seen c.self.inside) _ c.args.value c.took-notes.result.items (grind (arith, common_steps)) c.self.invariant.left none)

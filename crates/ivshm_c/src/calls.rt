@@ -11,6 +11,7 @@ use crate::port::Port;
 use crate::status::Status;
 use crate::{Access, Notes, Stretches};
 use link_endpoint::Endpoint;
+use split_ring::steps;
 use std::alloc::Global;
 
 /// Makes an end of a link of this version.
@@ -121,7 +122,8 @@ pub(crate) fn took(port: &mut Port, value: u32, notes: &mut Notes) -> Status
     if !port.endpoint.busy() {
         return Status::NoCall;
     }
-    let told = port.took(value);
+    let mut told = steps::Notes::new();
+    port.took(value, &mut told);
     *notes = notes_crossed(told.as_slice());
     Status::Done
 }
@@ -164,7 +166,8 @@ pub(crate) fn took_words(port: &mut Port, words: &[u8], notes: &mut Notes) -> St
     }
     let status = measured(port.endpoint.reads_ahead(), words.len());
     if let Status::Done = status {
-        let told = port.took_words(words);
+        let mut told = steps::Notes::new();
+        port.took_words(words, &mut told);
         *notes = notes_crossed(told.as_slice());
     }
     status

@@ -1,5 +1,5 @@
 //! An end of the link, with the outcome of its last offer.
-ghost use Rattle.std.specs.Prelude.{◌≡◌, ℕ, ◌+◌, ◌*◌, ◌%◌, ◌<◌, ◌≤◌, true, false, length};
+ghost use Rattle.std.specs.Prelude.{◌≡◌, ℕ, ◌+◌, ◌*◌, ◌%◌, ◌<◌, ◌≤◌, [], true, false, length};
 ghost use Rattle.tx_engine.specs.Ahead.{words_of};
 ghost use Rattle.link_endpoint.specs.Engine.{is_busy, reads_ahead, writes_ahead, stretches_of, offered};
 ghost use Rattle.link_endpoint.specs.declared.place.Call.TheVariants.{Stop};
@@ -77,28 +77,29 @@ impl Port {
         self.outcome = Outcome::Open;
     }
 
-    pub(crate) fn took(&mut self, value: u32) -> Notes
-        requires { is_busy self.old.endpoint ≡ true }
-        ensures steps { Steps self.old.endpoint value result.items self.new.endpoint }
-        ensures outcome { self.new.outcome ≡ outcome_after result.items self.old.outcome }
+    /// Takes the step of the next access, and puts what it notes into an empty list.
+    pub(crate) fn took(&mut self, value: u32, notes: &mut Notes)
+        requires open { is_busy self.old.endpoint ≡ true }
+        requires empty { notes.old.items ≡ [] }
+        ensures steps { Steps self.old.endpoint value notes.new.items self.new.endpoint }
+        ensures outcome { self.new.outcome ≡ outcome_after notes.new.items self.old.outcome }
     {
-        let notes = self.endpoint.took(value);
-        self.outcome = outcome_after(&notes, self.outcome);
-        notes
+        self.endpoint.took_into(value, notes);
+        self.outcome = outcome_after(notes, self.outcome);
     }
 
-    /// Takes the reads that come, whose words are these.
-    pub(crate) fn took_words(&mut self, words: &[u8]) -> Notes
+    /// Takes the reads that come, whose words are these, and puts what they note into an empty list.
+    pub(crate) fn took_words(&mut self, words: &[u8], notes: &mut Notes)
         requires some { 0 < length words.now }
         requires whole { length words.now % 4 ≡ 0 }
         requires within { length words.now ≤ 4 * reads_ahead self.old.endpoint }
-        ensures steps { ReadsAtOnce self.old.endpoint words.now result.items self.new.endpoint }
+        requires empty { notes.old.items ≡ [] }
+        ensures steps { ReadsAtOnce self.old.endpoint words.now notes.new.items self.new.endpoint }
         ensures frame { ReadsWhole self.old.endpoint words.now self.new.endpoint }
-        ensures outcome { self.new.outcome ≡ outcome_after result.items self.old.outcome }
+        ensures outcome { self.new.outcome ≡ outcome_after notes.new.items self.old.outcome }
     {
-        let notes = self.endpoint.took_words(words);
-        self.outcome = outcome_after(&notes, self.outcome);
-        notes
+        self.endpoint.took_words_into(words, notes);
+        self.outcome = outcome_after(notes, self.outcome);
     }
 
     /// Takes so many of the writes that come.

@@ -1,5 +1,6 @@
 //! The lines of a history.
-ghost use Rattle.std.specs.Prelude.{◌≡◌, List, [], ◌∷◌, ◌++◌, OnOk, OnErr};
+ghost use Rattle.std.specs.Prelude.{◌≡◌, ◌<◌, List, [], ◌∷◌, ◌++◌, OnOk, OnErr};
+ghost use Rattle.std.specs.Vec.{vec_len, vec_capacity};
 
 use ivs_base::{Frame, NoMemory};
 use split_ring::Refused;
@@ -168,6 +169,18 @@ impl Model for Lines {
     ghost view = { λ history. history.lines.items };
 }
 
+/// Makes room for a line more, where there is none. With it `push` is short enough to be inlined: a line goes to its place part by part, and isn't
+/// put together elsewhere first and copied, which would wait for the parts that were just written.
+fn make_room(lines: &mut Vec<Line>) -> Result<(), NoMemory>
+    ensures items { lines.new.items ≡ lines.old.items }
+    ensures room { OnOk result (vec_len lines.new < vec_capacity lines.new) }
+{
+    if lines.capacity() <= lines.len() {
+        lines.reserve(1)?;
+    }
+    Ok(())
+}
+
 impl Lines {
     /// The history without a line.
     pub fn new(alloc: Global) -> Lines
@@ -187,11 +200,13 @@ impl Lines {
     }
 
     /// Puts a line last. After NoMemory the history is unchanged and the line is dropped.
+    #[inline(always)]
     pub fn push(&mut self, line: Line) -> Result<(), NoMemory>
         ensures put { OnOk result (self.new ≡ self.old ++ line ∷ []) }
         ensures unchanged { OnErr result (self.new ≡ self.old) }
     {
-        self.lines.push(line)?;
+        make_room(&mut self.lines)?;
+        self.lines.push_reserved(line);
         Ok(())
     }
 

@@ -23,7 +23,7 @@ use ivs_base::NoMemory;
 use link_handshake::{Handshake, Move, Phase, phase_of};
 use rx_engine::Rx;
 use section_map::Geometry;
-use split_ring::steps::{Access, Note, Notes, WordKind, leaving, left, noted};
+use split_ring::steps::{Access, Note, Notes, WordKind, leaving};
 use split_ring::{Queue, Refused};
 use std::alloc::Global;
 use std::marker::Model;
@@ -251,14 +251,29 @@ impl Endpoint {
         ensures keeps { KeepsRefused self.old self.new }
         ensures stays { Stays self.old value result.items self.new }
     {
+        let mut notes = Notes::new();
+        self.took_into(value, &mut notes);
+        notes
+    }
+
+    /// The same as `took`, with the notes put into a list that the caller has.
+    pub fn took_into(&mut self, value: u32, notes: &mut Notes)
+        requires open { is_busy self.old ≡ true }
+        requires empty { notes.old.items ≡ [] }
+        ensures steps { Takes self.old value notes.new.items self.new }
+        ensures refuses { Refuses notes.new.items self.new }
+        ensures leaves { Leaves self.old notes.new.items self.new }
+        ensures keeps { KeepsRefused self.old self.new }
+        ensures stays { Stays self.old value notes.new.items self.new }
+    {
         match self.place {
-            Place::Looking => self.took_state(value),
+            Place::Looking => self.took_state(value, notes),
             Place::Clearing { at, then } => self.took_clear(at, then),
-            Place::Setting(state) => self.took_set(state),
-            Place::Refusing => self.took_refusal(),
-            Place::Downed => self.took_down(),
-            Place::Offering => self.took_offer(value),
-            Place::Polling => self.took_poll(value),
+            Place::Setting(state) => self.took_set(state, notes),
+            Place::Refusing => self.took_refusal(notes),
+            Place::Downed => self.took_down(notes),
+            Place::Offering => self.took_offer(value, notes),
+            Place::Polling => self.took_poll(value, notes),
             Place::Closed => unreachable!(),
         }
     }
@@ -304,7 +319,21 @@ impl Endpoint {
         ensures steps { (values : List ℕ) → words.now ≡ flat_map word_bytes values → Each IsTaken self.old values result.items self.new }
         ensures frame { IfSome (frame_ahead self.old) (λ bytes. length words.now ≡ 4 * reads_ahead self.old → delivered self.new ≡ take bytes words.now) }
     {
-        self.rx.took_words(words)
+        let mut notes = Notes::new();
+        self.took_words_into(words, &mut notes);
+        notes
+    }
+
+    /// The same as `took_words`, with the notes put into a list that the caller has.
+    pub fn took_words_into(&mut self, words: &[u8], notes: &mut Notes)
+        requires some { 0 < length words.now }
+        requires whole { length words.now % 4 ≡ 0 }
+        requires within { length words.now ≤ 4 * reads_ahead self.old }
+        requires empty { notes.old.items ≡ [] }
+        ensures steps { (values : List ℕ) → words.now ≡ flat_map word_bytes values → Each IsTaken self.old values notes.new.items self.new }
+        ensures frame { IfSome (frame_ahead self.old) (λ bytes. length words.now ≡ 4 * reads_ahead self.old → delivered self.new ≡ take bytes words.now) }
+    {
+        self.rx.took_words_into(words, notes)
     }
 
     /// How many of the coming accesses write one word after the other, from that of `next` on, none with a note; 0 where no write of several
@@ -419,7 +448,7 @@ impl Endpoint {
     }
 }
 
-/// The steps of `took`, one for each place.
+/// The steps of `took_into`, one for each place.
 impl Endpoint {
     /// The word with the other's State.
     fn other_state(&self) -> u32
@@ -429,12 +458,13 @@ impl Endpoint {
     }
 
     /// The read of the other's state.
-    fn took_state(&mut self, value: u32) -> Notes
-        requires { self.old.place ≡ Place.Looking }
-        ensures steps { Takes self.old value result.items self.new }
-        ensures leaving { KeepsAway self.old value result.items self.new }
+    fn took_state(&mut self, value: u32, notes: &mut Notes)
+        requires place { self.old.place ≡ Place.Looking }
+        requires empty { notes.old.items ≡ [] }
+        ensures steps { Takes self.old value notes.new.items self.new }
+        ensures leaving { KeepsAway self.old value notes.new.items self.new }
     {
-        let mut notes = noted(Note::Saw(value));
+        notes.push(Note::Saw(value));
         self.place = match self.handshake.saw(value) {
             Move::Stay => {
                 notes.push(Note::Over);
@@ -443,14 +473,13 @@ impl Endpoint {
             Move::Set(state) => Place::Setting(state),
             Move::ClearThenSet(then) => Place::Clearing { at: self.own, then },
         };
-        notes
     }
 
     /// The write of 0 to an own word.
-    fn took_clear(&mut self, at: u32, then: u32) -> Notes
+    fn took_clear(&mut self, at: u32, then: u32)
         requires { self.old.place ≡ Place.Clearing at then }
-        ensures steps { (value : ℕ) → Takes self.old value result.items self.new }
-        ensures leaving { (value : ℕ) → KeepsAway self.old value result.items self.new }
+        ensures steps { (value : ℕ) → Takes self.old value [] self.new }
+        ensures leaving { (value : ℕ) → KeepsAway self.old value [] self.new }
     {
         let end = self.own + self.words;
         self.place = if at + 1 == end {
@@ -458,7 +487,6 @@ impl Endpoint {
         } else {
             Place::Clearing { at: at + 1, then }
         };
-        Notes::new()
     }
 
     /// The writes of 0 to so many own words.
@@ -473,85 +501,89 @@ impl Endpoint {
     }
 
     /// The State step of a Tick or a Stop.
-    fn took_set(&mut self, state: u32) -> Notes
-        requires { self.old.place ≡ Place.Setting state }
-        ensures steps { (value : ℕ) → Takes self.old value result.items self.new }
-        ensures leaving { (value : ℕ) → KeepsAway self.old value result.items self.new }
+    fn took_set(&mut self, state: u32, notes: &mut Notes)
+        requires place { self.old.place ≡ Place.Setting state }
+        requires empty { notes.old.items ≡ [] }
+        ensures steps { (value : ℕ) → Takes self.old value notes.new.items self.new }
+        ensures leaving { (value : ℕ) → KeepsAway self.old value notes.new.items self.new }
     {
         if state == 2 {
-            return self.took_opening();
+            return self.took_opening(notes);
         }
         self.handshake.enter(phase_of(state));
         self.place = Place::Closed;
-        noted(Note::Over)
+        notes.push(Note::Over);
     }
 
     /// The State step that opens a session.
-    fn took_opening(&mut self) -> Notes
-        requires { self.old.place ≡ Place.Setting 2 }
-        ensures steps { (value : ℕ) → Takes self.old value result.items self.new }
-        ensures leaving { (value : ℕ) → KeepsAway self.old value result.items self.new }
+    fn took_opening(&mut self, notes: &mut Notes)
+        requires place { self.old.place ≡ Place.Setting 2 }
+        requires empty { notes.old.items ≡ [] }
+        ensures steps { (value : ℕ) → Takes self.old value notes.new.items self.new }
+        ensures leaving { (value : ℕ) → KeepsAway self.old value notes.new.items self.new }
     {
         self.tx.reset();
         self.rx.reset();
         self.handshake.enter(Phase::Ready);
         self.place = Place::Closed;
-        noted(Note::Over)
+        notes.push(Note::Over);
     }
 
     /// The State step of a refusal, with which the session is over.
-    fn took_refusal(&mut self) -> Notes
-        requires { self.old.place ≡ Place.Refusing }
-        ensures steps { (value : ℕ) → Takes self.old value result.items self.new }
-        ensures leaving { (value : ℕ) → KeepsAway self.old value result.items self.new }
+    fn took_refusal(&mut self, notes: &mut Notes)
+        requires place { self.old.place ≡ Place.Refusing }
+        requires empty { notes.old.items ≡ [] }
+        ensures steps { (value : ℕ) → Takes self.old value notes.new.items self.new }
+        ensures leaving { (value : ℕ) → KeepsAway self.old value notes.new.items self.new }
     {
         self.tx.reset();
         self.rx.reset();
         self.handshake.refuse();
         self.place = Place::Closed;
-        left()
+        notes.push(Note::Over);
     }
 
     /// The one step of a call that is down.
-    fn took_down(&mut self) -> Notes
-        requires { self.old.place ≡ Place.Downed }
-        ensures steps { (value : ℕ) → Takes self.old value result.items self.new }
-        ensures leaving { (value : ℕ) → KeepsAway self.old value result.items self.new }
+    fn took_down(&mut self, notes: &mut Notes)
+        requires place { self.old.place ≡ Place.Downed }
+        requires empty { notes.old.items ≡ [] }
+        ensures steps { (value : ℕ) → Takes self.old value notes.new.items self.new }
+        ensures leaving { (value : ℕ) → KeepsAway self.old value notes.new.items self.new }
     {
         self.place = Place::Closed;
-        noted(Note::Down)
+        notes.push(Note::Down);
     }
 
     /// A step of the sender.
-    fn took_offer(&mut self, value: u32) -> Notes
-        requires { self.old.place ≡ Place.Offering }
-        ensures steps { Takes self.old value result.items self.new }
-        ensures leaving { KeepsAway self.old value result.items self.new }
+    fn took_offer(&mut self, value: u32, notes: &mut Notes)
+        requires place { self.old.place ≡ Place.Offering }
+        requires empty { notes.old.items ≡ [] }
+        ensures steps { Takes self.old value notes.new.items self.new }
+        ensures leaving { KeepsAway self.old value notes.new.items self.new }
     {
-        let notes = self.tx.took(value);
-        if let Some(refused) = refused_in(&notes) {
+        self.tx.took_into(value, notes);
+        if let Some(refused) = refused_in(notes) {
             self.refused = Some(refused);
             self.place = Place::Refusing;
         } else if !self.tx.busy() {
             self.place = Place::Closed;
         }
-        notes
     }
 
     /// A step of the receiver.
-    fn took_poll(&mut self, value: u32) -> Notes
-        requires { self.old.place ≡ Place.Polling }
-        ensures steps { Takes self.old value result.items self.new }
-        ensures leaving { KeepsAway self.old value result.items self.new }
+    fn took_poll(&mut self, value: u32, notes: &mut Notes)
+        requires place { self.old.place ≡ Place.Polling }
+        requires empty { notes.old.items ≡ [] }
+        ensures steps { Takes self.old value notes.new.items self.new }
+        ensures leaving { KeepsAway self.old value notes.new.items self.new }
     {
-        let notes = self.rx.took(value);
-        if let Some(refused) = refused_in(&notes) {
+        self.rx.took_into(value, notes);
+        if let Some(refused) = refused_in(notes) {
             self.refused = Some(refused);
             self.place = Place::Refusing;
         } else if !self.rx.busy() {
             self.place = Place::Closed;
         }
-        notes
     }
 }
 

@@ -1,5 +1,5 @@
 //! The receiver.
-ghost use Rattle.std.specs.Prelude.{ℕ, ◌≡◌, ◌+◌, ◌-◌, ◌*◌, ◌%◌, ◌≤◌, ◌<◌, ◌^◌, ◌⊎◌, List, [], ◌∷◌, ◌++◌, true, false, IfOk, IfSome, option_to_list, min, length, take, flat_map};
+ghost use Rattle.std.specs.Prelude.{ℕ, ◌≡◌, ◌+◌, ◌-◌, ◌*◌, ◌%◌, ◌≤◌, ◌<◌, ◌^◌, ◌⊎◌, List, [], ◌∷◌, ◌++◌, true, false, IfOk, IfSome, min, length, take, flat_map};
 ghost use Rattle.link_handshake.specs.declared.Phase.TheVariants.{Run};
 ghost use Rattle.split_ring.specs.Spelling.{entry_half};
 ghost use Rattle.call_grammar.specs.Ends.{End};
@@ -15,7 +15,7 @@ ghost use Rattle.rx_engine.specs.Stands.{IsMadeFor, IsFreshSession, StandsAt, Ta
 
 use crate::place::Place;
 use ivs_base::NoMemory;
-use split_ring::steps::{Access, Note, Notes, WordKind, leaving, left, refusal};
+use split_ring::steps::{Access, Note, Notes, WordKind, leaving};
 use split_ring::{Queue, Refused};
 use std::alloc::Global;
 use std::marker::Model;
@@ -206,36 +206,45 @@ impl Rx {
         ensures steps { Takes self.old value result.items self.new }
         ensures kept { KeepsNumbers self.old self.new }
     {
+        let mut notes = Notes::new();
+        self.took_into(value, &mut notes);
+        notes
+    }
+
+    /// The same as `took`, with the notes put into a list that the caller has.
+    pub fn took_into(&mut self, value: u32, notes: &mut Notes)
+        requires open { is_busy self.old ≡ true }
+        requires empty { notes.old.items ≡ [] }
+        ensures steps { Takes self.old value notes.new.items self.new }
+        ensures kept { KeepsNumbers self.old self.new }
+    {
         match self.place {
-            Place::AtAvailIndex { last } => self.took_index(last, value),
-            Place::Arming => self.go_on(Place::AtAvailIndex { last: true }, None),
-            Place::AtEntry { more } => self.took_entry(more, value),
-            Place::AtLow { more, entry } => {
-                let next = Place::AtHigh {
-                    more,
-                    entry,
-                    low: value,
-                };
-                self.go_on(next, None)
-            }
-            Place::AtHigh { more, entry, low } => self.took_high(more, entry, low, value),
+            Place::AtAvailIndex { last } => self.took_index(last, value, notes),
+            Place::Arming => self.go_on(Place::AtAvailIndex { last: true }),
+            Place::AtEntry { more } => self.took_entry(more, value, notes),
+            Place::AtLow { more, entry } => self.go_on(Place::AtHigh {
+                more,
+                entry,
+                low: value,
+            }),
+            Place::AtHigh { more, entry, low } => self.took_high(more, entry, low, value, notes),
             Place::AtLength {
                 more,
                 entry,
                 address,
-            } => self.took_length(more, entry, address, value),
+            } => self.took_length(more, entry, address, value, notes),
             Place::AtFlags {
                 more,
                 entry,
                 address,
                 bytes,
-            } => self.took_flags(more, entry, address, bytes, value),
-            Place::AtWord { .. } => self.took_words(&value.to_le_bytes()),
-            Place::GivingId { more, .. } => self.go_on(Place::GivingLength { more }, None),
-            Place::GivingLength { more } => self.go_on(Place::GivingIndex { more }, None),
-            Place::GivingIndex { more } => self.gave_index(more),
-            Place::Ringing => self.go_on(Place::Closed, Some(Note::Done)),
-            Place::Refusing => self.left(),
+            } => self.took_flags(more, entry, address, bytes, value, notes),
+            Place::AtWord { .. } => self.took_words_into(&value.to_le_bytes(), notes),
+            Place::GivingId { more, .. } => self.go_on(Place::GivingLength { more }),
+            Place::GivingLength { more } => self.go_on(Place::GivingIndex { more }),
+            Place::GivingIndex { more } => self.gave_index(more, notes),
+            Place::Ringing => self.end(Note::Done, notes),
+            Place::Refusing => self.end(Note::Over, notes),
             Place::Closed => unreachable!(),
         }
     }
@@ -277,6 +286,22 @@ impl Rx {
         ensures notes { (result.items ≡ []) ⊎ (result.items ≡ Note.Deliver ∷ []) }
         ensures kept { KeepsNumbers self.old self.new }
     {
+        let mut notes = Notes::new();
+        self.took_words_into(words, &mut notes);
+        notes
+    }
+
+    /// The same as `took_words`, with the notes put into a list that the caller has.
+    pub fn took_words_into(&mut self, words: &[u8], notes: &mut Notes)
+        requires some { 0 < length words.now }
+        requires whole { length words.now % 4 ≡ 0 }
+        requires within { length words.now ≤ 4 * reads_ahead self.old.place }
+        requires empty { notes.old.items ≡ [] }
+        ensures steps { (values : List ℕ) → words.now ≡ flat_map word_bytes values → Each TakesOn self.old values notes.new.items self.new }
+        ensures frame { IfSome (frame_ahead self.old.place) (λ bytes. length words.now ≡ 4 * reads_ahead self.old.place → self.new.frame ≡ take bytes words.now) }
+        ensures notes { (notes.new.items ≡ []) ⊎ (notes.new.items ≡ Note.Deliver ∷ []) }
+        ensures kept { KeepsNumbers self.old self.new }
+    {
         match self.place {
             Place::AtWord {
                 more,
@@ -284,7 +309,7 @@ impl Rx {
                 address,
                 bytes,
                 at,
-            } => self.took_frame_words(more, entry, address, bytes, at, words),
+            } => self.took_frame_words(more, entry, address, bytes, at, words, notes),
             _ => unreachable!(),
         }
     }
@@ -347,137 +372,138 @@ impl Rx {
     }
 }
 
-/// The steps of `took`, one for each place.
+/// The steps of `took_into`, one for each place.
 impl Rx {
-    /// Goes on at this place, with this note.
-    fn go_on(&mut self, place: Place, note: Option<Note>) -> Notes
+    /// Goes on at this place, with nothing to note.
+    fn go_on(&mut self, place: Place)
         requires reached { IsReached self.old.sizes place }
         requires unread { words_read place ≡ 0 }
-        ensures place { self.new ≡ record self.old { place = place; gathered = [] } }
-        ensures notes { result.items ≡ option_to_list note }
+        ensures { self.new ≡ record self.old { place = place; gathered = [] } }
     {
         self.place = place;
-        let mut notes = Notes::new();
-        if let Some(note) = note {
-            notes.push(note);
-        }
-        notes
     }
 
     /// Refuses a value: the State step comes next.
-    fn refuse(&mut self, refused: Refused) -> Notes
+    fn refuse(&mut self, refused: Refused, notes: &mut Notes)
+        requires { notes.old.items ≡ [] }
         ensures place { self.new ≡ record self.old { place = Place.Refusing; gathered = [] } }
-        ensures notes { result.items ≡ Note.Refuse refused ∷ [] }
+        ensures notes { notes.new.items ≡ Note.Refuse refused ∷ [] }
     {
         self.place = Place::Refusing;
-        refusal(refused)
+        notes.push(Note::Refuse(refused));
     }
 
-    /// The State step of a poll that refused a value.
-    fn left(&mut self) -> Notes
+    /// Ends the poll, with this note.
+    fn end(&mut self, note: Note, notes: &mut Notes)
+        requires { notes.old.items ≡ [] }
         ensures place { self.new ≡ record self.old { place = Place.Closed; gathered = [] } }
-        ensures notes { result.items ≡ Note.Over ∷ [] }
+        ensures notes { notes.new.items ≡ note ∷ [] }
     {
         self.place = Place::Closed;
-        left()
+        notes.push(note);
     }
 
     /// The read of the available index. Where it finds nothing and isn't the last look, the event is written next.
-    fn took_index(&mut self, last: bool, value: u32) -> Notes
-        requires { self.old.place ≡ Place.AtAvailIndex last }
-        ensures steps { Takes self.old value result.items self.new }
+    fn took_index(&mut self, last: bool, value: u32, notes: &mut Notes)
+        requires place { self.old.place ≡ Place.AtAvailIndex last }
+        requires empty { notes.old.items ≡ [] }
+        ensures steps { Takes self.old value notes.new.items self.new }
         ensures kept { KeepsNumbers self.old self.new }
     {
         let index = (value >> 16) as u16;
         match self.queue.check_avail(self.returned, index) {
-            Err(refused) => self.refuse(refused),
+            Err(refused) => self.refuse(refused, notes),
             Ok(0) => {
                 self.found_none = true;
-                if !last {
-                    return self.go_on(Place::Arming, Some(Note::Look(0)));
+                notes.push(Note::Look(0));
+                if last {
+                    notes.push(Note::Done);
+                    self.go_on(Place::Closed);
+                } else {
+                    self.go_on(Place::Arming);
                 }
-                let mut notes = self.go_on(Place::Closed, Some(Note::Look(0)));
-                notes.push(Note::Done);
-                notes
             }
             Ok(found) => {
                 self.found_none = false;
-                let first = Place::AtEntry { more: found - 1 };
-                self.go_on(first, Some(Note::Look(found)))
+                notes.push(Note::Look(found));
+                self.go_on(Place::AtEntry { more: found - 1 });
             }
         }
     }
 
     /// The read of an item's entry.
-    fn took_entry(&mut self, more: u32, value: u32) -> Notes
-        requires { self.old.place ≡ Place.AtEntry more }
-        ensures steps { Takes self.old value result.items self.new }
+    fn took_entry(&mut self, more: u32, value: u32, notes: &mut Notes)
+        requires place { self.old.place ≡ Place.AtEntry more }
+        requires empty { notes.old.items ≡ [] }
+        ensures steps { Takes self.old value notes.new.items self.new }
         ensures kept { KeepsNumbers self.old self.new }
     {
         match self.queue.check_entry(entry_half(self.returned, value)) {
-            Err(refused) => self.refuse(refused),
-            Ok(entry) => self.go_on(Place::AtLow { more, entry }, None),
+            Err(refused) => self.refuse(refused, notes),
+            Ok(entry) => self.go_on(Place::AtLow { more, entry }),
         }
     }
 
     /// The read of an address's high word: the whole address is checked.
-    fn took_high(&mut self, more: u32, entry: u32, low: u32, value: u32) -> Notes
-        requires { self.old.place ≡ Place.AtHigh more entry low }
-        ensures steps { Takes self.old value result.items self.new }
+    fn took_high(&mut self, more: u32, entry: u32, low: u32, value: u32, notes: &mut Notes)
+        requires place { self.old.place ≡ Place.AtHigh more entry low }
+        requires empty { notes.old.items ≡ [] }
+        ensures steps { Takes self.old value notes.new.items self.new }
         ensures kept { KeepsNumbers self.old self.new }
     {
         let address = u64::from(low) + (u64::from(value) << 32);
         match self.queue.check_address(address) {
-            Err(refused) => self.refuse(refused),
-            Ok(address) => {
-                let next = Place::AtLength {
-                    more,
-                    entry,
-                    address,
-                };
-                self.go_on(next, None)
-            }
+            Err(refused) => self.refuse(refused, notes),
+            Ok(address) => self.go_on(Place::AtLength {
+                more,
+                entry,
+                address,
+            }),
         }
     }
 
     /// The read of a descriptor's length, which is read once.
-    fn took_length(&mut self, more: u32, entry: u32, address: u32, value: u32) -> Notes
-        requires { self.old.place ≡ Place.AtLength more entry address }
-        ensures steps { Takes self.old value result.items self.new }
+    fn took_length(&mut self, more: u32, entry: u32, address: u32, value: u32, notes: &mut Notes)
+        requires place { self.old.place ≡ Place.AtLength more entry address }
+        requires empty { notes.old.items ≡ [] }
+        ensures steps { Takes self.old value notes.new.items self.new }
         ensures kept { KeepsNumbers self.old self.new }
     {
         match self.queue.check_length(address, value) {
-            Err(refused) => self.refuse(refused),
-            Ok(bytes) => {
-                let next = Place::AtFlags {
-                    more,
-                    entry,
-                    address,
-                    bytes,
-                };
-                self.go_on(next, None)
-            }
+            Err(refused) => self.refuse(refused, notes),
+            Ok(bytes) => self.go_on(Place::AtFlags {
+                more,
+                entry,
+                address,
+                bytes,
+            }),
         }
     }
 
     /// The read of a descriptor's flags, which are its last field.
-    fn took_flags(&mut self, more: u32, entry: u32, address: u32, bytes: u32, value: u32) -> Notes
-        requires { self.old.place ≡ Place.AtFlags more entry address bytes }
-        ensures steps { Takes self.old value result.items self.new }
+    fn took_flags(
+        &mut self,
+        more: u32,
+        entry: u32,
+        address: u32,
+        bytes: u32,
+        value: u32,
+        notes: &mut Notes,
+    )
+        requires place { self.old.place ≡ Place.AtFlags more entry address bytes }
+        requires empty { notes.old.items ≡ [] }
+        ensures steps { Takes self.old value notes.new.items self.new }
         ensures kept { KeepsNumbers self.old self.new }
     {
         match self.queue.check_flags((value & 0xffff) as u16) {
-            Err(refused) => self.refuse(refused),
-            Ok(()) => {
-                let first = Place::AtWord {
-                    more,
-                    entry,
-                    address,
-                    bytes,
-                    at: 0,
-                };
-                self.go_on(first, None)
-            }
+            Err(refused) => self.refuse(refused, notes),
+            Ok(()) => self.go_on(Place::AtWord {
+                more,
+                entry,
+                address,
+                bytes,
+                at: 0,
+            }),
         }
     }
 
@@ -490,14 +516,16 @@ impl Rx {
         bytes: u32,
         at: u32,
         words: &[u8],
-    ) -> Notes
+        notes: &mut Notes,
+    )
         requires place { self.old.place ≡ Place.AtWord more entry address bytes at }
         requires some { 0 < length words.now }
         requires whole { length words.now % 4 ≡ 0 }
         requires within { length words.now ≤ 4 * (words_for bytes - at) }
-        ensures steps { (values : List ℕ) → words.now ≡ flat_map word_bytes values → Each TakesOn self.old values result.items self.new }
+        requires empty { notes.old.items ≡ [] }
+        ensures steps { (values : List ℕ) → words.now ≡ flat_map word_bytes values → Each TakesOn self.old values notes.new.items self.new }
         ensures frame { at ≡ 0 → length words.now ≡ 4 * words_for bytes → self.new.frame ≡ take bytes words.now }
-        ensures notes { (result.items ≡ []) ⊎ (result.items ≡ Note.Deliver ∷ []) }
+        ensures notes { (notes.new.items ≡ []) ⊎ (notes.new.items ≡ Note.Deliver ∷ []) }
         ensures kept { KeepsNumbers self.old self.new }
     {
         put_words(&mut self.buffer, bytes as usize, at as usize, words);
@@ -506,31 +534,33 @@ impl Rx {
         if last {
             swap(&mut self.buffer, &mut self.last);
             self.delivered = bytes as usize;
-            return self.go_on(Place::GivingId { more, entry }, Some(Note::Deliver));
+            self.place = Place::GivingId { more, entry };
+            notes.push(Note::Deliver);
+        } else {
+            self.place = Place::AtWord {
+                more,
+                entry,
+                address,
+                bytes,
+                at: read,
+            };
         }
-        self.place = Place::AtWord {
-            more,
-            entry,
-            address,
-            bytes,
-            at: read,
-        };
-        Notes::new()
     }
 
     /// The write of the used index, with which the item is returned.
-    fn gave_index(&mut self, more: u32) -> Notes
-        requires { self.old.place ≡ Place.GivingIndex more }
-        ensures steps { (value : ℕ) → Takes self.old value result.items self.new }
+    fn gave_index(&mut self, more: u32, notes: &mut Notes)
+        requires place { self.old.place ≡ Place.GivingIndex more }
+        requires empty { notes.old.items ≡ [] }
+        ensures steps { (value : ℕ) → Takes self.old value notes.new.items self.new }
         ensures kept { KeepsNumbers self.old self.new }
     {
         self.returned = self.returned.wrapping_add(1);
-        let next = if more == 0 {
+        notes.push(Note::Return);
+        self.place = if more == 0 {
             Place::Ringing
         } else {
             Place::AtEntry { more: more - 1 }
         };
-        self.go_on(next, Some(Note::Return))
     }
 }
 

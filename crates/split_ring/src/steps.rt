@@ -1,5 +1,5 @@
 //! The steps of a call: the access that an engine asks for, and what it notes after it.
-ghost use Rattle.std.specs.Prelude.{◌≡◌, [], ◌∷◌};
+ghost use Rattle.std.specs.Prelude.{◌≡◌};
 
 use crate::Refused;
 use arrayvec::ArrayVec;
@@ -71,32 +71,9 @@ pub enum Note {
 /// The notes of one step, in their order.
 pub type Notes = ArrayVec<Note, 2>;
 
-/// The notes of a step that has this one alone.
-pub fn noted(note: Note) -> Notes
-    ensures { result.items ≡ note ∷ [] }
-{
-    let mut notes = Notes::new();
-    notes.push(note);
-    notes
-}
-
-/// The notes of a step whose value is refused. The next step is `leaving`, and its notes are `left`.
-pub fn refusal(refused: Refused) -> Notes
-    ensures { result.items ≡ Note.Refuse refused ∷ [] }
-{
-    noted(Note::Refuse(refused))
-}
-
 /// The access of the step after a refusal: the end leaves the link by State 0.
 pub fn leaving() -> Access
     ensures { result ≡ Access.State 0 }
 {
     Access::State(0)
-}
-
-/// The notes of that step: the call is over.
-pub fn left() -> Notes
-    ensures { result.items ≡ Note.Over ∷ [] }
-{
-    noted(Note::Over)
 }

@@ -22,7 +22,7 @@ use call_grammar::places_follow_trees;
 use ivs_base::{Frame, NoMemory};
 use lawful_history::Line;
 use link_endpoint::{Auto, Call, Choice, Endpoint};
-use split_ring::steps::Note;
+use split_ring::steps::{Note, Notes};
 use std::alloc::Global;
 use std::collections::VecDeque;
 use step_lines::{count_notes, line_of};
@@ -159,7 +159,8 @@ fn carry_on(alloc: Global, me: u32, link: &mut Link, scene: &mut Scene) -> Resul
     places_follow_trees();
     let access = link.end.next();
     let value = scene.perform(me, access)?;
-    let notes = link.end.took(value);
+    let mut notes = Notes::new();
+    link.end.took_into(value, &mut notes);
     tell_notes(alloc, me, &link.end, notes.as_slice(), scene)?;
     if let Some(auto) = &mut link.auto {
         count_notes(auto, notes.as_slice());

@@ -42,6 +42,7 @@ impl Log {
     }
 
     /// Tells a line, and before it the mark of the session that it enters. NoMemory says that memory ran out.
+    #[inline(always)]
     pub fn push(&mut self, line: Line) -> Result<(), NoMemory>
         ensures { OnOk result (Tells line self.old self.new) }
     {
@@ -81,6 +82,7 @@ impl Log {
     }
 
     /// Tells the marks that stand before a line.
+    #[inline(always)]
     fn mark_before(&mut self, line: &Line) -> Result<(), NoMemory>
         ensures marks { OnOk result ((world : World) (output : Output) (past : List Line) → IsLogOf world output past self.old → AreFew past → self.new.lines ≡ self.old.lines ++ marks_in world output.version past line.now) }
         ensures frames { OnOk result (HaveFrames self.old.lines → HaveFrames self.new.lines) }
@@ -125,6 +127,7 @@ impl Log {
     }
 
     /// Counts the session that a line opens, and notes who enters RUN by it.
+    #[inline(always)]
     fn count(&mut self, line: &Line)
         ensures counts { (past : List Line) → Counts past self.old → Counts (line.now ∷ past) self.new }
         ensures version { self.new.version ≡ self.old.version }

@@ -37,6 +37,7 @@ pub struct Scene {
 
 impl Scene {
     /// Tells a line that changes no word and no device.
+    #[inline(always)]
     pub fn remark(&mut self, line: Line) -> Result<(), NoMemory>
         requires { IsRemark line }
         ensures after { (world : World) (output : Output) (past : List Line) (losses : ℕ → ℕ) → SceneAfter world output past losses self.old → OnOk result (SceneAfter world output (line ∷ past) losses self.new) }
@@ -71,6 +72,7 @@ impl Scene {
     }
 
     /// A peer reads a word of the region.
+    #[inline(always)]
     pub fn read(&mut self, me: u32, word: u32) -> Result<u32, NoMemory>
         requires seated { IsSeated self.old me }
         requires inside { word < word_count self.old.region.shape }
@@ -91,6 +93,7 @@ impl Scene {
     }
 
     /// A peer writes a word that it may write.
+    #[inline(always)]
     pub fn write(&mut self, me: u32, word: u32, value: u32) -> Result<(), NoMemory>
         requires seated { IsSeated self.old me }
         requires may { MayWrite self.old.region.shape me word }
@@ -126,6 +129,7 @@ impl Scene {
 
     /// Tells a line whose act the devices answered with this effect: the State that they wrote goes into the peer's word of the table. Returns
     /// whom it interrupts.
+    #[inline(always)]
     fn tell(
         &mut self,
         me: u32,
@@ -191,6 +195,7 @@ impl Scene {
     }
 
     /// A peer makes an access, which is told with the interrupts that it brings. Returns what a read gave, else 0.
+    #[inline(always)]
     pub fn perform(&mut self, me: u32, access: Access) -> Result<u32, NoMemory>
         requires seated { IsSeated self.old me }
         requires can { CanPerform self.old me access }

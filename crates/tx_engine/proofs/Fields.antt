@@ -13,9 +13,9 @@ use Rattle.tx_engine.specs.declared.place.Place.{Place}
 use Rattle.tx_engine.specs.declared.place.Place.TheVariants.{AtUsedIndex, AtUsedId, Refusing}
 use Rattle.tx_engine.specs.Sender.{Sender, IsFrame, IsPlace, turn_of}
 use Rattle.tx_engine.specs.Kept.{sender_of, IsKept}
-use Rattle.tx_engine.specs.Reads.{GoesOn}
+use Rattle.tx_engine.specs.Reads.{GoesOn, full_notes}
 use Rattle.tx_engine.specs.Stands.{Takes}
-use Rattle.tx_engine.proofs.Reading.{CanGoOn, with_turn, oldest_length, full_notes, index_taken, id_taken, id_refused}
+use Rattle.tx_engine.proofs.Reading.{CanGoOn, with_turn, oldest_length, index_taken, id_taken, id_refused}
 
 pub length_is : (t : Inside) → IsKept t → length (sender_of t).frame ≡ t.length
 length_is t kept = omega (arith, length-take t.length t.buffer.items, kept.buffer, kept.length)

@@ -8,6 +8,10 @@ use Rattle.tx_engine.specs.Sender.{Sender, IsSender}
 use Rattle.tx_engine.specs.Stands.{Takes}
 use Rattle.tx_engine.proofs.Writing.{fills_on, fills_last}
 
+-- a step with nothing to note
+pub quiet : (tx new next : Sender) (value : ℕ) (notes : List Note) → Takes tx value [] next → new ≡ next → notes ≡ [] → Takes tx value notes new
+quiet tx new next value notes takes new_is notes_are = subst (λ n. Takes tx value n new) (sym notes_are) (subst (Takes tx value []) (sym new_is) takes)
+
 pub word_written : (tx new : Sender) (slot : slots.Slot) (at more value : ℕ) (place : Place) (notes : List Note) → IsSender tx → tx.place ≡ Filling slot at more →
     (0 < more → place ≡ Filling slot (at + 1) (more - 1)) → (more ≡ 0 → place ≡ WritingLow slot) → new ≡ record tx { place = place } → notes ≡ [] → Takes tx value notes new
 word_written tx new slot at zero value place notes is here on last new_is notes_are =

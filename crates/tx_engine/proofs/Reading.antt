@@ -24,7 +24,7 @@ use Rattle.call_grammar.proofs.OfferLists.{yes, no, within_test}
 use Rattle.tx_engine.specs.declared.place.Place.{Place}
 use Rattle.tx_engine.specs.declared.place.Place.TheVariants.{Closed, Refusing, AtUsedIndex, AtUsedId, Filling, WritingLow, WritingHigh, WritingLength, WritingFlags, WritingEntry, WritingIndex, AtEvent, Ringing}
 use Rattle.tx_engine.specs.Sender.{Sender, IsSender, turn_of, KeepsFlight}
-use Rattle.tx_engine.specs.Reads.{GoesOn}
+use Rattle.tx_engine.specs.Reads.{GoesOn, full_notes}
 use Rattle.tx_engine.specs.Stands.{Counts, CountsPlaced, slot_of_job, IsAt, IsMadeFor, Takes}
 use Rattle.tx_engine.proofs.Flights.{told_flight, placed_flight, freed_flight, oldest_kept}
 use Rattle.tx_engine.proofs.Accesses.{at_here, freed_is, oldest_is}
@@ -60,11 +60,6 @@ takes old new here value notes is kept steps = record {
 -- the sender with these slots and kept lengths at this place
 abbrev pub with_turn : Sender → Turn → List ℕ → Place → Sender
 with_turn tx turn lengths place = record tx { next = turn.next; in_flight = turn.in_flight; head = turn.head; tail = turn.tail; left = turn.left; lengths = lengths; place = place }
-
--- an offer that ends after its reads notes that it found as many frames as may be in flight
-abbrev pub full_notes : Place → List Note
-full_notes Closed = note.Full ∷ []
-full_notes _ = []
 
 -- the sender at a place that it reads from
 pub record CanGoOn (tx : Sender) : Type 0 where
@@ -279,19 +274,3 @@ id_refused tx more id refused is here other refused_is = takes tx (record tx { p
     ap (λ (r : Refused). Refuse r ∷ []) refused_is ∙ sym (no _ (if more == 0 then full_marks who job (freed + 1) else []) (refusal UsedId id) test) in
     subst (λ p. (marks_of tx.frame (note.Refuse refused ∷ []) ≡ laws.marks_at who p id) × (laws.next_place who p id ≡ laws.Refusing)) (sym same)
     (marks, no _ (laws.ids_place who job (freed + 1) more) laws.Refusing test))
-
--- an offer that stays open notes nothing
-pub open_notes : (place : Place) → (place ≡ Closed → ⊥) → full_notes place ≡ []
-open_notes Closed still = absurd (still refl)
-open_notes Refusing still = refl
-open_notes AtUsedIndex still = refl
-open_notes (AtUsedId more) still = refl
-open_notes (Filling slot at more) still = refl
-open_notes (WritingLow slot) still = refl
-open_notes (WritingHigh slot) still = refl
-open_notes (WritingLength slot) still = refl
-open_notes (WritingFlags slot) still = refl
-open_notes (WritingEntry slot) still = refl
-open_notes WritingIndex still = refl
-open_notes AtEvent still = refl
-open_notes Ringing still = refl

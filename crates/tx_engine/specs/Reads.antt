@@ -1,5 +1,7 @@
 -- Where an offer goes on after a read, and after some writes of a descriptor's words.
-use Rattle.std.specs.Prelude.{◌≡◌, ℕ, ◌-◌, ◌<◌, ◌==◌, Bool, true, false, List, slice_set, if◌then◌else◌}
+use Rattle.std.specs.Prelude.{◌≡◌, ℕ, ◌-◌, ◌<◌, ◌==◌, Bool, true, false, List, [], ◌∷◌, slice_set, if◌then◌else◌}
+use Rattle.split_ring.specs.declared.steps.Note.{Note}
+use Rattle.split_ring.specs.declared.steps.Note.TheVariants.{Full}
 use Rattle.frame_slots.specs.declared.slots.Slot as slots
 use Rattle.frame_slots.specs.Turns.{Turn, has_room_in, slot_for, with_placed}
 use Rattle.call_grammar.specs.Words.{words_for}
@@ -13,6 +15,11 @@ pub record GoesOn (old : Turn) (lengths : List ℕ) (length ids : ℕ) (place : 
   pub fills : ids ≡ 0 → has_room_in old length ≡ true →
       (place ≡ Filling (slot_for old length) 0 (words_for length - 1)) × (new ≡ with_placed old length) × (kept ≡ slice_set lengths old.next length)
   pub ends : ids ≡ 0 → has_room_in old length ≡ false → (place ≡ Closed) × (new ≡ old) × (kept ≡ lengths)
+
+-- what an offer notes that goes on at this place after its reads: where it is over, that it found as many frames as may be in flight
+abbrev pub full_notes : Place → List Note
+full_notes Closed = Full ∷ []
+full_notes _ = []
 
 -- the place after the write of the index: the other's event is read in a link with events
 abbrev pub told : Bool → Place

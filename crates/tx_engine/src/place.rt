@@ -1,9 +1,10 @@
 //! Where an offer is.
-ghost use Rattle.std.specs.Prelude.{◌≡◌, ◌+◌, ◌-◌, ◌<◌, ◌≤◌, length};
+ghost use Rattle.std.specs.Prelude.{◌≡◌, ◌+◌, ◌-◌, ◌<◌, ◌≤◌, ◌++◌, length};
 ghost use Rattle.split_ring.specs.Layout.{limit_of};
-ghost use Rattle.tx_engine.specs.Reads.{GoesOn, described, told};
+ghost use Rattle.tx_engine.specs.Reads.{GoesOn, described, full_notes, told};
 
 use frame_slots::{Slot, Slots};
+use split_ring::steps::{Note, Notes};
 
 /// The place in the open offer: what its next step is. A slot is that of the frame in hand.
 ///
@@ -48,6 +49,16 @@ pub enum Place {
     AtEvent,
     /// Before the doorbell.
     Ringing,
+}
+
+/// Notes that the link is full where no place is left for the frame, so that the offer is over.
+pub fn note_full(place: Place, notes: &mut Notes)
+    requires { length notes.old.items < 2 }
+    ensures { notes.new.items ≡ notes.old.items ++ full_notes place }
+{
+    if let Place::Closed = place {
+        notes.push(Note::Full);
+    }
 }
 
 /// The place before word `at` of the frame in its slot, where so many words are to come, or after its last word.

@@ -15,10 +15,10 @@ ghost use Rattle.tx_engine.specs.Ahead.{stretches_of, words_of, listed, last_wor
 ghost use Rattle.tx_engine.specs.Stands.{StandsAt, Takes, TakesOn, IsMadeFor, IsFreshSession, ClosedStays};
 
 use crate::ahead::{Stretch, Stretches};
-use crate::place::{Place, describing, filling, offer_after_ids, told};
+use crate::place::{Place, describing, filling, note_full, offer_after_ids, told};
 use frame_slots::{Slot, Slots};
 use ivs_base::{NoMemory, plus, word_of};
-use split_ring::steps::{Access, Note, Notes, WordKind, leaving, left, noted, refusal};
+use split_ring::steps::{Access, Note, Notes, WordKind, leaving};
 use split_ring::{Queue, Refused, need_event};
 use std::alloc::Global;
 use std::marker::Model;
@@ -184,19 +184,30 @@ impl Tx {
         requires { is_open self.old.place ≡ true }
         ensures { Takes self.old value result.items self.new }
     {
+        let mut notes = Notes::new();
+        self.took_into(value, &mut notes);
+        notes
+    }
+
+    /// The same as `took`, with the notes put into a list that the caller has.
+    pub fn took_into(&mut self, value: u32, notes: &mut Notes)
+        requires open { is_open self.old.place ≡ true }
+        requires empty { notes.old.items ≡ [] }
+        ensures { Takes self.old value notes.new.items self.new }
+    {
         match self.place {
-            Place::AtUsedIndex => self.took_index(value),
-            Place::AtUsedId { more } => self.took_id(more, value),
+            Place::AtUsedIndex => self.took_index(value, notes),
+            Place::AtUsedId { more } => self.took_id(more, value, notes),
             Place::Filling { slot, at, more } => self.go_on(filling(slot, at + 1, more)),
             Place::WritingLow(slot) => self.go_on(Place::WritingHigh(slot)),
             Place::WritingHigh(slot) => self.go_on(Place::WritingLength(slot)),
             Place::WritingLength(slot) => self.go_on(Place::WritingFlags(slot)),
             Place::WritingFlags(slot) => self.go_on(Place::WritingEntry(slot)),
-            Place::WritingEntry(slot) => self.wrote_entry(slot),
-            Place::WritingIndex => self.wrote_index(),
-            Place::AtEvent => self.took_event(value),
-            Place::Ringing => self.end(),
-            Place::Refusing => self.end(),
+            Place::WritingEntry(slot) => self.enter(slot),
+            Place::WritingIndex => self.wrote_index(notes),
+            Place::AtEvent => self.took_event(value, notes),
+            Place::Ringing => self.end(notes),
+            Place::Refusing => self.end(notes),
             Place::Closed => unreachable!(),
         }
     }
@@ -407,22 +418,11 @@ impl Tx {
     }
 
     /// Goes on at this place, with nothing to note.
-    fn go_on(&mut self, place: Place) -> Notes
+    fn go_on(&mut self, place: Place)
         requires { IsPlace self.old place }
-        ensures value { self.new ≡ record self.old { place = place } }
-        ensures notes { result.items ≡ [] }
+        ensures { self.new ≡ record self.old { place = place } }
     {
         self.place = place;
-        Notes::new()
-    }
-
-    /// Takes the write of the entry.
-    fn wrote_entry(&mut self, slot: Slot) -> Notes
-        requires { self.old.place ≡ Place.WritingEntry slot }
-        ensures { (value : ℕ) → Takes self.old value result.items self.new }
-    {
-        self.enter(slot);
-        Notes::new()
     }
 
     /// Goes past the write of the entry: its word goes into the own copy.
@@ -436,85 +436,84 @@ impl Tx {
     }
 
     /// Takes the write of the index, with which the frame is accepted.
-    fn wrote_index(&mut self) -> Notes
-        requires { self.old.place ≡ Place.WritingIndex }
-        ensures { (value : ℕ) → Takes self.old value result.items self.new }
+    fn wrote_index(&mut self, notes: &mut Notes)
+        requires place { self.old.place ≡ Place.WritingIndex }
+        requires empty { notes.old.items ≡ [] }
+        ensures { (value : ℕ) → Takes self.old value notes.new.items self.new }
     {
         self.accepted = plus(self.accepted, 1);
         self.place = told(self.queue.has_events());
-        noted(Note::Accept)
+        notes.push(Note::Accept);
     }
 
     /// Takes the other's event: the doorbell comes next where it asks for the frame that was accepted just now.
-    fn took_event(&mut self, value: u32) -> Notes
-        requires { self.old.place ≡ Place.AtEvent }
-        ensures { Takes self.old value result.items self.new }
+    fn took_event(&mut self, value: u32, notes: &mut Notes)
+        requires place { self.old.place ≡ Place.AtEvent }
+        requires empty { notes.old.items ≡ [] }
+        ensures { Takes self.old value notes.new.items self.new }
     {
         let event = (value % 65_536) as u16;
         let before = self.accepted.wrapping_sub(1);
         if need_event(event, self.accepted, before) {
-            self.go_on(Place::Ringing)
+            self.go_on(Place::Ringing);
         } else {
-            self.end()
+            self.end(notes);
         }
     }
 
     /// Ends the offer.
-    fn end(&mut self) -> Notes
+    fn end(&mut self, notes: &mut Notes)
+        requires { notes.old.items ≡ [] }
         ensures value { self.new ≡ record self.old { place = Place.Closed } }
-        ensures notes { result.items ≡ Note.Over ∷ [] }
+        ensures notes { notes.new.items ≡ Note.Over ∷ [] }
     {
         self.place = Place::Closed;
-        left()
+        notes.push(Note::Over);
     }
 
     /// Takes the used index.
-    fn took_index(&mut self, value: u32) -> Notes
-        requires { self.old.place ≡ Place.AtUsedIndex }
-        ensures { Takes self.old value result.items self.new }
+    fn took_index(&mut self, value: u32, notes: &mut Notes)
+        requires place { self.old.place ≡ Place.AtUsedIndex }
+        requires empty { notes.old.items ≡ [] }
+        ensures { Takes self.old value notes.new.items self.new }
     {
         let index = (value / 65_536) as u16;
         let freed = self.freed();
         let in_flight = self.slots.in_flight();
         match self.queue.check_used(freed, index, in_flight) {
             Ok(count) => {
-                let mut notes = noted(Note::Reclaim(count));
+                notes.push(Note::Reclaim(count));
                 let bytes = self.length;
                 self.place = offer_after_ids(&mut self.slots, &mut self.lengths, bytes, count);
-                if let Place::Closed = self.place {
-                    notes.push(Note::Full);
-                }
-                notes
+                note_full(self.place, notes);
             }
-            Err(refused) => self.refuses(refused),
+            Err(refused) => self.refuses(refused, notes),
         }
     }
 
     /// Takes the id of the oldest frame in flight.
-    fn took_id(&mut self, more: u32, id: u32) -> Notes
-        requires { self.old.place ≡ Place.AtUsedId more }
-        ensures { Takes self.old id result.items self.new }
+    fn took_id(&mut self, more: u32, id: u32, notes: &mut Notes)
+        requires place { self.old.place ≡ Place.AtUsedId more }
+        requires empty { notes.old.items ≡ [] }
+        ensures { Takes self.old id notes.new.items self.new }
     {
         let oldest = self.slots.oldest();
         if let Err(refused) = self.queue.check_id(oldest, id) {
-            return self.refuses(refused);
+            return self.refuses(refused, notes);
         }
-        let mut notes = Notes::new();
         self.slots.free(self.lengths[oldest as usize]);
         self.place = offer_after_ids(&mut self.slots, &mut self.lengths, self.length, more);
-        if let Place::Closed = self.place {
-            notes.push(Note::Full);
-        }
-        notes
+        note_full(self.place, notes);
     }
 
     /// Goes on to the State step of a refusal.
-    fn refuses(&mut self, refused: Refused) -> Notes
-        ensures note { result.items ≡ Note.Refuse refused ∷ [] }
+    fn refuses(&mut self, refused: Refused, notes: &mut Notes)
+        requires { notes.old.items ≡ [] }
+        ensures note { notes.new.items ≡ Note.Refuse refused ∷ [] }
         ensures value { self.new ≡ record self.old { place = Place.Refusing } }
     {
         self.place = Place::Refusing;
-        refusal(refused)
+        notes.push(Note::Refuse(refused));
     }
 }
 

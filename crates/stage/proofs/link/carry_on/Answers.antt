@@ -25,9 +25,9 @@ tell_notes-requires c =
     let stands = c.requires.stands.2 in
     let who = c.requires.stands.0 in
     let peer = c.requires.stands.1 in
-    subst (λ (ns : List Note). HaveFrames (map (mark_line c.args.me) (marks_between (offered c.took-notes.new.self) (delivered c.took-notes.new.self) ns))) (sym c.as_slice.ensures.value)
-    (frames_now c.args.me c.args.link.now.end c.took-notes.new.self _ c.took-notes.result.items who peer c.args.link.now stands c.took-notes.ensures.steps
-    (busy_next c.args.link.now.end c.took-notes.new.self _ c.took-notes.result.items who peer.end stands.place c.took-notes.ensures.steps stands.end))
+    subst (λ (ns : List Note). HaveFrames (map (mark_line c.args.me) (marks_between (offered c.took_into.new.self) (delivered c.took_into.new.self) ns))) (sym c.as_slice.ensures.value)
+    (frames_now c.args.me c.args.link.now.end c.took_into.new.self _ c.took_into.new.notes.items who peer c.args.link.now stands c.took_into.ensures.steps
+    (busy_next c.args.link.now.end c.took_into.new.self _ c.took_into.new.notes.items who peer.end stands.place c.took_into.ensures.steps stands.end))
 
 pub returns-in_err-tell_notes-clause-seated : goal.returns-in_err-tell_notes-clause-seated
 returns-in_err-tell_notes-clause-seated c = λ q seated. c.tell_notes.ensures.seated q (c.perform.ensures.seated q seated)
@@ -41,23 +41,23 @@ returns-in_default-clause-seated c = λ q seated. c.tell_notes.ensures.seated q 
 pub returns-in-Some-clause-steps : goal.returns-in-Some-clause-steps
 returns-in-Some-clause-steps c = λ world output past losses peer after stands.
     let who = who_of world c.args.me in
-    let took : Takes c.args.link.now.end c.in_ok-value.value c.took-notes.result.items c.took-notes.new.self = c.took-notes.ensures.steps in
+    let took : Takes c.args.link.now.end c.in_ok-value.value c.took_into.new.notes.items c.took_into.new.self = c.took_into.ensures.steps in
     let driver : DriverIs (Some c.in-Some.auto) peer.driver = subst (λ (o : Option Plan). DriverIs o peer.driver) c.in-Some.is stands.driver in
-    carried c.places_follow_trees.ensures world output past losses c.args.me peer c.args.link.now _ c.perform.new.self c.tell_notes.new.scene c.next-access.result c.in_ok-value.value c.took-notes.result.items stands
+    carried c.places_follow_trees.ensures world output past losses c.args.me peer c.args.link.now _ c.perform.new.self c.tell_notes.new.scene c.next-access.result c.in_ok-value.value c.took_into.new.notes.items stands
     (sym (busy_is c.args.link.now.end who peer.end stands.place stands.end) ∙ c.requires.open)
     (c.next-access.ensures.access who peer.end stands.place stands.end) (c.in_ok-value.ensures.after world output past losses after) took
-    (busy_next c.args.link.now.end c.took-notes.new.self c.in_ok-value.value c.took-notes.result.items who peer.end stands.place took stands.end) refl
+    (busy_next c.args.link.now.end c.took_into.new.self c.in_ok-value.value c.took_into.new.notes.items who peer.end stands.place took stands.end) refl
     (driver_counts c.in-Some.auto c.count_notes.new.auto peer.driver _ driver
-    (λ auto is. rw c.as_slice-in-Some.ensures.value at (c.count_notes.ensures auto (offered c.took-notes.new.self) (delivered c.took-notes.new.self) is)))
+    (λ auto is. rw c.as_slice-in-Some.ensures.value at (c.count_notes.ensures auto (offered c.took_into.new.self) (delivered c.took_into.new.self) is)))
     (λ w p l b. rw c.as_slice.ensures.value at (c.in_ok-tell_notes.ensures.after w p l b))
 
 pub returns-in_default-clause-steps : goal.returns-in_default-clause-steps
 returns-in_default-clause-steps c = λ world output past losses peer after stands.
     let who = who_of world c.args.me in
-    let took : Takes c.args.link.now.end c.in_ok-value.value c.took-notes.result.items c.took-notes.new.self = c.took-notes.ensures.steps in
-    carried c.places_follow_trees.ensures world output past losses c.args.me peer c.args.link.now _ c.perform.new.self c.tell_notes.new.scene c.next-access.result c.in_ok-value.value c.took-notes.result.items stands
+    let took : Takes c.args.link.now.end c.in_ok-value.value c.took_into.new.notes.items c.took_into.new.self = c.took_into.ensures.steps in
+    carried c.places_follow_trees.ensures world output past losses c.args.me peer c.args.link.now _ c.perform.new.self c.tell_notes.new.scene c.next-access.result c.in_ok-value.value c.took_into.new.notes.items stands
     (sym (busy_is c.args.link.now.end who peer.end stands.place stands.end) ∙ c.requires.open)
     (c.next-access.ensures.access who peer.end stands.place stands.end) (c.in_ok-value.ensures.after world output past losses after) took
-    (busy_next c.args.link.now.end c.took-notes.new.self c.in_ok-value.value c.took-notes.result.items who peer.end stands.place took stands.end) refl
+    (busy_next c.args.link.now.end c.took_into.new.self c.in_ok-value.value c.took_into.new.notes.items who peer.end stands.place took stands.end) refl
     (driver_waits c.args.link.now.auto peer.driver _ c.in_default.is stands.driver)
     (λ w p l b. rw c.as_slice.ensures.value at (c.in_ok-tell_notes.ensures.after w p l b))

@@ -9,11 +9,11 @@ use Rattle.link_endpoint.specs.Stands.{Takes}
 use Rattle.link_endpoint.proofs.Setting.{sets_other}
 use Rattle.link_endpoint.proofs.endpoint.Endpoint.took_set.Goals as goal
 
-taken : (c : goal.After-noted) (value : ℕ) → Takes (seen c.self.inside) value (note.Over ∷ []) (record (seen c.self.inside) { phase = c.enter.new.self.phase; place = Closed })
+taken : (c : goal.After-push) (value : ℕ) → Takes (seen c.self.inside) value (note.Over ∷ []) (record (seen c.self.inside) { phase = c.enter.new.self.phase; place = Closed })
 taken c value = sets_other (seen c.self.inside) _ c.args.state value (grind (arith, common_steps)) (grind (arith, common_steps)) (grind (arith, common_steps))
 
 pub returns-clause-steps : goal.returns-clause-steps
-returns-clause-steps c = λ value. rw (← c.self.view_is, c.noted.ensures) (taken c value)
+returns-clause-steps c = λ value. rw (← c.self.view_is, c.push.ensures.items, c.requires.empty) (taken c value)
 
 pub invariant_of-self : goal.invariant_of-self
 invariant_of-self c =

@@ -6,5 +6,5 @@ use Rattle.rx_engine.proofs.receiver.Rx.took_high.Goals as goal
 
 pub returns-in-Err-clause-steps : goal.returns-in-Err-clause-steps
 returns-in-Err-clause-steps c = λ who end place stands.
-    let counts : Counts c.args.self.now end = stands.busy (ap is_open_at c.requires) in
+    let counts : Counts c.args.self.now end = stands.busy (ap is_open_at c.requires.place) in
     grind (arith, common_steps)

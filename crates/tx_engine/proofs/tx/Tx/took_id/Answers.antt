@@ -1,48 +1,41 @@
 use Rattle.std.proofs.Common.{◌≡◌, List, [], ◌∷◌, ◌++◌, slice_index, ap, sym, ◌∙◌, subst, arith}
-use Rattle.arrayvec.specs.ArrayVec.{ArrayVec}
 use Rattle.split_ring.specs.declared.steps.Note.{Note}
-use Rattle.split_ring.specs.declared.steps.Note.TheVariants.{Full}
 use Rattle.frame_slots.specs.Turns.{with_freed, oldest_of}
 use Rattle.frame_slots.specs.Rings.{IsOldest}
 use Rattle.tx_engine.specs.declared.place.Place.TheVariants.{AtUsedId}
 use Rattle.tx_engine.specs.Sender.{Sender, turn_of}
 use Rattle.tx_engine.specs.Kept.{sender_of}
-use Rattle.tx_engine.specs.Reads.{GoesOn}
+use Rattle.tx_engine.specs.Reads.{GoesOn, full_notes}
 use Rattle.tx_engine.proofs.Flights.{oldest_is_kept}
 use Rattle.tx_engine.proofs.Keeping.{oldest_read, seen_written, id_kept}
 use Rattle.tx_engine.specs.Stands.{Takes}
-use Rattle.tx_engine.proofs.Reading.{full_notes, open_notes}
 use Rattle.tx_engine.proofs.Fields.{place_holds, turn_is, id_step, id_refusal}
 use Rattle.tx_engine.proofs.tx.Tx.took_id.Goals as goal
-use Rattle.tx_engine.proofs.tx.Tx.took_id.Goals.{in-Closed, in_default-place}
 
 pub returns-in-Err : goal.returns-in-Err
 returns-in-Err c =
-    let here = ap (λ (s : Sender). s.place) c.self.view_is ∙ c.requires in
-    subst (λ (s : Sender). Takes c.args.self.now c.args.id c.refuses.result.items s) (sym c.refuses.ensures.value)
+    let here = ap (λ (s : Sender). s.place) c.self.view_is ∙ c.requires.place in
+    subst (λ (s : Sender). Takes c.args.self.now c.args.id c.refuses.new.notes.items s) (sym c.refuses.ensures.value)
     (id_refusal c.self.inside _ c.args.more c.args.id c.oldest-oldest.result c.in-Err.refused _ c.self.view_is c.self.invariant here c.oldest-oldest.ensures c.in-Err.ensures.outside.0 c.in-Err.ensures.outside.1 c.refuses.ensures.note)
 
 pub returns : goal.returns
 returns c =
-    let here = ap (λ (s : Sender). s.place) c.self.view_is ∙ c.requires in
-    let notes_are : c.match-self.notes.items ≡ full_notes c.offer_after_ids-self-inside.result =
-    elim c.match-self.branch [
-      | in-Closed w ↦ ap (λ (n : ArrayVec Note). n.items) w.notes-is ∙ (w.push.ensures.items ∙ (ap (λ (n : List Note). n ++ Full ∷ []) c.new-notes.ensures ∙ ap full_notes (sym w.in-Closed.is)))
-      | in_default-place w ↦ ap (λ (n : ArrayVec Note). n.items) w.notes-is ∙ (c.new-notes.ensures ∙ sym (open_notes _ w.in_default-place.not-Closed))
-    ] in
+    let here = ap (λ (s : Sender). s.place) c.self.view_is ∙ c.requires.place in
+    let notes_are : c.note_full.new.notes.items ≡ full_notes c.offer_after_ids-self-inside.result =
+    c.note_full.ensures ∙ ap (λ (n : List Note). n ++ full_notes c.offer_after_ids-self-inside.result) c.requires.empty in
     let t = c.self.inside in
     let kept = oldest_read t c.self.invariant c.oldest-oldest.result c.index.result.now c.oldest-oldest.ensures c.index.ensures in
     let on = subst (λ l. GoesOn c.free.new.self l t.length c.args.more c.offer_after_ids-self-inside.result c.offer_after_ids-self-inside.new.slots c.offer_after_ids-self-inside.new.lengths)
     c.deref_mut.ensures.value c.offer_after_ids-self-inside.ensures in
     let sized = c.offer_after_ids-self-inside.auto.lengths ∙ c.deref_mut.ensures.len in
-    subst (Takes c.args.self.now c.args.id c.match-self.notes.items) (seen_written t c.offer_after_ids-self-inside.result c.offer_after_ids-self-inside.new.slots c.offer_after_ids-self-inside.new.lengths sized)
+    subst (Takes c.args.self.now c.args.id c.note_full.new.notes.items) (seen_written t c.offer_after_ids-self-inside.result c.offer_after_ids-self-inside.new.slots c.offer_after_ids-self-inside.new.lengths sized)
     (id_step t _ c.args.more c.args.id c.oldest-oldest.result c.free.new.self _ _ _ _ c.self.view_is c.self.invariant here c.oldest-oldest.ensures c.in_default.ensures.inside
     (c.free.ensures ∙ ap (with_freed t.slots) kept) on notes_are)
 
 pub free-requires : goal.free-requires
 free-requires c =
     let t = c.self.inside in
-    let here = ap (λ (s : Sender). s.place) c.self.view_is ∙ c.requires in
+    let here = ap (λ (s : Sender). s.place) c.self.view_is ∙ c.requires.place in
     let some = (place_holds t (AtUsedId c.args.more) c.self.invariant here).0 in
     let kept = oldest_read t c.self.invariant c.oldest-oldest.result c.index.result.now c.oldest-oldest.ensures c.index.ensures in
     subst (IsOldest t.slots) (ap (slice_index t.lengths.items) (sym c.oldest-oldest.ensures) ∙ sym kept)
@@ -51,7 +44,7 @@ free-requires c =
 pub invariant_of-self : goal.invariant_of-self
 invariant_of-self c =
     let t = c.self.inside in
-    let here = ap (λ (s : Sender). s.place) c.self.view_is ∙ c.requires in
+    let here = ap (λ (s : Sender). s.place) c.self.view_is ∙ c.requires.place in
     let kept = oldest_read t c.self.invariant c.oldest-oldest.result c.index.result.now c.oldest-oldest.ensures c.index.ensures in
     let on = subst (λ l. GoesOn c.free.new.self l t.length c.args.more c.offer_after_ids-self-inside.result c.offer_after_ids-self-inside.new.slots c.offer_after_ids-self-inside.new.lengths)
     c.deref_mut.ensures.value c.offer_after_ids-self-inside.ensures in

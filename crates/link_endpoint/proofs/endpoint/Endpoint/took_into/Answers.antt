@@ -1,7 +1,7 @@
-use Rattle.link_endpoint.proofs.endpoint.Endpoint.took.Goals as goal
+use Rattle.link_endpoint.proofs.endpoint.Endpoint.took_into.Goals as goal
 
 pub returns-in-Clearing-clause-steps : goal.returns-in-Clearing-clause-steps
-returns-in-Clearing-clause-steps c = c.took_clear.ensures.steps c.args.value
+returns-in-Clearing-clause-steps c = rw (c.requires.empty) (c.took_clear.ensures.steps c.args.value)
 
 pub returns-in-Setting-clause-steps : goal.returns-in-Setting-clause-steps
 returns-in-Setting-clause-steps c = c.took_set.ensures.steps c.args.value
@@ -13,16 +13,16 @@ pub returns-in-Downed-clause-steps : goal.returns-in-Downed-clause-steps
 returns-in-Downed-clause-steps c = c.took_down.ensures.steps c.args.value
 
 pub returns-in-Clearing-clause-refuses : goal.returns-in-Clearing-clause-refuses
-returns-in-Clearing-clause-refuses c = (c.took_clear.ensures.leaving c.args.value).refuses
+returns-in-Clearing-clause-refuses c = rw (c.requires.empty) ((c.took_clear.ensures.leaving c.args.value).refuses)
 
 pub returns-in-Clearing-clause-leaves : goal.returns-in-Clearing-clause-leaves
-returns-in-Clearing-clause-leaves c = (c.took_clear.ensures.leaving c.args.value).leaves
+returns-in-Clearing-clause-leaves c = rw (c.requires.empty) ((c.took_clear.ensures.leaving c.args.value).leaves)
 
 pub returns-in-Clearing-clause-keeps : goal.returns-in-Clearing-clause-keeps
 returns-in-Clearing-clause-keeps c = (c.took_clear.ensures.leaving c.args.value).keeps
 
 pub returns-in-Clearing-clause-stays : goal.returns-in-Clearing-clause-stays
-returns-in-Clearing-clause-stays c = (c.took_clear.ensures.leaving c.args.value).stays
+returns-in-Clearing-clause-stays c = rw (c.requires.empty) ((c.took_clear.ensures.leaving c.args.value).stays)
 
 pub returns-in-Setting-clause-refuses : goal.returns-in-Setting-clause-refuses
 returns-in-Setting-clause-refuses c = (c.took_set.ensures.leaving c.args.value).refuses

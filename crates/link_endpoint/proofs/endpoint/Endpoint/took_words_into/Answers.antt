@@ -10,7 +10,7 @@ use Rattle.link_endpoint.specs.Kept.{seen}
 use Rattle.link_endpoint.specs.Stretches.{IsTaken}
 use Rattle.rx_engine.specs.Receiver.{Receiver}
 use Rattle.link_endpoint.proofs.Stretching.{none_refused, polls_on, kept_polled}
-use Rattle.link_endpoint.proofs.endpoint.Endpoint.took_words.Goals as goal
+use Rattle.link_endpoint.proofs.endpoint.Endpoint.took_words_into.Goals as goal
 
 polls : (p : Place) (rx : Receiver) → 0 < reads_ahead_at p rx → p ≡ Polling
 polls Closed rx some = absurd (omega (arith, some))
@@ -23,15 +23,15 @@ polls Offering rx some = absurd (omega (arith, some))
 polls Polling rx some = refl
 
 -- a poll is open
-here : (c : goal.After-took_words) → c.self.inside.place ≡ Polling
+here : (c : goal.After-took_words_into) → c.self.inside.place ≡ Polling
 here c =
     let ahead : reads_ahead c.args.self.now ≡ reads_ahead_at c.self.inside.place c.self.inside.rx = ap reads_ahead (sym c.self.view_is) in
     polls c.self.inside.place c.self.inside.rx (omega (arith, ahead, c.requires.some, c.requires.within))
 
-steps : (c : goal.After-took_words) (values : List ℕ) → c.args.words.now ≡ flat_map word_bytes values → Each IsTaken (seen c.self.inside) values c.took_words.result.items (seen (record (c.self.inside) { rx = c.took_words.new.self }))
+steps : (c : goal.After-took_words_into) (values : List ℕ) → c.args.words.now ≡ flat_map word_bytes values → Each IsTaken (seen c.self.inside) values c.took_words_into.new.notes.items (seen (record (c.self.inside) { rx = c.took_words_into.new.self }))
 steps c values words_are =
     let kept = c.self.invariant in
-    polls_on (seen c.self.inside) values c.took_words.result.items c.took_words.new.self (seen c.self.inside).who kept.end kept.at (here c) (c.took_words.ensures.steps values words_are) kept.stands (none_refused _ c.took_words.ensures.notes)
+    polls_on (seen c.self.inside) values c.took_words_into.new.notes.items c.took_words_into.new.self (seen c.self.inside).who kept.end kept.at (here c) (c.took_words_into.ensures.steps values words_are) kept.stands (none_refused _ c.took_words_into.ensures.notes)
 
 pub returns-clause-steps : goal.returns-clause-steps
 returns-clause-steps c = λ values words_are. rw (← c.self.view_is) (steps c values words_are)
@@ -40,11 +40,11 @@ pub returns-clause-frame : goal.returns-clause-frame
 returns-clause-frame c =
     let rx = c.self.inside.rx in
     let words = c.args.words.now in
-    let frame = c.took_words.new.self.frame in
+    let frame = c.took_words_into.new.self.frame in
     subst (λ (e : Engine). IfSome (frame_ahead e) (λ n. length words ≡ 4 * reads_ahead e → frame ≡ take n words)) c.self.view_is
-    (subst (λ p. IfSome (frame_ahead_at p rx) (λ n. length words ≡ 4 * reads_ahead_at p rx → frame ≡ take n words)) (sym (here c)) c.took_words.ensures.frame)
+    (subst (λ p. IfSome (frame_ahead_at p rx) (λ n. length words ≡ 4 * reads_ahead_at p rx → frame ≡ take n words)) (sym (here c)) c.took_words_into.ensures.frame)
 
 pub invariant_of-self : goal.invariant_of-self
 invariant_of-self c =
     let words = spelled c.args.words.now c.requires.whole (λ i. omega (arith, c.type_inv.words i)) in
-    kept_polled c.self.inside c.took_words.new.self words.0 c.took_words.result.items c.self.invariant c.took_words.ensures.kept (steps c words.0 words.1)
+    kept_polled c.self.inside c.took_words_into.new.self words.0 c.took_words_into.new.notes.items c.self.invariant c.took_words_into.ensures.kept (steps c words.0 words.1)

@@ -2,7 +2,7 @@ use Rattle.std.proofs.Common.{◌≡◌, ℕ, zero, suc, ◌*◌, List, length, 
 use Rattle.call_grammar.specs.Words.{words_for}
 use Rattle.rx_engine.specs.Receiver.{Receiver, frame_ahead, reads_ahead}
 use Rattle.rx_engine.specs.declared.place.Place.TheVariants.{AtWord}
-use Rattle.rx_engine.proofs.receiver.Rx.took_words.Goals as goal
+use Rattle.rx_engine.proofs.receiver.Rx.took_words_into.Goals as goal
 
 -- all words of a frame, from its first one on
 whole : (more entry address bytes at : ℕ) (words frame : List ℕ) → (at ≡ 0 → length words ≡ 4 * words_for bytes → frame ≡ take bytes words) →

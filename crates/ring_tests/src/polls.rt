@@ -19,6 +19,16 @@ fn step(rt: &impl Abort, rx: &mut Rx, access: Access, value: u32, notes: &[Note]
     assert!(rt; rx.took(value).as_slice() == notes);
 }
 
+/// Some reads of a frame's words at once: the first one's access, the bytes that they give, and the notes of the last.
+fn reads(rt: &impl Abort, rx: &mut Rx, access: Access, bytes: &[u8], notes: &[Note]) {
+    assert!(rt; rx.busy());
+    assert_eq!(rt; rx.next(), access);
+    assert!(rt; !bytes.is_empty() && bytes.len() <= 16);
+    assert!(rt; bytes.len().is_multiple_of(4));
+    assert!(rt; bytes.len() <= 4 * rx.reads_ahead() as usize);
+    assert!(rt; rx.took_words(bytes).as_slice() == notes);
+}
+
 const FRAME: [u8; 14] = [
     0xff, 0xff, 0xff, 0xff, 0xff, 0xff, 0x02, 0, 0, 0, 0, 0x01, 0x08, 0,
 ];
@@ -95,6 +105,39 @@ fn refuses(rt: &impl Abort, rx: &mut Rx, values: &[u32], field: FieldName, value
     }
     step(rt, rx, Access::State(0), 0, &[Note::Over]);
     assert!(rt; !rx.busy());
+}
+
+/// The frame of one offer, whose words are read in two pieces: the first two words, then the others.
+#[test]
+fn a_frame_in_two_pieces(rt: HostRuntime) -> Result<(), Fail> {
+    let queue = example(&rt);
+    assert!(rt; queue.out() == 16_384);
+    let mut rx = Rx::new(rt.alloc(), &queue, 5_120, 1_024, 0, 1)?;
+    rx.begin();
+    step(&rt, &mut rx, Access::Read(1_280), 65_536, &[Note::Look(1)]);
+    for (word, value) in [
+        (1_281, 0),
+        (1_024, 1_792),
+        (1_025, 0),
+        (1_026, 14),
+        (1_027, 0),
+    ] {
+        step(&rt, &mut rx, Access::Read(word), value, &[]);
+    }
+    let words = [
+        0xff, 0xff, 0xff, 0xff, 0xff, 0xff, 0x02, 0, 0, 0, 0, 0x01, 0x08, 0, 0, 0,
+    ];
+    reads(&rt, &mut rx, Access::Read(1_472), &words[..8], &[]);
+    assert!(rt; rx.frame().is_empty());
+    reads(
+        &rt,
+        &mut rx,
+        Access::Read(1_474),
+        &words[8..],
+        &[Note::Deliver],
+    );
+    assert!(rt; rx.frame() == FRAME.as_slice());
+    Ok(())
 }
 
 #[test]

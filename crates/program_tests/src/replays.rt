@@ -320,8 +320,11 @@ fn another_step(rt: HostRuntime) -> Result<(), Fail> {
     differ(&rt, rt.alloc(), &ANOTHER_STEP)
 }
 
-/// The record of a frame that is offered and polled: what is changed, into what, and the answer.
-const CHANGES: [(&str, &str, Status, &str); 25] = [
+/// A text of a record, what is put in its place, and the answer.
+type Change = (&'static str, &'static str, Status, &'static str);
+
+/// Changes of the record of a frame that is offered and polled.
+const CHANGES: [Change; 25] = [
     ("record 2\n", "record 2\n", Status::Done, "same\n"),
     (
         "record 2\n",
@@ -464,16 +467,27 @@ const CHANGES: [(&str, &str, Status, &str); 25] = [
     ),
 ];
 
+/// `replay` answers so to the record with this change.
+fn replays_changed<R: Abort + Threads + Sync>(
+    rt: &R,
+    alloc: Global,
+    record: &str,
+    change: &Change,
+) -> Result<(), Fail> {
+    let (old, new, status, text) = *change;
+    let (before, after) = record.split_once(old).ok_or("not in the record")?;
+    let changed = format!(in alloc; "{before}{new}{after}")?;
+    replays(rt, alloc, changed.as_str(), status, text, new)
+}
+
 #[test]
 fn replay_verdicts(rt: HostRuntime) -> Result<(), Fail> {
     let alloc = rt.alloc();
     let [(_, acts, told), ..] = BETWEEN_HONEST_PEERS;
     let scenario = format!(in alloc; "{HONEST}{HANDSHAKE}{acts}end\n")?;
     let record = record_of(alloc, scenario.as_str(), &[HANDSHAKE_TOLD, told])?;
-    for (old, new, status, text) in CHANGES {
-        let (before, after) = record.as_str().split_once(old).ok_or("not in the record")?;
-        let changed = format!(in alloc; "{before}{new}{after}")?;
-        replays(&rt, alloc, changed.as_str(), status, text, new)?;
+    for change in &CHANGES {
+        replays_changed(&rt, alloc, record.as_str(), change)?;
     }
     Ok(())
 }

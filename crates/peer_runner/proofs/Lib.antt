@@ -8,6 +8,9 @@ pub mod Belling
 pub mod Routing
 pub mod Keys
 pub mod Keeping
+pub mod Starting
+pub mod Happening
+pub mod Doorbells
 pub mod Touching
 pub mod Seats
 pub mod Ranges

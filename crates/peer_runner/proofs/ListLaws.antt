@@ -29,6 +29,7 @@ use Rattle.peer_runner.specs.RunningLaws.{end_by, place_by, section_words, Store
 use Rattle.peer_runner.proofs.Standings.{standing_none}
 use Rattle.peer_runner.proofs.Keys.{same_section, honest_below}
 use Rattle.peer_runner.proofs.Along.{IsQuiet, alone_at, phase_left, place_before, written_after, phase_after, along}
+use Rattle.peer_runner.proofs.Happening.{made_in}
 
 -- a fold over one deed more
 pub fold_more : {A : Type 0} (f : A → Deed Taken → A) (a : A) (list : List (Deed Taken)) (d : Deed Taken) → fold f a (list ++ d ∷ []) ≡ f (fold f a list) d
@@ -70,7 +71,7 @@ owned_lem key memory words next (made.loads _ _ acc _ q k may g) p t c = ⊎_eli
 owned_lem key after words next (made.resets memory _ _ acc _ q k lt st g) p t c = ⊎_elim (owned_lem key memory words acc k p t) (λ h. absurd (reset_called t h.1)) (in_list acc next p q restarted (called t) g c)
 
 pub stores_lem : StoresAreOwned
-stores_lem key s kept p t c = owned_lem key _ _ (accesses_by kept.acc) kept.memory.made p t c
+stores_lem key s kept p t c = owned_lem key _ _ (accesses_by kept.acc) (made_in key s kept) p t c
 
 state_left_is : (phase : Phase) (a : Access) (n : ℕ) → state_of phase ≡ n → ((state : ℕ) → a ≡ access.State state → state_of (phase_at state) ≡ state) → state_of (phase_left phase a) ≡ state_left n a
 state_left_is phase (access.State state) n was set = set state refl

@@ -4,7 +4,6 @@ use mathlib.Core.Option.{none, some, some-injective, some-ne-none}
 use lib.ListN.{get_elem?}
 use Rattle.std.proofs.lemmas.List.{set-get_or}
 use Rattle.std.specs.Prelude.{Option, bit_or, bit_and}
-use Rattle.std.specs.Int.{bit_at}
 use Rattle.atomic_table.specs.Table.{Me, Step, step, Allows}
 use Rattle.atomic_table.specs.Table.Act.{keeps}
 use Rattle.atomic_table.proofs.Lists.{at_set}
@@ -20,9 +19,11 @@ use Rattle.peer_runner.specs.Standings.{Taken, Deed, called, numbered, carried, 
 use Rattle.peer_runner.specs.Actions.{Action, accessed, rang, looked, cleared, accesses_in}
 use Rattle.peer_runner.specs.Interrupts.{interrupt_word, control_word, session_word, IsOneShot, MayRing}
 use Rattle.peer_runner.specs.Made.{MayNumber, MayCarry}
+use Rattle.peer_runner.specs.Happened.{without_first}
 use Rattle.peer_runner.specs.Rules.{session_words, IsOwned, Memory, Fits, Kept, view, front, added_to, more, reads, loads_number, looks, rings_at, clears, Tells}
 use Rattle.peer_runner.proofs.Standings.{put, put_here, put_else, Grows}
 use Rattle.peer_runner.proofs.Touching.{memory_read, memory_write, memory_stored, memory_loaded, memory_reset, memory_rang, memory_looked, memory_cleared}
+use Rattle.peer_runner.proofs.Happening.{interrupts_by}
 use Rattle.peer_runner.proofs.Ringing.{may_ring}
 
 pub at_within : {A : Type 0} (l : List A) (k : ℕ) (a : A) → get_elem? l k ≡ some a → k < length l
@@ -130,20 +131,20 @@ reset_allowed key slots id i from lists c room is = step_allowed key (λ _. acce
 retold : (key : Key) (slots id i : ℕ) (f : ℕ → ℕ) (me : Me ℕ View) (told then : ℕ → Me ℕ View → Type 0) → ((n : ℕ) (t : Me ℕ View) → told n t → then n t) → Allows (Kept key) slots id me i f told → Allows (Kept key) slots id me i f then
 retold key slots id i f me told then more allowed s k homes at fits = let x = allowed s k homes at fits in (x.0, x.1, x.2, x.3, more _ _ x.4)
 
-ring_told : (key : Key) (target bit slots id i from k : ℕ) (lists : List (List (Action (Deed Taken)))) (c : List (ℕ × ℕ)) → k ≡ 2 ^ bit → 0 < length lists → target < key.geometry.peers → i ≡ interrupt_word key target → (IsOneShot key target → MayRing target (front lists)) →
+ring_told : (key : Key) (target bit slots id i from k : ℕ) (lists : List (List (Action (Deed Taken)))) (c : List (ℕ × ℕ)) → bit < 64 → k ≡ 2 ^ bit → 0 < length lists → target < key.geometry.peers → i ≡ interrupt_word key target → (IsOneShot key target → MayRing target (front lists)) →
     Allows (Kept key) slots id (view from lists, c) i (λ n. bit_or n k) (rings_at target bit (step slots i k 0 none) (view from lists, c))
-ring_told key target bit slots id i from k lists c pow room lt is may = step_allowed key (λ _. rang target bit) (λ n. bit_or n k) (rings_at target bit (step slots i k 0 none) (view from lists, c)) slots id i from lists c room
+ring_told key target bit slots id i from k lists c low pow room lt is may = step_allowed key (λ _. rang target bit) (λ n. bit_or n k) (rings_at target bit (step slots i k 0 none) (view from lists, c)) slots id i from lists c room
     (λ words acc next n found fit p mine g then m. (
       subst (λ j. Memory key (set words i (bit_or n j)) next) (sym pow) (subst (λ j. Memory key (set words i (bit_or j (2 ^ bit))) next) (sym found)
-          (memory_rang key words acc next from i target bit p lt is (λ s. subst (MayRing target) (sym mine) (may s)) g m)),
+          (memory_rang key words acc next from i target bit p lt low is (λ s. subst (MayRing target) (sym mine) (may s)) g m)),
       refl,
     ))
 
-pub ring_allowed : (key : Key) (then : Step ℕ → Me ℕ View → ℕ → Me ℕ View → Type 0) (target bit slots id i from k : ℕ) (lists : List (List (Action (Deed Taken)))) (c : List (ℕ × ℕ)) → Tells then (rings_at target bit) → k ≡ 2 ^ bit → 0 < length lists → target < key.geometry.peers →
+pub ring_allowed : (key : Key) (then : Step ℕ → Me ℕ View → ℕ → Me ℕ View → Type 0) (target bit slots id i from k : ℕ) (lists : List (List (Action (Deed Taken)))) (c : List (ℕ × ℕ)) → Tells then (rings_at target bit) → bit < 64 → k ≡ 2 ^ bit → 0 < length lists → target < key.geometry.peers →
     i ≡ interrupt_word key target → (IsOneShot key target → MayRing target (front lists)) → Allows (Kept key) slots id (view from lists, c) i (λ n. bit_or n k) (then (step slots i k 0 none) (view from lists, c))
-ring_allowed key then target bit slots id i from k lists c tells pow room lt is may =
+ring_allowed key then target bit slots id i from k lists c tells low pow room lt is may =
     retold key slots id i (λ n. bit_or n k) (view from lists, c) (rings_at target bit (step slots i k 0 none) (view from lists, c)) (then (step slots i k 0 none) (view from lists, c))
-    (λ n t h. (tells (step slots i k 0 none) (view from lists, c) n t).1 h) (ring_told key target bit slots id i from k lists c pow room lt is may)
+    (λ n t h. (tells (step slots i k 0 none) (view from lists, c) n t).1 h) (ring_told key target bit slots id i from k lists c low pow room lt is may)
 
 pub look_allowed : (key : Key) (slots id i from : ℕ) (lists : List (List (Action (Deed Taken)))) (c : List (ℕ × ℕ)) → 0 < length lists → i ≡ interrupt_word key from →
     Allows (Kept key) slots id (view from lists, c) i (λ _. 0) (looks (step slots i 0 0 none) (view from lists, c))
@@ -154,16 +155,16 @@ front_more : (lists : List (List (Action (Deed Taken)))) (t : Action (Deed Taken
 front_more [] t room = absurd (omega arith)
 front_more (l ∷ ls) t room = refl
 
-clear_told : (key : Key) (target slots id i from mask : ℕ) (lists : List (List (Action (Deed Taken)))) (c : List (ℕ × ℕ)) → 0 < length lists → target < key.geometry.peers → i ≡ control_word key target → bit_at mask 0 ≡ 0 →
+clear_told : (key : Key) (target slots id i from mask : ℕ) (lists : List (List (Action (Deed Taken)))) (c : List (ℕ × ℕ)) → 0 < length lists → target < key.geometry.peers → i ≡ control_word key target → mask ≡ 18446744073709551614 →
     Allows (Kept key) slots id (view from lists, c) i (λ n. bit_and n mask) (clears key target (step slots i mask 0 none) (view from lists, c))
 clear_told key target slots id i from mask lists c room lt is without = step_allowed key (λ n. cleared target n) (λ n. bit_and n mask) (clears key target (step slots i mask 0 none) (view from lists, c)) slots id i from lists c room
     (λ words acc next n found fit p mine g then m. (
-      subst (λ k. Memory key (set words i (bit_and k mask)) next) (sym found) (memory_cleared key words acc next from i target mask p lt is without (subst (λ k. Grows acc next from (cleared target k)) found g) m),
-      (refl, λ shot won. subst (MayRing target) (then ∙ sym (front_more lists (cleared target n) room)) (may_ring key (λ w. get_or words w 0) acc next from target n p lt g m.interrupts shot won)),
+      subst (λ k. Memory key (set words i (bit_and n k)) next) (sym without) (subst (λ k. Memory key (set words i (without_first k)) next) (sym found) (memory_cleared key words acc next from i target p lt is (subst (λ k. Grows acc next from (cleared target k)) found g) m)),
+      (refl, λ shot won. subst (MayRing target) (then ∙ sym (front_more lists (cleared target n) room)) (may_ring key (λ w. get_or words w 0) acc next from target n p lt g (interrupts_by key words acc fit m) shot won)),
     ))
 
 pub clear_allowed : (key : Key) (then : Step ℕ → Me ℕ View → ℕ → Me ℕ View → Type 0) (target slots id i from mask : ℕ) (lists : List (List (Action (Deed Taken)))) (c : List (ℕ × ℕ)) → Tells then (clears key target) → 0 < length lists → target < key.geometry.peers →
-    i ≡ control_word key target → bit_at mask 0 ≡ 0 → Allows (Kept key) slots id (view from lists, c) i (λ n. bit_and n mask) (then (step slots i mask 0 none) (view from lists, c))
+    i ≡ control_word key target → mask ≡ 18446744073709551614 → Allows (Kept key) slots id (view from lists, c) i (λ n. bit_and n mask) (then (step slots i mask 0 none) (view from lists, c))
 clear_allowed key then target slots id i from mask lists c tells room lt is without =
     retold key slots id i (λ n. bit_and n mask) (view from lists, c) (clears key target (step slots i mask 0 none) (view from lists, c)) (then (step slots i mask 0 none) (view from lists, c))
     (λ n t h. (tells (step slots i mask 0 none) (view from lists, c) n t).1 h) (clear_told key target slots id i from mask lists c room lt is without)

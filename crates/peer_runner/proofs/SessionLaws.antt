@@ -21,6 +21,7 @@ use Rattle.peer_runner.proofs.Reaching.{ends_of, places_of, numbers_of, reached_
 use Rattle.peer_runner.proofs.Making.{reached_by}
 use Rattle.peer_runner.proofs.Besides.{hostile_none}
 use Rattle.peer_runner.proofs.Keys.{is_ground, honest_below}
+use Rattle.peer_runner.proofs.Happening.{made_in}
 
 -- The word of an honest end, whatever the other stores
 
@@ -58,15 +59,15 @@ opened_at s word w open' = ⊎_elim (λ h. h.1) (λ h. let low = h.2 in ⊎_elim
 
 pub numbers_lem : SessionWordsAreNumbers
 numbers_lem key s kept p hp = let st : ℕ → Stance = λ q. standing key q (accesses_by kept.acc q) in let words = session_words key s.words in
-    let w = word_at (ground_of key) (is_ground key kept.fit) (honest_of key) _ words st (reached_by key kept.fit _ words (accesses_by kept.acc) kept.memory.made) p (honest_below key p hp) hp in
+    let w = word_at (ground_of key) (is_ground key kept.fit) (honest_of key) _ words st (reached_by key kept.fit _ words (accesses_by kept.acc) (made_in key s kept)) p (honest_below key p hp) hp in
     record { word = w; opened = opened_at (st p) (words p) w }
 
 pub none_lem : HostileSessionsAreNone
-none_lem key s kept p p2 h = hostile_none key _ (session_words key s.words) (accesses_by kept.acc) kept.memory.made p h
+none_lem key s kept p p2 h = hostile_none key _ (session_words key s.words) (accesses_by kept.acc) (made_in key s kept) p h
 
 -- Two honest ends
 
 pub paired_sessions : SessionsArePaired
 paired_sessions key s kept p a b p2 = let st : ℕ → Stance = λ q. standing key q (accesses_by kept.acc q) in let is = is_ground key kept.fit in let words = session_words key s.words in
-    let run = reached_numbered (ground_of key) (honest_of key) is a b _ words st (reached_by key kept.fit _ words (accesses_by kept.acc) kept.memory.made) in
+    let run = reached_numbered (ground_of key) (honest_of key) is a b _ words st (reached_by key kept.fit _ words (accesses_by kept.acc) (made_in key s kept)) in
     ((paired_lem (ground_of key) _ words (ends_of st) (places_of st) (numbers_of st) is run).1.3 p p2).2

@@ -6,7 +6,7 @@ use Rattle.std.specs.Prelude.{◌==◌, ◌&&◌, if◌then◌else◌}
 use Rattle.std.specs.Int.{bit_at}
 use Rattle.std.proofs.lemmas.List.{take_all, take-append-le}
 use Rattle.peer_runner.specs.Actions.{Action, accessed, rang, looked, cleared}
-use Rattle.peer_runner.specs.Interrupts.{weigh, tally, one_if, rings, aims, finds, wins, StandsBehind}
+use Rattle.peer_runner.specs.Interrupts.{weigh, tally, one_if, rings, aims, finds, wins, strikes, StandsBehind}
 use Rattle.peer_runner.specs.Made.{Grows}
 
 pub weigh_none : {A : Type 0} → (f : Action A → ℕ) → weigh f [] ≡ 0
@@ -159,6 +159,35 @@ wins_here A target found = ap (λ (c : Bool). if c then bit_at found 0 else 0) (
 pub wins_else : (A : Type 0) → (target at found : ℕ) → at ≢ target → wins {A = A} target (cleared at found) ≡ 0
 unfolding wins
 wins_else A target at found ne = ap (λ (c : Bool). if c then bit_at found 0 else 0) (ne_eqb at target ne)
+
+-- of clears, whatever they found
+pub strikes_accessed : {A : Type 0} → (target : ℕ) (t : A) → strikes target (accessed t) ≡ 0
+unfolding strikes
+strikes_accessed target t = refl
+
+pub strikes_rang : (A : Type 0) → (target at b : ℕ) → strikes {A = A} target (rang at b) ≡ 0
+unfolding strikes
+strikes_rang A target at b = refl
+
+pub strikes_looked : (A : Type 0) → (target found : ℕ) → strikes {A = A} target (looked found) ≡ 0
+unfolding strikes
+strikes_looked A target found = refl
+
+pub strikes_here : (A : Type 0) → (target found : ℕ) → strikes {A = A} target (cleared target found) ≡ 1
+unfolding strikes
+strikes_here A target found = ap (λ (c : Bool). one_if c) (eq-eqb target target refl)
+
+pub strikes_else : (A : Type 0) → (target at found : ℕ) → at ≢ target → strikes {A = A} target (cleared at found) ≡ 0
+unfolding strikes
+strikes_else A target at found ne = ap (λ (c : Bool). one_if c) (ne_eqb at target ne)
+
+-- of rings of another bit, or at another target
+pub rings_else : (A : Type 0) → (target bit k : ℕ) → k ≢ bit → rings {A = A} target bit (rang target k) ≡ 0
+rings_else A target bit k ne = rings_same A target bit k ∙ ap (λ (c : Bool). one_if c) (ne_eqb k bit ne)
+
+pub rings_off : (A : Type 0) → (target bit at k : ℕ) → at ≢ target → rings {A = A} target bit (rang at k) ≡ 0
+unfolding rings
+rings_off A target bit at k ne = ap (λ (c : Bool). one_if (c && (k == bit))) (ne_eqb at target ne)
 
 -- a ring is of one bit
 no_bit : (n b : ℕ) → n ≤ b → tally n (λ bit. one_if (b == bit)) ≡ 0

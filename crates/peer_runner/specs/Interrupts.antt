@@ -75,6 +75,13 @@ wins target (rang at b) = 0
 wins target (looked found) = 0
 wins target (cleared at found) = if at == target then bit_at found 0 else 0
 
+-- it is a clear at this target, whatever it found
+unfoldable pub strikes : {A : Type 0} → (target : ℕ) → Action A → ℕ
+strikes target (accessed a) = 0
+strikes target (rang at b) = 0
+strikes target (looked found) = 0
+strikes target (cleared at found) = one_if (at == target)
+
 -- What the words keep
 
 -- each ring at this target stands behind a clear that found its bit set, one ring for each clear
@@ -93,6 +100,13 @@ pub record Interrupts {A : Type 0} (key : Key) (memory : ℕ → ℕ) (acc : ℕ
   pub control : (target : ℕ) → target < key.geometry.peers →
       bit_at (memory (control_word key target)) 0 + tally key.geometry.peers (λ p. weigh (wins target) (acc p)) ≡ bit_at key.enabled target
   pub leave : (target p : ℕ) → target < key.geometry.peers → p < key.geometry.peers → IsOneShot key target → StandsBehind target (acc p)
+
+-- Of each target and bit: where any peer rang it, it is set now or a look found it. And where any peer cleared a target's Interrupt Control, its bit 0 isn't set
+pub record Doorbells {A : Type 0} (key : Key) (memory : ℕ → ℕ) (acc : ℕ → List (Action A)) : Type 0 where
+  pub stands : (target bit : ℕ) → target < key.geometry.peers → 1 ≤ tally key.geometry.peers (λ p. weigh (rings target bit) (acc p)) →
+      1 ≤ bit_at (memory (interrupt_word key target)) bit + weigh (finds bit) (acc target)
+  pub shut : (target : ℕ) → target < key.geometry.peers → 1 ≤ tally key.geometry.peers (λ p. weigh (strikes target) (acc p)) →
+      bit_at (memory (control_word key target)) 0 ≡ 0
 
 -- What this says of the lists alone: no peer finds a bit oftener than it was rung; a one-shot peer finds one bit at most, and once; and each ring at it stands
 -- behind a clear

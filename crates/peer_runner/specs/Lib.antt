@@ -4,6 +4,7 @@ pub mod Interrupts
 pub mod Ways
 pub mod Standings
 pub mod Made
+pub mod Happened
 pub mod Rules
 pub mod Held
 pub mod Passes

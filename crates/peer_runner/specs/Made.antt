@@ -1,5 +1,6 @@
 -- What peers make of the words of the region and of the sessions: one deed after another, each in the list of its peer.
 use Rattle.std.specs.Prelude.{ℕ, ◌≡◌, ◌≢◌, ◌+◌, ◌-◌, ◌<◌, true, List, [], ◌∷◌, ◌++◌}
+use Rattle.section_map.specs.Geometry.{word_count}
 use Rattle.section_map.specs.MayWrite.{MayWrite}
 use Rattle.split_ring.specs.declared.steps.Access.{Access}
 use Rattle.split_ring.specs.declared.steps.Access.TheVariants as access
@@ -9,8 +10,9 @@ use Rattle.peer_runner.specs.declared.key.Key.{Key}
 use Rattle.peer_runner.specs.Keys.{honest_of}
 use Rattle.peer_runner.specs.Standings.{Taken, Deed, called, numbered, carried, restarted, standing, IsNext}
 
--- an access that a peer may make: a store is in its own section or in the common one; State is its own word, and it reads any word
+-- an access that a peer may make: a store is in its own section or in the common one; State is its own word, and it reads any word of the region
 abbrev pub IsOwned : Key → ℕ → Access → Type 0
+IsOwned key p (access.Read word) = word < word_count key.geometry
 IsOwned key p (access.Write word value) = MayWrite key.geometry p word
 IsOwned key p other = Unit {0}
 

@@ -16,9 +16,9 @@ use Rattle.peer_runner.specs.declared.view.View.{View}
 use Rattle.peer_runner.specs.Keys.{honest_of, IsFit}
 use Rattle.peer_runner.specs.Standings.{At, Taken, taken, Deed, called, numbered, carried, restarted, standing, NeverMarked}
 use Rattle.peer_runner.specs.Actions.{Action, accessed, rang, looked, cleared, accesses_in}
-use Rattle.peer_runner.specs.Interrupts.{session_word, all_words, IsOneShot, MayRing, Interrupts, AreRung}
+use Rattle.peer_runner.specs.Interrupts.{session_word, all_words, IsOneShot, MayRing, AreRung}
 pub use Rattle.peer_runner.specs.Made.{IsOwned}
-use Rattle.peer_runner.specs.Made.{Made}
+use Rattle.peer_runner.specs.Happened.{Happened}
 
 -- the first words are those of the region, and the last two those of the sessions; and the deeds of each peer, by which they are made
 abbrev pub region : Key → List ℕ → ℕ → ℕ
@@ -31,14 +31,12 @@ abbrev pub accesses_by : (ℕ → List (Action (Deed Taken))) → ℕ → List (
 accesses_by acc p = accesses_in (acc p)
 
 -- The rule: the first words are the region's, each below 2^32; two words for interrupts of each peer stand behind them, and a session word of each link peer
--- behind these, also below 2^32. The region's words, the session words and the deeds on them are made by deeds, one after another, that peers may do. And no
--- interrupt is found that wasn't rung
+-- behind these, also below 2^32. And all words are what the actions of the lists made of them, one after another
 pub record Memory (key : Key) (words : List ℕ) (acc : ℕ → List (Action (Deed Taken))) : Type 0 where
   pub sized : length words ≡ all_words key
   pub small : (w : ℕ) → w < word_count key.geometry → slice_index words w < 2 ^ 32
   pub numbers : (p : ℕ) → p < 2 → session_words key words p < 2 ^ 32
-  pub made : Made key (region key words) (session_words key words) (accesses_by acc)
-  pub interrupts : Interrupts key (λ w. slice_index words w) acc
+  pub happened : Happened key (λ w. slice_index words w) acc
 
 -- the seat id has the view v, and so the peers of its range and what they did
 pub record Fits (peers : ℕ) (seat : ℕ → ℕ) (acc : ℕ → List (Action (Deed Taken))) (id : ℕ) (v : View) : Type 0 where

@@ -23,8 +23,9 @@ use Rattle.peer_runner.specs.declared.view.View.{View}
 use Rattle.peer_runner.specs.Keys.{honest_of}
 use Rattle.peer_runner.specs.Standings.{At, Taken, Deed, called, standing, IsNext}
 use Rattle.peer_runner.specs.Made.{IsOwned, Made}
+use Rattle.peer_runner.specs.Happened.{Happened}
 use Rattle.peer_runner.specs.Actions.{Action}
-use Rattle.peer_runner.specs.Interrupts.{Interrupts}
+use Rattle.peer_runner.specs.Interrupts.{Interrupts, Doorbells}
 use Rattle.peer_runner.specs.Rules.{region, session_words, accesses_by, Memory, Kept}
 use Rattle.peer_runner.specs.ListSays.{last_written, last_state, has_written, call_writes}
 
@@ -66,6 +67,10 @@ WhereEitherAttends Part key memory acc p = EitherAttends (end_by key acc) (place
 abbrev pub WordsAreMade : Type 0
 WordsAreMade = (key : Key) (s : State ℕ View) (kept : Kept key s) → Made key (region key s.words) (session_words key s.words) (accesses_by kept.acc)
 
+-- all words, those for interrupts too, are what the actions of the lists, one after another in some order, made of those at the start
+abbrev pub AllWordsAreMade : Type 0
+AllWordsAreMade = (key : Key) (s : State ℕ View) (kept : Kept key s) → Happened key (λ w. slice_index s.words w) kept.acc
+
 -- each store in a list is to a word that its peer may write
 abbrev pub StoresAreOwned : Type 0
 StoresAreOwned = (key : Key) (s : State ℕ View) (kept : Kept key s) (p : ℕ) (t : Taken) → Contains (accesses_by kept.acc p) (called t) → IsOwned key p t.access
@@ -74,6 +79,10 @@ StoresAreOwned = (key : Key) (s : State ℕ View) (kept : Kept key s) (p : ℕ) 
 -- the clears that found it set are as many as before any action. And at a one-shot peer each ring stands behind such a clear of the same list
 abbrev pub InterruptsAreRung : Type 0
 InterruptsAreRung = (key : Key) (s : State ℕ View) (kept : Kept key s) → Interrupts key (λ w. slice_index s.words w) kept.acc
+
+-- where a bit was rung it is set until its target finds it, and Interrupt Control that was cleared stays so
+abbrev pub DoorbellsStand : Type 0
+DoorbellsStand = (key : Key) (s : State ℕ View) (kept : Kept key s) → Doorbells key (λ w. slice_index s.words w) kept.acc
 
 -- Of each honest link peer
 

@@ -1,10 +1,16 @@
 //! What the rule says of the words and of the lists of deeds, between any two accesses of whatever threads (`specs/RunningLaws`). No function here
 //! does anything: each is a law, which its contract states.
-ghost use Rattle.peer_runner.specs.RunningLaws.{WordsAreMade, StoresAreOwned, InterruptsAreRung, OfEachHonest, OfTwoHonest, AccessesAreCalls, WordsAreWritten, PhasesShow, FlightIsSpelled, OpenOfferStores, HeldIsInRange, NeverRefuses, OtherOpensNone, SessionWordsAreNumbers, HostileSessionsAreNone, SessionsArePaired, WhereEitherAttends, PairKeeps, AskedIsRung, HeldIsAsSent, HostileWordsAreFree};
+ghost use Rattle.peer_runner.specs.RunningLaws.{WordsAreMade, AllWordsAreMade, StoresAreOwned, InterruptsAreRung, DoorbellsStand, OfEachHonest, OfTwoHonest, AccessesAreCalls, WordsAreWritten, PhasesShow, FlightIsSpelled, OpenOfferStores, HeldIsInRange, NeverRefuses, OtherOpensNone, SessionWordsAreNumbers, HostileSessionsAreNone, SessionsArePaired, WhereEitherAttends, PairKeeps, AskedIsRung, HeldIsAsSent, HostileWordsAreFree};
 
 /// The words of the region and of the sessions are what the deeds of all lists made of them, one after another in some order.
 pub fn words_are_made()
     ensures { WordsAreMade }
+{}
+
+/// All words of the table are what the actions of all lists made of those at the start, one after another in some order: each ring set its bit, each look found
+/// what stood in the own interrupt word and left 0, and each clear found what stood in Interrupt Control and left it without bit 0.
+pub fn all_words_are_made()
+    ensures { AllWordsAreMade }
 {}
 
 /// Each store of a peer is to a word that it may write.
@@ -15,6 +21,11 @@ pub fn stores_are_owned()
 /// No interrupt is found that wasn't rung, Interrupt Control is cleared once for each time that it was set, and a one-shot peer is rung behind a clear alone.
 pub fn interrupts_are_rung()
     ensures { InterruptsAreRung }
+{}
+
+/// A bit that was rung is set until its target finds it, and Interrupt Control that was cleared stays so.
+pub fn doorbells_stand()
+    ensures { DoorbellsStand }
 {}
 
 /// Each access in the list of an honest link peer is the next one of its calls.

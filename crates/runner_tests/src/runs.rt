@@ -572,8 +572,10 @@ fn two_threads_deliver_by_events(rt: HostRuntime) -> Result<(), Fail> {
 #[test]
 fn laws_of_the_rule() {
     laws::words_are_made();
+    laws::all_words_are_made();
     laws::stores_are_owned();
     laws::interrupts_are_rung();
+    laws::doorbells_stand();
     laws::accesses_are_calls();
     laws::words_are_written();
     laws::phases_show();

@@ -1,6 +1,7 @@
 use Rattle.peer_runner.specs.Rules.{accesses_by}
 use Rattle.peer_runner.proofs.FlightLaws.{flight_lem}
+use Rattle.peer_runner.proofs.Happening.{made_in}
 use Rattle.peer_runner.proofs.laws.flight_is_spelled.Goals as goal
 
 pub returns : goal.returns
-returns c = λ key s kept p hp. flight_lem key kept.fit p hp _ _ (accesses_by kept.acc) kept.memory.made
+returns c = λ key s kept p hp. flight_lem key kept.fit p hp _ _ (accesses_by kept.acc) (made_in key s kept)

@@ -1,6 +1,6 @@
 use Rattle.std.proofs.Common.{rules, ◌≡◌, replicate, ◌∙◌}
 use Rattle.section_map.specs.Geometry.{word_count}
-use Rattle.peer_runner.proofs.Learns.{behind_more, behind_start}
+use Rattle.peer_runner.proofs.Starting.{behind_more, behind_start}
 use Rattle.peer_runner.proofs.words.first_words.Goals as goal
 
 pub loop-peer-init : goal.loop-peer-init

@@ -76,11 +76,11 @@ static void tick(ivshm_end *end, uint32_t me) {
 
 /* The sizes of structs on both sides of the header. */
 _Static_assert(sizeof(ivshm_end) == 8 && sizeof(ivshm_access) == 28 && sizeof(ivshm_note) == 16 && sizeof(ivshm_notes) == 40, "sizes");
-_Static_assert(sizeof(ivshm_view) == 40 && sizeof(ivshm_found) == 64 && sizeof(ivshm_words) == 56 && sizeof(ivshm_limits_told) == 24 && sizeof(ivshm_stretch) == 8, "sizes");
+_Static_assert(sizeof(ivshm_view) == 40 && sizeof(ivshm_found) == 64 && sizeof(ivshm_words) == 56 && sizeof(ivshm_limit_values) == 24 && sizeof(ivshm_burst) == 8, "sizes");
 
 static int check_tables(void) {
     static uint8_t space[256];
-    ivshm_limits_told limits;
+    ivshm_limit_values limits;
     ivshm_found found = {0};
     ivshm_words layout;
     ivshm_limits(&limits);
@@ -131,16 +131,16 @@ static int check_handles(void) {
     ivshm_access access;
     ivshm_notes notes;
     ivshm_view view;
-    ivshm_stretch stretches[3] = {{7, 7}};
+    ivshm_burst bursts[3] = {{7, 7}};
     uint8_t frame[14] = {0};
     size_t length;
     WANT(ivshm_end_begin(&none, IVSHM_TICK) == IVSHM_NO_END && ivshm_end_offer(&none, frame, 14) == IVSHM_NO_END);
     WANT(ivshm_end_offer_again(&none) == IVSHM_NO_END);
     WANT(ivshm_end_next(&none, &access) == IVSHM_NO_END && ivshm_end_took(&none, 0, &notes) == IVSHM_NO_END);
-    WANT(ivshm_end_took_words(&none, frame, 4, &notes) == IVSHM_NO_END && ivshm_end_words(&none, frame, 4) == IVSHM_NO_END);
-    WANT(ivshm_end_took_written(&none, 1) == IVSHM_NO_END && ivshm_end_took_stretches(&none) == IVSHM_NO_END);
-    WANT(ivshm_end_stretches(&none, stretches, frame, 14) == IVSHM_NO_END && stretches[0].word == 7);
-    WANT(ivshm_end_tail(&none, stretches, frame, 14) == IVSHM_NO_END && stretches[0].word == 7);
+    WANT(ivshm_end_took_reads(&none, frame, 4, &notes) == IVSHM_NO_END && ivshm_end_words(&none, frame, 4) == IVSHM_NO_END);
+    WANT(ivshm_end_took_writes(&none, 1) == IVSHM_NO_END && ivshm_end_took_bursts(&none) == IVSHM_NO_END);
+    WANT(ivshm_end_bursts(&none, bursts, frame, 14) == IVSHM_NO_END && bursts[0].word == 7);
+    WANT(ivshm_end_tail(&none, bursts, frame, 14) == IVSHM_NO_END && bursts[0].word == 7);
     WANT(ivshm_end_view(&none, &view) == IVSHM_NO_END && ivshm_end_frame(&none, frame, 14, &length) == IVSHM_NO_END);
     WANT(ivshm_end_reset(&none) == IVSHM_NO_END && ivshm_end_free(&none) == IVSHM_NO_END && none.at == NULL);
     return 0;
@@ -149,20 +149,20 @@ static int check_handles(void) {
 /* The frame of 38 bytes that was offered last goes again, with all before its index at once. */
 static int check_before_index(ivshm_end *a, ivshm_end *b, const uint8_t *frame) {
     static uint8_t room[64];
-    ivshm_stretch stretches[3];
+    ivshm_burst bursts[3];
     ivshm_access access;
     ivshm_notes notes;
     size_t length;
     WANT(ivshm_end_offer_again(a) == IVSHM_DONE);
-    while (ivshm_end_stretches(a, stretches, room, 64) == IVSHM_OTHER_ACCESS)
+    while (ivshm_end_bursts(a, bursts, room, 64) == IVSHM_OTHER_ACCESS)
         WANT(ivshm_end_next(a, &access) == IVSHM_DONE && ivshm_end_took(a, words[access.word], &notes) == IVSHM_DONE);
-    WANT(ivshm_end_stretches(a, stretches, room, 60) == IVSHM_DONE && stretches[0].count == 10);
-    WANT(stretches[1].word == 1028 && stretches[1].count == 4 && stretches[2].word == 1281 && stretches[2].count == 1);
-    memcpy(words + stretches[0].word, room, 40);
-    memcpy(words + stretches[1].word, room + 40, 16);
-    memcpy(words + stretches[2].word, room + 56, 4);
+    WANT(ivshm_end_bursts(a, bursts, room, 60) == IVSHM_DONE && bursts[0].count == 10);
+    WANT(bursts[1].word == 1028 && bursts[1].count == 4 && bursts[2].word == 1281 && bursts[2].count == 1);
+    memcpy(words + bursts[0].word, room, 40);
+    memcpy(words + bursts[1].word, room + 40, 16);
+    memcpy(words + bursts[2].word, room + 56, 4);
     memset(room, 0, sizeof room);
-    WANT(ivshm_end_took_stretches(a) == IVSHM_DONE && run(a, 0) == 0 && ivshm_end_begin(b, IVSHM_POLL) == IVSHM_DONE && run(b, 1) == 1);
+    WANT(ivshm_end_took_bursts(a) == IVSHM_DONE && run(a, 0) == 0 && ivshm_end_begin(b, IVSHM_POLL) == IVSHM_DONE && run(b, 1) == 1);
     WANT(ivshm_end_frame(b, room, 64, &length) == IVSHM_DONE && length == 38);
     for (int i = 0; i < 38; i++) WANT(frame[i] == room[i]);
     return 0;
@@ -171,29 +171,29 @@ static int check_before_index(ivshm_end *a, ivshm_end *b, const uint8_t *frame) 
 /* Once more, with the words of the frame from this copy of it, but for the first one, and taken from the words that the other read at once. */
 static int check_tail(ivshm_end *a, ivshm_end *b, const uint8_t *frame) {
     static uint8_t room[64];
-    ivshm_stretch stretches[3] = {{7, 7}};
+    ivshm_burst bursts[3] = {{7, 7}};
     ivshm_access access;
     ivshm_notes notes;
     ivshm_view view;
-    WANT(ivshm_end_tail(a, stretches, room, 64) == IVSHM_NO_CALL && ivshm_end_offer_again(a) == IVSHM_DONE);
-    while (ivshm_end_tail(a, stretches, room, 64) == IVSHM_OTHER_ACCESS)
-        WANT(stretches[0].word == 7 && room[0] == 0 && ivshm_end_next(a, &access) == IVSHM_DONE && ivshm_end_took(a, words[access.word], &notes) == IVSHM_DONE);
-    WANT(stretches[0].count == 10 && ivshm_end_next(a, &access) == IVSHM_DONE && access.word == stretches[0].word);
+    WANT(ivshm_end_tail(a, bursts, room, 64) == IVSHM_NO_CALL && ivshm_end_offer_again(a) == IVSHM_DONE);
+    while (ivshm_end_tail(a, bursts, room, 64) == IVSHM_OTHER_ACCESS)
+        WANT(bursts[0].word == 7 && room[0] == 0 && ivshm_end_next(a, &access) == IVSHM_DONE && ivshm_end_took(a, words[access.word], &notes) == IVSHM_DONE);
+    WANT(bursts[0].count == 10 && ivshm_end_next(a, &access) == IVSHM_DONE && access.word == bursts[0].word);
     words[access.word] = access.value;
     memset(room, 0, sizeof room);
-    WANT(ivshm_end_took(a, 0, &notes) == IVSHM_DONE && ivshm_end_tail(a, stretches, room, 19) == IVSHM_SHORT_ROOM && stretches[0].count == 10 && room[8] == 0);
-    WANT(ivshm_end_tail(a, stretches, room, 20) == IVSHM_DONE && stretches[0].count == 9 && room[8] == 38 && room[20] == 0);
-    WANT(stretches[1].count == 4 && stretches[2].word == 1282 && stretches[2].count == 1);
-    words[stretches[0].word + 8] = 0;
-    memcpy(words + stretches[0].word, frame + 4, 34);
-    memcpy(words + stretches[1].word, room, 16);
-    memcpy(words + stretches[2].word, room + 16, 4);
-    WANT(ivshm_end_took_stretches(a) == IVSHM_DONE && ivshm_end_tail(a, stretches, room, 64) == IVSHM_OTHER_ACCESS && run(a, 0) == 0);
+    WANT(ivshm_end_took(a, 0, &notes) == IVSHM_DONE && ivshm_end_tail(a, bursts, room, 19) == IVSHM_SHORT_ROOM && bursts[0].count == 10 && room[8] == 0);
+    WANT(ivshm_end_tail(a, bursts, room, 20) == IVSHM_DONE && bursts[0].count == 9 && room[8] == 38 && room[20] == 0);
+    WANT(bursts[1].count == 4 && bursts[2].word == 1282 && bursts[2].count == 1);
+    words[bursts[0].word + 8] = 0;
+    memcpy(words + bursts[0].word, frame + 4, 34);
+    memcpy(words + bursts[1].word, room, 16);
+    memcpy(words + bursts[2].word, room + 16, 4);
+    WANT(ivshm_end_took_bursts(a) == IVSHM_DONE && ivshm_end_tail(a, bursts, room, 64) == IVSHM_OTHER_ACCESS && run(a, 0) == 0);
     WANT(ivshm_end_begin(b, IVSHM_POLL) == IVSHM_DONE);
     do WANT(ivshm_end_next(b, &access) == IVSHM_DONE && (access.count || ivshm_end_took(b, words[access.word], &notes) == IVSHM_DONE));
     while (access.count == 0);
     memcpy(room, words + access.word, 40);
-    WANT(access.count == 10 && ivshm_end_took_words(b, room, 40, &notes) == IVSHM_DONE && notes.note[0].kind == IVSHM_DELIVER);
+    WANT(access.count == 10 && ivshm_end_took_reads(b, room, 40, &notes) == IVSHM_DONE && notes.note[0].kind == IVSHM_DELIVER);
     WANT(ivshm_end_view(b, &view) == IVSHM_DONE && view.delivered == 38);
     for (int i = 0; i < 38; i++) WANT(frame[i] == room[i]);
     WANT(run(b, 1) == 0);
@@ -201,30 +201,30 @@ static int check_tail(ivshm_end *a, ivshm_end *b, const uint8_t *frame) {
 }
 
 /* Some steps at once: a section that is cleared, and a frame of 40 bytes from end to end. */
-static int check_stretches(void) {
+static int check_bursts(void) {
     static ivshm_end a = IVSHM_END_NONE, b = IVSHM_END_NONE;
     static uint8_t frame[40] = {255, 255, 255, 255, 255, 255, 2}, room[64];
     ivshm_found found = {.table = 4096, .out = 16384};
     ivshm_access access;
-    ivshm_stretch stretches[3] = {{7, 7}};
+    ivshm_burst bursts[3] = {{7, 7}};
     ivshm_notes notes = {.count = 7};
     size_t length;
     WANT(ivshm_end_new(&a, &found, 2, 0, 256, 1) == IVSHM_DONE && ivshm_end_new(&b, &found, 2, 1, 256, 1) == IVSHM_DONE);
     WANT(ivshm_end_next(&a, &access) == IVSHM_DONE && access.order == IVSHM_RELEASE && access.fence_before == 0 && access.fence_after == 1);
-    WANT(ivshm_end_took_words(&a, room, 4, &notes) == IVSHM_OTHER_ACCESS && notes.count == 7);
-    WANT(run(&a, 0) == 0 && run(&b, 1) == 0 && ivshm_end_took_written(&a, 1) == IVSHM_NO_CALL);
-    WANT(ivshm_end_stretches(&a, stretches, room, 64) == IVSHM_NO_CALL && ivshm_end_took_stretches(&a) == IVSHM_NO_CALL);
-    WANT(ivshm_end_took_words(&a, room, 4, &notes) == IVSHM_NO_CALL && ivshm_end_words(&a, room, 4) == IVSHM_NO_CALL);
+    WANT(ivshm_end_took_reads(&a, room, 4, &notes) == IVSHM_OTHER_ACCESS && notes.count == 7);
+    WANT(run(&a, 0) == 0 && run(&b, 1) == 0 && ivshm_end_took_writes(&a, 1) == IVSHM_NO_CALL);
+    WANT(ivshm_end_bursts(&a, bursts, room, 64) == IVSHM_NO_CALL && ivshm_end_took_bursts(&a) == IVSHM_NO_CALL);
+    WANT(ivshm_end_took_reads(&a, room, 4, &notes) == IVSHM_NO_CALL && ivshm_end_words(&a, room, 4) == IVSHM_NO_CALL);
     tick(&a, 0);
     tick(&b, 1);
     WANT(ivshm_end_begin(&a, IVSHM_TICK) == IVSHM_DONE && ivshm_end_next(&a, &access) == IVSHM_DONE && access.order == IVSHM_ACQUIRE);
     WANT(ivshm_end_took(&a, IVSHM_INIT, &notes) == IVSHM_DONE && ivshm_end_next(&a, &access) == IVSHM_DONE);
     WANT(access.kind == IVSHM_WRITE && access.count == 4096 && access.order == IVSHM_RELAXED);
     memset(room, 1, sizeof room);
-    WANT(ivshm_end_words(&a, room, 64) == IVSHM_DONE && room[0] == 0 && room[63] == 0 && ivshm_end_took_words(&a, room, 4, &notes) == IVSHM_OTHER_ACCESS);
-    WANT(ivshm_end_took_written(&a, 0) == IVSHM_BAD_COUNT && ivshm_end_took_written(&a, 4097) == IVSHM_BAD_COUNT);
+    WANT(ivshm_end_words(&a, room, 64) == IVSHM_DONE && room[0] == 0 && room[63] == 0 && ivshm_end_took_reads(&a, room, 4, &notes) == IVSHM_OTHER_ACCESS);
+    WANT(ivshm_end_took_writes(&a, 0) == IVSHM_BAD_COUNT && ivshm_end_took_writes(&a, 4097) == IVSHM_BAD_COUNT);
     memset(words + 1024, 0, 4 * 4096);
-    WANT(ivshm_end_took_written(&a, 4096) == IVSHM_DONE && run(&a, 0) == 0 && words[0] == IVSHM_READY);
+    WANT(ivshm_end_took_writes(&a, 4096) == IVSHM_DONE && run(&a, 0) == 0 && words[0] == IVSHM_READY);
     for (int i = 0; i < 10; i++) {
         tick(&b, 1);
         tick(&a, 0);
@@ -235,14 +235,14 @@ static int check_stretches(void) {
     WANT(room[37] == 37 && room[38] == 0 && room[39] == 0 && ivshm_end_words(&a, room, 44) == IVSHM_BAD_COUNT);
     WANT(ivshm_end_words(&a, room, 6) == IVSHM_BAD_COUNT);
     memcpy(words + access.word, room, 40);
-    WANT(ivshm_end_stretches(&a, stretches, room, 59) == IVSHM_SHORT_ROOM && stretches[0].word == 7 && room[40] == 0);
-    WANT(ivshm_end_took_written(&a, 10) == IVSHM_DONE && ivshm_end_next(&a, &access) == IVSHM_DONE && access.word == 1024 && access.count == 4);
-    WANT(ivshm_end_stretches(&a, stretches, room, 64) == IVSHM_OTHER_ACCESS && ivshm_end_took_stretches(&a) == IVSHM_OTHER_ACCESS);
+    WANT(ivshm_end_bursts(&a, bursts, room, 59) == IVSHM_SHORT_ROOM && bursts[0].word == 7 && room[40] == 0);
+    WANT(ivshm_end_took_writes(&a, 10) == IVSHM_DONE && ivshm_end_next(&a, &access) == IVSHM_DONE && access.word == 1024 && access.count == 4);
+    WANT(ivshm_end_bursts(&a, bursts, room, 64) == IVSHM_OTHER_ACCESS && ivshm_end_took_bursts(&a) == IVSHM_OTHER_ACCESS);
     WANT(run(&a, 0) == 0 && ivshm_end_begin(&b, IVSHM_POLL) == IVSHM_DONE);
     for (int i = 0; i < 6; i++) WANT(ivshm_end_next(&b, &access) == IVSHM_DONE && ivshm_end_took(&b, words[access.word], &notes) == IVSHM_DONE);
     WANT(ivshm_end_next(&b, &access) == IVSHM_DONE && access.kind == IVSHM_READ && access.count == 10 && access.word == 1024 + 448);
-    WANT(ivshm_end_took_words(&b, frame, 0, &notes) == IVSHM_BAD_COUNT && ivshm_end_took_words(&b, frame, 44, &notes) == IVSHM_BAD_COUNT);
-    WANT(ivshm_end_took_words(&b, (const uint8_t *)(words + access.word), 40, &notes) == IVSHM_DONE && notes.count == 1 && notes.note[0].kind == IVSHM_DELIVER);
+    WANT(ivshm_end_took_reads(&b, frame, 0, &notes) == IVSHM_BAD_COUNT && ivshm_end_took_reads(&b, frame, 44, &notes) == IVSHM_BAD_COUNT);
+    WANT(ivshm_end_took_reads(&b, (const uint8_t *)(words + access.word), 40, &notes) == IVSHM_DONE && notes.count == 1 && notes.note[0].kind == IVSHM_DELIVER);
     WANT(ivshm_end_frame(&b, room, 64, &length) == IVSHM_DONE && length == 38);
     for (int i = 0; i < 38; i++) WANT(frame[i] == room[i]);
     WANT(run(&b, 1) == 0);
@@ -386,7 +386,7 @@ static int check_ends(void) {
 int check(void) {
     int line = check_tables();
     if (!line) line = check_handles();
-    if (!line) line = check_stretches();
+    if (!line) line = check_bursts();
     if (!line) line = check_events();
     if (!line) line = check_bytes();
     return line ? line : check_ends();

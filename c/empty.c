@@ -130,7 +130,7 @@ uint32_t ivshm_end_took(ivshm_end *end, uint32_t value, ivshm_notes *notes) {
     return go_on(end->at, 1, notes);
 }
 
-uint32_t ivshm_end_took_words(ivshm_end *end, const uint8_t *words, size_t size, ivshm_notes *notes) {
+uint32_t ivshm_end_took_reads(ivshm_end *end, const uint8_t *words, size_t size, ivshm_notes *notes) {
     (void)words;
     return go_on(end->at, (uint32_t)(size / 4), notes);
 }
@@ -140,28 +140,28 @@ uint32_t ivshm_end_words(ivshm_end *end, uint8_t *into, size_t size) {
     return IVSHM_DONE;
 }
 
-uint32_t ivshm_end_took_written(ivshm_end *end, uint32_t count) {
+uint32_t ivshm_end_took_writes(ivshm_end *end, uint32_t count) {
     struct empty *e = end->at;
     e->at += count;
     return IVSHM_DONE;
 }
 
 /* An offer reads two words first. */
-uint32_t ivshm_end_stretches(ivshm_end *end, ivshm_stretch stretches[3], uint8_t *room, size_t size) {
+uint32_t ivshm_end_bursts(ivshm_end *end, ivshm_burst bursts[3], uint8_t *room, size_t size) {
     struct empty *e = end->at;
     (void)room, (void)size;
     if (!e) return IVSHM_NO_END;
     if (e->now != &e->offer || e->at != 2) return IVSHM_OTHER_ACCESS;
     const ivshm_access *frame = &e->offer.access[2], *descriptor = frame + frame->count;
-    stretches[0] = (ivshm_stretch){frame->word, frame->count};
-    stretches[1] = (ivshm_stretch){descriptor->word, 4};
-    stretches[2] = (ivshm_stretch){descriptor[4].word, 1};
+    bursts[0] = (ivshm_burst){frame->word, frame->count};
+    bursts[1] = (ivshm_burst){descriptor->word, 4};
+    bursts[2] = (ivshm_burst){descriptor[4].word, 1};
     return IVSHM_DONE;
 }
 
-uint32_t ivshm_end_tail(ivshm_end *end, ivshm_stretch stretches[3], uint8_t *room, size_t size) { return ivshm_end_stretches(end, stretches, room, size); }
+uint32_t ivshm_end_tail(ivshm_end *end, ivshm_burst bursts[3], uint8_t *room, size_t size) { return ivshm_end_bursts(end, bursts, room, size); }
 
-uint32_t ivshm_end_took_stretches(ivshm_end *end) {
+uint32_t ivshm_end_took_bursts(ivshm_end *end) {
     struct empty *e = end->at;
     if (!e) return IVSHM_NO_END;
     e->at += e->offer.access[2].count + 5;

@@ -50,7 +50,7 @@ struct Notes {
 
 #[repr(C)]
 #[derive(Clone, Copy, Debug, Default)]
-struct Stretch {
+struct Burst {
     word: u32,
     count: u32,
 }
@@ -77,8 +77,8 @@ extern "C" {
     fn ivshm_end_offer(end: &mut Handle, frame: *const u8, length: usize) -> u32;
     fn ivshm_end_next(end: &mut Handle, access: &mut Access) -> u32;
     fn ivshm_end_took(end: &mut Handle, value: u32, notes: &mut Notes) -> u32;
-    fn ivshm_end_tail(end: &mut Handle, stretches: &mut [Stretch; 3], room: *mut u8, size: usize) -> u32;
-    fn ivshm_end_took_stretches(end: &mut Handle) -> u32;
+    fn ivshm_end_tail(end: &mut Handle, bursts: &mut [Burst; 3], room: *mut u8, size: usize) -> u32;
+    fn ivshm_end_took_bursts(end: &mut Handle) -> u32;
     fn ivshm_end_view(end: &mut Handle, view: &mut View) -> u32;
     fn ivshm_end_frame(end: &mut Handle, room: *mut u8, size: usize, length: &mut usize) -> u32;
     fn ivshm_end_reset(end: &mut Handle) -> u32;
@@ -119,16 +119,16 @@ impl End {
 
     /// Makes all that an offer of this frame writes before its index, where a word of the frame is next: its words come from here.
     fn write_frame(&mut self, region: &mut impl Region, frame: &[u8]) -> bool {
-        let (mut stretches, mut tail) = ([Stretch::default(); 3], [0u8; 20]);
-        if unsafe { ivshm_end_tail(&mut self.0, &mut stretches, tail.as_mut_ptr(), tail.len()) } != 0 {
+        let (mut bursts, mut tail) = ([Burst::default(); 3], [0u8; 20]);
+        if unsafe { ivshm_end_tail(&mut self.0, &mut bursts, tail.as_mut_ptr(), tail.len()) } != 0 {
             return false;
         }
-        let written = (frame.len() + 3) / 4 - stretches[0].count as usize;
-        let places = stretches.iter().flat_map(|stretch| stretch.word..stretch.word + stretch.count);
+        let written = (frame.len() + 3) / 4 - bursts[0].count as usize;
+        let places = bursts.iter().flat_map(|burst| burst.word..burst.word + burst.count);
         for (word, bytes) in places.zip(frame.chunks(4).skip(written).chain(tail.chunks(4))) {
             region.write(word, word_of(bytes));
         }
-        unsafe { ivshm_end_took_stretches(&mut self.0) };
+        unsafe { ivshm_end_took_bursts(&mut self.0) };
         true
     }
 

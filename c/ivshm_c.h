@@ -32,7 +32,7 @@
  *  2. An access is one load or one store of 32 bits of an aligned word, made once and in the order in which it was told: a store that was
  *     told before another access is visible before it. On x86 and ARM that is a sequentially consistent atomic access. A word holds its
  *     lowest byte first. Hand a read's value over as it was read; never read a word again. Some words may be read or written at once, as
- *     it stands at ivshm_end_took_words; and the access tells which weaker order is enough, which is tested and not proved (docs/ORDERS.md).
+ *     it stands at ivshm_end_took_reads; and the access tells which weaker order is enough, which is tested and not proved (docs/ORDERS.md).
  *  3. A handle is IVSHM_END_NONE, or what a call left there. It is never copied, and one call at a time has it. During a call it is null.
  *     One call may be made on one thread and the next on another, where a lock or the like orders them.
  *  4. Every other pointer is valid and aligned, and to memory that nothing else touches during the call. A pointer that comes with a
@@ -86,7 +86,7 @@ enum {
     IVSHM_BAD_CALL = 6,   /* ivshm_end_begin: none of the three calls */
     IVSHM_SHORT_FRAME = 7,/* ivshm_end_offer: fewer than IVSHM_SHORTEST bytes */
     IVSHM_LONG_FRAME = 8, /* ivshm_end_offer: more than the MTU and 18 bytes */
-    IVSHM_SHORT_ROOM = 9, /* ivshm_end_frame, ivshm_end_stretches, ivshm_end_tail: what is to be copied doesn't fit */
+    IVSHM_SHORT_ROOM = 9, /* ivshm_end_frame, ivshm_end_bursts, ivshm_end_tail: what is to be copied doesn't fit */
     /* why sizes make no end: the first that is wrong */
     IVSHM_BAD_PEER = 10,     /* the peer isn't 0 or 1 */
     IVSHM_BAD_PEERS = 11,    /* the peers aren't 2 to 65,536 */
@@ -120,17 +120,17 @@ enum {
 #define IVSHM_LONGEST 65553  /* bytes of the longest frame of all: a room of so many takes any delivery */
 #define IVSHM_LARGEST_REGION 16777216
 
-typedef struct ivshm_limits_told {
+typedef struct ivshm_limit_values {
     uint32_t version;
     uint32_t least_mtu;
     uint32_t most_mtu;
     uint32_t shortest_frame;
     uint32_t longest_frame;
     uint32_t largest_region;
-} ivshm_limits_told;
+} ivshm_limit_values;
 
 /* Tells the highest version, and bounds. */
-void ivshm_limits(ivshm_limits_told *told);
+void ivshm_limits(ivshm_limit_values *told);
 
 /* ---- the device and the region ---- */
 
@@ -295,42 +295,42 @@ uint32_t ivshm_end_took(ivshm_end *end, uint32_t value, ivshm_notes *notes);
  * its words. Where these are handed over at once, the first view.delivered bytes of them (ivshm_end_view) are the frame that is delivered, and
  * ivshm_end_frame need not be called.
  * IVSHM_DONE; or the end and the notes are as they were: IVSHM_NO_END, IVSHM_NO_CALL, IVSHM_OTHER_ACCESS, IVSHM_BAD_COUNT. */
-uint32_t ivshm_end_took_words(ivshm_end *end, const uint8_t *words, size_t size, ivshm_notes *notes);
+uint32_t ivshm_end_took_reads(ivshm_end *end, const uint8_t *words, size_t size, ivshm_notes *notes);
 
-/* Tells the size / 4 words that are to be written next, as four bytes each, the lowest first. Write them, and then call ivshm_end_took_written.
+/* Tells the size / 4 words that are to be written next, as four bytes each, the lowest first. Write them, and then call ivshm_end_took_writes.
  * IVSHM_DONE; or `into` is as it was: IVSHM_NO_END, IVSHM_NO_CALL, IVSHM_OTHER_ACCESS, IVSHM_BAD_COUNT. */
 uint32_t ivshm_end_words(ivshm_end *end, uint8_t *into, size_t size);
 
 /* Takes the steps of so many writes, which have no notes.
  * IVSHM_DONE; or the end is as it was: IVSHM_NO_END, IVSHM_NO_CALL, IVSHM_OTHER_ACCESS, IVSHM_BAD_COUNT. */
-uint32_t ivshm_end_took_written(ivshm_end *end, uint32_t count);
+uint32_t ivshm_end_took_writes(ivshm_end *end, uint32_t count);
 
 /* ALL BEFORE THE INDEX. What an offer writes before its index has no notes: the words of the frame, the four of its descriptor and the one with its entry.
  * They may be written at once, in any order: all of them are relaxed, and the index, whose access comes next, releases them. */
 
 /* Words that come one after the other: the number of the first, and how many. */
-typedef struct ivshm_stretch {
+typedef struct ivshm_burst {
     uint32_t word;
     uint32_t count;
-} ivshm_stretch;
+} ivshm_burst;
 
-/* Tells the words that the open offer writes before its index, where a word of its frame is next: stretches[0] are those that are left of the frame, [1]
+/* Tells the words that the open offer writes before its index, where a word of its frame is next: bursts[0] are those that are left of the frame, [1]
  * those of its descriptor and [2] that of its entry. They stand at the front of `room` then, in this order, as four bytes each, the lowest first: for
- * a frame 4 * (count + 5) bytes, with the count of the access. Write them, and then call ivshm_end_took_stretches.
- * IVSHM_DONE; or the stretches and the room are as they were: IVSHM_NO_END, IVSHM_NO_CALL, IVSHM_OTHER_ACCESS (no word of a frame is next),
+ * a frame 4 * (count + 5) bytes, with the count of the access. Write them, and then call ivshm_end_took_bursts.
+ * IVSHM_DONE; or the bursts and the room are as they were: IVSHM_NO_END, IVSHM_NO_CALL, IVSHM_OTHER_ACCESS (no word of a frame is next),
  * IVSHM_SHORT_ROOM. */
-uint32_t ivshm_end_stretches(ivshm_end *end, ivshm_stretch stretches[3], uint8_t *room, size_t size);
+uint32_t ivshm_end_bursts(ivshm_end *end, ivshm_burst bursts[3], uint8_t *room, size_t size);
 
-/* Tells the same stretches, and puts the words of the descriptor and of the entry alone at the front of `room`, 20 bytes; the rest of it stays. The words
- * of the frame are the last stretches[0].count ones of the frame that was handed to ivshm_end_offer, as four bytes each, with 0 after its last byte:
- * write them from there, where you have it still. So the library's own copy of the frame is read no more. Then call ivshm_end_took_stretches.
- * IVSHM_DONE; or the stretches and the room are as they were: IVSHM_NO_END, IVSHM_NO_CALL, IVSHM_OTHER_ACCESS (no word of a frame is next),
+/* Tells the same bursts, and puts the words of the descriptor and of the entry alone at the front of `room`, 20 bytes; the rest of it stays. The words
+ * of the frame are the last bursts[0].count ones of the frame that was handed to ivshm_end_offer, as four bytes each, with 0 after its last byte:
+ * write them from there, where you have it still. So the library's own copy of the frame is read no more. Then call ivshm_end_took_bursts.
+ * IVSHM_DONE; or the bursts and the room are as they were: IVSHM_NO_END, IVSHM_NO_CALL, IVSHM_OTHER_ACCESS (no word of a frame is next),
  * IVSHM_SHORT_ROOM (size < 20). */
-uint32_t ivshm_end_tail(ivshm_end *end, ivshm_stretch stretches[3], uint8_t *room, size_t size);
+uint32_t ivshm_end_tail(ivshm_end *end, ivshm_burst bursts[3], uint8_t *room, size_t size);
 
-/* Takes the steps of all these writes, which have no notes, where ivshm_end_stretches or ivshm_end_tail told them.
+/* Takes the steps of all these writes, which have no notes, where ivshm_end_bursts or ivshm_end_tail told them.
  * IVSHM_DONE; or the end is as it was: IVSHM_NO_END, IVSHM_NO_CALL, IVSHM_OTHER_ACCESS. */
-uint32_t ivshm_end_took_stretches(ivshm_end *end);
+uint32_t ivshm_end_took_bursts(ivshm_end *end);
 
 /* The states, as in the State Table. */
 enum {

@@ -201,28 +201,28 @@ static void heed(struct peer *p, const ivshm_access *access, const ivshm_notes *
 }
 
 /* Puts all that an offer writes before its index into the room: as the library tells it, or of some frames the words of the frame from the frame. */
-static bool tell_before_index(struct peer *p, ivshm_stretch stretches[3], uint32_t *room, size_t bytes) {
+static bool tell_before_index(struct peer *p, ivshm_burst bursts[3], uint32_t *room, size_t bytes) {
     uint8_t tail[20];
-    if (p->length / 4 % 2) return ivshm_end_stretches(&p->end, stretches, (uint8_t *)room, bytes) == IVSHM_DONE;
-    if (ivshm_end_tail(&p->end, stretches, tail, sizeof tail) != IVSHM_DONE) return false;
-    size_t at = 4 * ((p->length + 3) / 4 - stretches[0].count);
-    memset(room, 0, 4 * (size_t)stretches[0].count);
+    if (p->length / 4 % 2) return ivshm_end_bursts(&p->end, bursts, (uint8_t *)room, bytes) == IVSHM_DONE;
+    if (ivshm_end_tail(&p->end, bursts, tail, sizeof tail) != IVSHM_DONE) return false;
+    size_t at = 4 * ((p->length + 3) / 4 - bursts[0].count);
+    memset(room, 0, 4 * (size_t)bursts[0].count);
     memcpy(room, p->offered + at, p->length - at);
-    memcpy(room + stretches[0].count, tail, sizeof tail);
+    memcpy(room + bursts[0].count, tail, sizeof tail);
     return true;
 }
 
 /* Makes all the writes of an offer before its index, in some order: from the last to the first, or the frame first. */
 static bool step_before_index(struct peer *p, uint32_t *room, size_t bytes) {
-    ivshm_stretch stretches[3];
-    if (!tell_before_index(p, stretches, room, bytes)) return false;
-    uint32_t first[3] = {0, stretches[0].count, stretches[0].count + stretches[1].count};
+    ivshm_burst bursts[3];
+    if (!tell_before_index(p, bursts, room, bytes)) return false;
+    uint32_t first[3] = {0, bursts[0].count, bursts[0].count + bursts[1].count};
     bool backwards = draw(2);
     for (int k = 0; k < 3; k++) {
-        const ivshm_stretch *s = &stretches[backwards ? 2 - k : k];
+        const ivshm_burst *s = &bursts[backwards ? 2 - k : k];
         for (uint32_t i = 0; i < s->count; i++) store(p, s->word + i, room[first[backwards ? 2 - k : k] + i], false);
     }
-    ivshm_end_took_stretches(&p->end);
+    ivshm_end_took_bursts(&p->end);
     return true;
 }
 
@@ -247,12 +247,12 @@ static void step(struct peer *p) {
         count = access.kind == IVSHM_READ || draw(2) ? count : 1 + draw(count);
         if (access.kind == IVSHM_READ) {
             for (uint32_t i = 0; i < count; i++) room[i] = load(p, access.word + i, false);
-            ivshm_end_took_words(&p->end, (const uint8_t *)room, 4 * (size_t)count, &notes);
+            ivshm_end_took_reads(&p->end, (const uint8_t *)room, 4 * (size_t)count, &notes);
             whole = first;
         } else if (draw(2) || !step_before_index(p, room, sizeof room)) {
             ivshm_end_words(&p->end, (uint8_t *)room, 4 * (size_t)count);
             for (uint32_t i = count; i-- > 0;) store(p, access.word + i, room[i], false);
-            ivshm_end_took_written(&p->end, count);
+            ivshm_end_took_writes(&p->end, count);
         }
     } else {
         if (access.kind == IVSHM_READ) value = load(p, access.word, ordered);

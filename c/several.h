@@ -28,7 +28,7 @@ struct sections {
     const _Atomic uint32_t *read;     /* the other's */
     uint32_t data;                    /* the first word of the own data area, from the start of the section */
     uint32_t room[AT_ONCE];           /* words on their way between the region and the library */
-    ivshm_stretch made[3];            /* which words of the region were read or written at once: the last stretches may have none */
+    ivshm_burst made[3];            /* which words of the region were read or written at once: the last bursts may have none */
     const uint8_t *offered;           /* the frame of the open offer, which stays as it is until the offer is over */
     size_t offered_length;
     uint32_t left;                    /* words that were left of the frame whose words were read at once last */
@@ -93,7 +93,7 @@ static inline uint32_t make_offer(ivshm_end *end, struct sections *s, ivshm_note
     copy_frame_in(&s->written[s->made[0].word - s->own], s, s->made[0].count);
     copy_in(&s->written[s->made[1].word - s->own], tail, 4);
     copy_in(&s->written[s->made[2].word - s->own], tail + 16, 1);
-    must(ivshm_end_took_stretches(end), "took_stretches");
+    must(ivshm_end_took_bursts(end), "took_bursts");
     notes->count = 0;
     return s->made[0].count + 5;
 }
@@ -101,7 +101,7 @@ static inline uint32_t make_offer(ivshm_end *end, struct sections *s, ivshm_note
 /* Takes the reads of so many words. A read that leaves none of a frame, and finds none left of one, is that of a whole frame. */
 static inline void take_words(ivshm_end *end, struct sections *s, uint32_t at, uint32_t count, uint32_t ahead, ivshm_notes *notes) {
     copy_out(s->room, &s->read[at], count);
-    must(ivshm_end_took_words(end, (const uint8_t *)s->room, 4 * (size_t)count, notes), "took_words");
+    must(ivshm_end_took_reads(end, (const uint8_t *)s->room, 4 * (size_t)count, notes), "took_reads");
     s->whole = s->left == 0 && count == ahead;
     s->left = ahead - count;
 }
@@ -118,14 +118,14 @@ static inline uint32_t make_several(ivshm_end *end, struct sections *s, const iv
         uint32_t made = make_offer(end, s, notes);
         if (made > 0) return made;
     }
-    s->made[0] = (ivshm_stretch){access->word, count};
+    s->made[0] = (ivshm_burst){access->word, count};
     s->made[1].count = s->made[2].count = 0;
     if (reads) {
         take_words(end, s, at, count, access->count, notes);
     } else {
         must(ivshm_end_words(end, (uint8_t *)s->room, 4 * (size_t)count), "words");
         copy_in(&s->written[at], (const uint8_t *)s->room, count);
-        must(ivshm_end_took_written(end, count), "took_written");
+        must(ivshm_end_took_writes(end, count), "took_writes");
         notes->count = 0;
     }
     return count;

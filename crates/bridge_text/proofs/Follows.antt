@@ -2,13 +2,13 @@
 use Rattle.std.proofs.Common.{◌≡◌, ℕ, true, false, cond, List, length, Some, None, Ok, refl, ap, ◌∙◌}
 use Rattle.std.specs.List.{list_all}
 use Rattle.std.proofs.lemmas.Option.{option_and_then_some}
-use Rattle.line_text.specs.Forms.{matches, numbers_of, hex_of, hex_bytes, fields_of, Fit, FitBytes, is_printable}
-use Rattle.line_text.specs.Rows.{Row, row, fields_of_row, find_form}
-use Rattle.line_text.specs.Steps.{◌>>=◌, some_or}
-use Rattle.line_text.proofs.SpellLaws.{numbers_of-spell, IsSpelled, spelled}
-use Rattle.line_text.proofs.StepLaws.{bind_ok, guard_ok, pass_ok, some_or-ok, if_some, same_ok}
-use Rattle.line_text.proofs.TableLaws.{finds, found}
-use Rattle.line_text.proofs.RowLaws.{IsRow, bare, row_printable, row_cut, hex_of-spell, line_is}
+use Rattle.line_format.specs.Forms.{matches, numbers_of, hex_of, hex_bytes, fields_of, Fit, FitBytes, is_printable}
+use Rattle.line_format.specs.Rows.{Row, row, fields_of_row, find_form}
+use Rattle.line_format.specs.Steps.{◌>>=◌, some_or}
+use Rattle.line_format.proofs.SpellLaws.{numbers_of-spell, IsSpelled, spelled}
+use Rattle.line_format.proofs.StepLaws.{bind_ok, guard_ok, pass_ok, some_or-ok, if_some, same_ok}
+use Rattle.line_format.proofs.TableLaws.{finds, found}
+use Rattle.line_format.proofs.RowLaws.{IsRow, bare, row_printable, row_cut, hex_of-spell, line_is}
 use Rattle.bridge_text.specs.declared.forms.Form.{Form}
 use Rattle.bridge_text.specs.declared.faults.Cause.TheVariants.{BadLine, BadOrder, BadNumber, BadFrame, TooManyFrames}
 use Rattle.bridge_text.specs.Table.{pieces_of, all_forms}

@@ -4,10 +4,10 @@ use Rattle.std.specs.List.{AllByRecursion}
 use Rattle.std.proofs.lemmas.Bool.{lt-leb}
 use Rattle.std.proofs.lemmas.List.{append-nil, length-append}
 use Rattle.std.proofs.lemmas.List.Elements.{recursion_from_All}
-use Rattle.line_text.specs.Rows.{Row, row}
-use Rattle.line_text.specs.Machine.{Leads, HasNoNewline, text_of_lines}
-use Rattle.line_text.proofs.MachineLaws.{reads}
-use Rattle.line_text.proofs.RowLaws.{bare, row_plain, text_is_lines}
+use Rattle.line_format.specs.Rows.{Row, row}
+use Rattle.line_format.specs.Machine.{Leads, HasNoNewline, text_of_lines}
+use Rattle.line_format.proofs.MachineLaws.{reads}
+use Rattle.line_format.proofs.RowLaws.{bare, row_plain, text_is_lines}
 use Rattle.bridge_text.specs.declared.scripts.Sent.{Sent}
 use Rattle.bridge_text.specs.declared.forms.Form.{Form}
 use Rattle.bridge_text.specs.declared.forms.Form.TheVariants.{Version, Ports, Rounds, Begin, End}

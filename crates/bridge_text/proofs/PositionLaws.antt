@@ -5,10 +5,10 @@ use Rattle.std.specs.List.{AllByRecursion}
 use Rattle.std.proofs.lemmas.Bool.{eqb-true, leb-false}
 use Rattle.std.proofs.lemmas.List.{map-append, length-append}
 use Rattle.std.proofs.lemmas.List.Elements.{All-append, All-nil, recursion_from_All, All-from_recursion}
-use Rattle.line_text.specs.Forms.{Piece, Number, Fit}
-use Rattle.line_text.specs.Rows.{Row, row}
-use Rattle.line_text.proofs.FitLaws.{counted, list_0, list_1}
-use Rattle.line_text.proofs.StepLaws.{not_false}
+use Rattle.line_format.specs.Forms.{Piece, Number, Fit}
+use Rattle.line_format.specs.Rows.{Row, row}
+use Rattle.line_format.proofs.FitLaws.{counted, list_0, list_1}
+use Rattle.line_format.proofs.StepLaws.{not_false}
 use Rattle.bridge_text.specs.declared.scripts.Sent.{Sent}
 use Rattle.bridge_text.specs.declared.forms.Form.{Form}
 use Rattle.bridge_text.specs.declared.forms.Form.TheVariants.{Version, Ports, Rounds, Begin, Frame, End}
@@ -67,8 +67,8 @@ at_place _ = refl
 pub same_position : (s t : Position) → eqb (ordinal_of s) (ordinal_of t) ≡ true → t ≡ s
 same_position s t e = sym (at_place t) ∙ ap position_at (sym (eqb-true _ _ e)) ∙ at_place s
 
-stands : (d : SoFar) (r : Row Form) → CanFollow d r → d.position ≡ position_of r.form
-stands d r can = same_position (position_of r.form) d.position (not_false _ can.order)
+refines : (d : SoFar) (r : Row Form) → CanFollow d r → d.position ≡ position_of r.form
+refines d r can = same_position (position_of r.form) d.position (not_false _ can.order)
 
 -- ---- numbers of a head line
 
@@ -140,19 +140,19 @@ frame_good d ns frame can good =
 
 adds : (form : Form) (ns frame : List ℕ) (d : SoFar) → CanFollow d (row form ns frame) → Good d.position d → Adds d (row form ns frame)
 adds Version ns frame d can good =
-    let at = stands d (row Version ns frame) can in
+    let at = refines d (row Version ns frame) can in
     record { rows = rw at (ap (λ (r : Row Form). r ∷ []) (same_row Version _ ns frame (one_alone ns can.values) (sym can.bytes))); good = rw at at good }
 adds Ports ns frame d can good =
-    let at = stands d (row Ports ns frame) can in
+    let at = refines d (row Ports ns frame) can in
     let same = the_number Ports ns frame (counted (pieces_of Ports) ns can.values) can.bytes in
     record { rows = rw at (ap (λ (r : Row Form). row Version (1 ∷ []) [] ∷ r ∷ []) same); good = ((rw at at good), in_range 2 8 [] ns can.values) }
 adds Rounds ns frame d can good =
-    let at = stands d (row Rounds ns frame) can in
+    let at = refines d (row Rounds ns frame) can in
     let same = the_number Rounds ns frame (counted (pieces_of Rounds) ns can.values) can.bytes in
     let g = (rw at at good) in
     record { rows = rw at (ap (λ (r : Row Form). row Version (1 ∷ []) [] ∷ row Ports (d.ports ∷ []) [] ∷ r ∷ []) same); good = (g.0, g.1, (in_range 0 4000 [] ns can.values).1) }
 adds Begin ns frame d can good =
-    let at = stands d (row Begin ns frame) can in
+    let at = refines d (row Begin ns frame) can in
     let same = same_row Begin [] ns frame (list_0 ns (counted (pieces_of Begin) ns can.values)) (sym can.bytes) in
     let g = (rw at at good) in
     record {
@@ -160,10 +160,10 @@ adds Begin ns frame d can good =
       good = record { least = g.1.0; most = g.1.1; rounds = g.2; allowed = rw g.0 (All-nil _); few = rw g.0 (omega arith) };
     }
 adds Frame ns frame d can good =
-    let at = stands d (row Frame ns frame) can in
+    let at = refines d (row Frame ns frame) can in
     record { rows = rw at (frame_rows d ns frame can.values); good = rw at (frame_good d ns frame can (rw at at good)) }
 adds End ns frame d can good =
-    let at = stands d (row End ns frame) can in
+    let at = refines d (row End ns frame) can in
     let same = same_row End [] ns frame (list_0 ns (counted (pieces_of End) ns can.values)) (sym can.bytes) in
     record { rows = rw at (ap (λ (r : Row Form). (head_rows d ++ map row_of_sent d.sent) ++ r ∷ []) same); good = rw at at good }
 

@@ -1,8 +1,8 @@
 -- The forms of the lines are a table.
 use Rattle.std.proofs.Common.{◌≡◌, ℕ, ◌<◌, ◌≤◌, true, length, Some, refl, arith}
 use Rattle.std.specs.Prelude.{slice_get}
-use Rattle.line_text.specs.Forms.{is_form}
-use Rattle.line_text.proofs.TableLaws.{IsTable}
+use Rattle.line_format.specs.Forms.{is_form}
+use Rattle.line_format.proofs.TableLaws.{IsTable}
 use Rattle.bridge_text.specs.declared.forms.Form.{Form}
 use Rattle.bridge_text.specs.declared.forms.Form.TheVariants.{Version, Ports, Rounds, Begin, Frame, End}
 use Rattle.bridge_text.specs.Table.{pieces_of, all_forms}

@@ -1,8 +1,8 @@
 -- A text is read exactly where it is the spelling of what is read.
 use Rattle.std.proofs.Common.{◌≡◌, ℕ, List, Result, Ok, Err, sym, ap, subst, ◌∙◌}
 use Rattle.std.specs.Result.{IsErrAnd}
-use Rattle.line_text.specs.declared.reading.TextFault.{TextFault}
-use Rattle.line_text.specs.Reading.{Reads}
+use Rattle.line_format.specs.declared.reading.TextFault.{TextFault}
+use Rattle.line_format.specs.Reading.{Reads}
 use Rattle.bridge_text.specs.declared.faults.Cause.{Cause}
 use Rattle.bridge_text.specs.declared.faults.BridgeFault.{BridgeFault}
 use Rattle.bridge_text.specs.declared.scripts.Script.{Script}

@@ -1,7 +1,7 @@
 -- What a call answers, against what the definitions say. Want of memory is the one free answer.
 use Rattle.std.specs.Prelude.{◌≡◌, Result, Ok, Err}
-use Rattle.line_text.specs.declared.reading.TextFault.{TextFault}
-use Rattle.line_text.specs.declared.reading.TextFault.TheVariants as texts
+use Rattle.line_format.specs.declared.reading.TextFault.{TextFault}
+use Rattle.line_format.specs.declared.reading.TextFault.TheVariants as texts
 use Rattle.bridge_text.specs.declared.faults.Cause.{Cause}
 use Rattle.bridge_text.specs.declared.faults.BridgeFault.{BridgeFault}
 use Rattle.bridge_text.specs.declared.faults.BridgeFault.TheVariants as faults

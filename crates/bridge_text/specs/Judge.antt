@@ -1,10 +1,10 @@
 -- Reading line by line: what a good line adds, and what is wrong with a bad one.
 use Rattle.std.specs.Prelude.{ℕ, ◌==◌, ◌&&◌, not, nat_le, if◌then◌else◌, Bool, true, false, List, [], ◌∷◌, ◌++◌, length, slice_index, Option, Some, None, Result, Ok, Err, option_and_then}
 use Rattle.std.specs.List.{list_all}
-use Rattle.line_text.specs.Forms.{fields_of, numbers_of, hex_of, hex_bytes, is_printable}
-use Rattle.line_text.specs.Rows.{find_form}
-use Rattle.line_text.specs.Steps.{◌>>=◌, some_or}
-use Rattle.line_text.specs.Machine.{Machine, Wrong, At, After, NoEnd, read}
+use Rattle.line_format.specs.Forms.{fields_of, numbers_of, hex_of, hex_bytes, is_printable}
+use Rattle.line_format.specs.Rows.{find_form}
+use Rattle.line_format.specs.Steps.{◌>>=◌, some_or}
+use Rattle.line_format.specs.Machine.{Machine, Wrong, At, After, NoEnd, read}
 use Rattle.bridge_text.specs.declared.scripts.Sent.{Sent}
 use Rattle.bridge_text.specs.declared.forms.Form.{Form}
 use Rattle.bridge_text.specs.declared.forms.Form.TheVariants.{Version, Ports, Rounds, Begin, Frame, End}

@@ -1,7 +1,7 @@
 -- What holds of all texts of a bridge.
 use Rattle.std.specs.Prelude.{◌≡◌, ℕ, ◌+◌, ◌<◌, List, ◌++◌, length, take, Ok, Err}
-use Rattle.line_text.specs.Forms.{cuts}
-use Rattle.line_text.specs.Machine.{At, IsFirstWrong}
+use Rattle.line_format.specs.Forms.{cuts}
+use Rattle.line_format.specs.Machine.{At, IsFirstWrong}
 use Rattle.bridge_text.specs.declared.faults.Cause.{Cause}
 use Rattle.bridge_text.specs.declared.faults.BridgeFault.TheVariants.{BadLine, NoEnd}
 use Rattle.bridge_text.specs.Spelling.{World, rows_of, IsSpelling}

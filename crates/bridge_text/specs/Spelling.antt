@@ -1,7 +1,7 @@
 -- What a text of a bridge says, and its one spelling (profile): a head gives the ports and the rounds, and then come the frames that are sent.
 use Rattle.std.specs.Prelude.{◌≡◌, ℕ, ◌≤◌, ◌&&◌, nat_lt, nat_le, Bool, true, List, [], ◌∷◌, ◌++◌, length, slice_index, map, All}
-use Rattle.line_text.specs.Forms.{Fit, FitBytes}
-use Rattle.line_text.specs.Rows.{Row, row, text_of}
+use Rattle.line_format.specs.Forms.{Fit, FitBytes}
+use Rattle.line_format.specs.Rows.{Row, row, text_of}
 use Rattle.bridge_text.specs.declared.forms.Form.{Form}
 use Rattle.bridge_text.specs.declared.forms.Form.TheVariants.{Version, Ports, Rounds, Begin, Frame, End}
 use Rattle.bridge_text.specs.declared.scripts.Sent.{Sent}

@@ -1,6 +1,6 @@
 -- The forms of the lines of a text of a bridge, by words and numbers (profile).
 use Rattle.std.specs.Prelude.{List, [], ◌∷◌, codes}
-use Rattle.line_text.specs.Forms.{Piece, Word, Number, Hex}
+use Rattle.line_format.specs.Forms.{Piece, Word, Number, Hex}
 use Rattle.bridge_text.specs.declared.forms.Form.{Form}
 use Rattle.bridge_text.specs.declared.forms.Form.TheVariants.{Version, Ports, Rounds, Begin, Frame, End}
 

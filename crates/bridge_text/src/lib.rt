@@ -1,5 +1,5 @@
 //! The text of a bridge's run: how many ports and rounds there are, and the frames that each station sends. It stands on
-//! `line_text` for lines and forms. Its contracts promise that a value has one spelling, that reading answers exactly where the bytes are
+//! `line_format` for lines and forms. Its contracts promise that a value has one spelling, that reading answers exactly where the bytes are
 //! one, and that each fault is the first in the order of the format.
 //!
 //! # Design

@@ -9,7 +9,7 @@ use crate::drafts::Draft;
 use crate::faults::BridgeFault;
 use crate::positions::Position;
 use crate::scripts::{Script, SentFrames};
-use line_text::read_text;
+use line_format::read_text;
 use std::alloc::Global;
 
 impl Draft {

@@ -1,7 +1,7 @@
 //! Taking a line into a draft: its tests in their order, and what it adds.
 ghost use Rattle.std.specs.Prelude.{◌≡◌, ◌<◌, ◌≤◌, ◌^◌, IsTrue, slice_index, OnOk, IfOk, IfSome, option_map};
-ghost use Rattle.line_text.specs.Forms.{texts, AreInRange};
-ghost use Rattle.line_text.specs.Reading.{Gives};
+ghost use Rattle.line_format.specs.Forms.{texts, AreInRange};
+ghost use Rattle.line_format.specs.Reading.{Gives};
 ghost use Rattle.bridge_text.specs.Table.{pieces_of};
 ghost use Rattle.bridge_text.specs.Spelling.{is_in_range, is_frame_length};
 ghost use Rattle.bridge_text.specs.Judge.{SoFar, world_so_far, is_out_of_order, numbers_in, frame_in, is_frame, is_too_many, add, judge, step, machine};
@@ -14,7 +14,7 @@ use crate::positions::Position;
 use crate::scripts::Sent;
 use arrayvec::ArrayVec;
 use ivs_base::{Frame, NoMemory};
-use line_text::{LineFault, TakeLines, hex_field, is_printable, number_at, numbers_in, read_hex};
+use line_format::{LineFault, TakeLines, hex_field, is_printable, number_at, numbers_in, read_hex};
 use std::alloc::Global;
 
 /// The most frames of a text.
@@ -147,7 +147,7 @@ impl TakeLines for Draft {
         if !is_printable(line) {
             return Err(LineFault::Wrong(Cause::BadLine));
         }
-        let Some(fields) = line_text::fields(line) else {
+        let Some(fields) = line_format::fields(line) else {
             return Err(LineFault::Wrong(Cause::BadLine));
         };
         let Some(form) = form_of(&fields) else {

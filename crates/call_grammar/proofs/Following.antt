@@ -3,162 +3,162 @@ use Rattle.std.proofs.Common.{◌≡◌, ℕ, zero, suc, ◌+◌, ◌-◌, Bool,
 use Rattle.std.specs.Prelude.{◌==◌, nat_le, if◌then◌else◌}
 use Rattle.link_handshake.specs.declared.Move.{Move}
 use Rattle.link_handshake.specs.declared.Move.TheVariants.{Stay, Set, ClearThenSet}
-use Rattle.link_handshake.specs.Standing.{move_of}
+use Rattle.link_handshake.specs.HandshakeState.{move_of}
 use Rattle.split_ring.specs.Layout.{has_events, size_of}
 use Rattle.split_ring.specs.Spelling.{low_half, entry_half}
 use Rattle.call_grammar.specs.Steps.{Step}
 use Rattle.call_grammar.specs.Trees.{CallTree, Ended, Goes}
 use Rattle.call_grammar.specs.Ends.{End}
 use Rattle.call_grammar.specs.Words.{address_of, words_for}
-use Rattle.call_grammar.specs.Ticks.{Who, clear, set_state, after_tick}
-use Rattle.call_grammar.specs.Offers.{Job, finds_room, descriptor_of, entry_of, asks_for, tell, fill, read_ids, returned_by}
-use Rattle.call_grammar.specs.Polls.{is_entry, is_address, is_length, read_words, items, published_by, is_last, ask, look, poll}
-use Rattle.call_grammar.specs.Calls.{Call, Tick, Stop, Offer, Poll, in_run, job_of, tree_of}
-use Rattle.call_grammar.specs.Places.{Place, Closed, AtState, Clearing, Setting, Refusing, Downed, AtUsedIndex, AtUsedId, Filling, WritingLow, WritingHigh, WritingLength, WritingFlags, WritingEntry, WritingIndex, AtEvent, RingingOffer, AtAvailIndex, Arming, AtEntry, AtLow, AtHigh, AtLength, AtFlags, AtWord, GivingId, GivingLength, GivingIndex, RingingPoll, remaining, clear_place, tick_place, fill_place, ids_place, tell_place, none_place, items_place, words_place, first_place, next_place, step_at, is_open, PlacesFollowTrees}
+use Rattle.call_grammar.specs.Ticks.{EndConfig, clear, set_state, after_tick}
+use Rattle.call_grammar.specs.Offers.{PendingOffer, frame_fits, descriptor_of, avail_entry_of, wants_doorbell, notify, write_frame_words, read_used_ids, returned_by}
+use Rattle.call_grammar.specs.Polls.{is_entry, is_address, is_length, read_words, items, published_by, is_last, write_avail_event, read_avail_index, poll}
+use Rattle.call_grammar.specs.Calls.{Call, Tick, Stop, Offer, Poll, in_run, pending_of, tree_of}
+use Rattle.call_grammar.specs.Places.{Place, Closed, ReadingOtherState, Clearing, WritingState, Refusing, NotInRun, ReadingUsedIndex, ReadingUsedId, WritingFrameWord, WritingDescAddressLow, WritingDescAddressHigh, WritingDescLength, WritingDescFlags, WritingAvailEntry, WritingAvailIndex, ReadingAvailEvent, RingingOffer, ReadingAvailIndex, WritingAvailEvent, ReadingAvailEntry, ReadingDescAddressLow, ReadingDescAddressHigh, ReadingDescLength, ReadingDescFlags, ReadingFrameWord, WritingUsedId, WritingUsedLength, WritingUsedIndex, RingingPoll, remaining, clear_place, tick_place, fill_place, ids_place, notify_place, none_place, items_place, words_place, first_place, next_place, step_at, is_open, PlacesFollowTrees}
 
 -- what is left at a choice of places is the choice of what is left
-chosen : (who : Who) (b : Bool) (x y : Place) → remaining who (if b then x else y) ≡ (if b then remaining who x else remaining who y)
-chosen who true x y = refl
-chosen who false x y = refl
+chosen : (config : EndConfig) (b : Bool) (x y : Place) → remaining config (if b then x else y) ≡ (if b then remaining config x else remaining config y)
+chosen config true x y = refl
+chosen config false x y = refl
 
 both : (b : Bool) (t t' u u' : CallTree) → t ≡ t' → u ≡ u' → (if b then t else u) ≡ (if b then t' else u')
 both true t t' u u' e f = e
 both false t t' u u' e f = f
 
-clear_left : (who : Who) (at count state : ℕ) → remaining who (clear_place at count state) ≡ clear at count (set_state state)
-clear_left who at zero state = refl
-clear_left who at (suc more) state = refl
+clear_left : (config : EndConfig) (at count state : ℕ) → remaining config (clear_place at count state) ≡ clear at count (set_state state)
+clear_left config at zero state = refl
+clear_left config at (suc more) state = refl
 
-tick_left : (who : Who) (move : Move) → remaining who (tick_place who move) ≡ after_tick who move
-tick_left who Stay = refl
-tick_left who (Set state) = refl
-tick_left who (ClearThenSet state) = clear_left who who.own who.words state
+tick_left : (config : EndConfig) (move : Move) → remaining config (tick_place config move) ≡ after_tick config move
+tick_left config Stay = refl
+tick_left config (Set state) = refl
+tick_left config (ClearThenSet state) = clear_left config config.own config.words state
 
-fill_left : (who : Who) (job : Job) (at count : ℕ) → remaining who (fill_place job at count) ≡ fill who job at count
-fill_left who job at zero = refl
-fill_left who job at (suc more) = refl
+fill_left : (config : EndConfig) (pending : PendingOffer) (at count : ℕ) → remaining config (fill_place pending at count) ≡ write_frame_words config pending at count
+fill_left config pending at zero = refl
+fill_left config pending at (suc more) = refl
 
-ids_left : (who : Who) (job : Job) (freed count : ℕ) → remaining who (ids_place who job freed count) ≡ read_ids who job freed count
-ids_left who job freed zero = chosen who (finds_room who job freed) (fill_place job 0 (words_for (length job.frame))) Closed ∙
-    both (finds_room who job freed) _ _ Ended Ended (fill_left who job 0 (words_for (length job.frame))) refl
-ids_left who job freed (suc more) = refl
+ids_left : (config : EndConfig) (pending : PendingOffer) (freed count : ℕ) → remaining config (ids_place config pending freed count) ≡ read_used_ids config pending freed count
+ids_left config pending freed zero = chosen config (frame_fits config pending freed) (fill_place pending 0 (words_for (length pending.frame))) Closed ∙
+    both (frame_fits config pending freed) _ _ Ended Ended (fill_left config pending 0 (words_for (length pending.frame))) refl
+ids_left config pending freed (suc more) = refl
 
-tell_left : (who : Who) (number : ℕ) → remaining who (tell_place who number) ≡ tell who number
-tell_left who number = chosen who (has_events who.sizes) (AtEvent number) RingingOffer
+tell_left : (config : EndConfig) (number : ℕ) → remaining config (notify_place config number) ≡ notify config number
+tell_left config number = chosen config (has_events config.sizes) (ReadingAvailEvent number) RingingOffer
 
 -- what is left of a poll after a look that finds nothing
-abbrev after_none : Who → ℕ → (last : Bool) → CallTree
-after_none who taken true = Ended
-after_none who taken false = ask who taken (look who taken true Ended)
+abbrev after_none : EndConfig → ℕ → (last : Bool) → CallTree
+after_none config taken true = Ended
+after_none config taken false = write_avail_event config taken (read_avail_index config taken true Ended)
 
-none_left : (who : Who) (taken : ℕ) (last : Bool) → remaining who (none_place taken last) ≡ after_none who taken last
-none_left who taken true = refl
-none_left who taken false = refl
+none_left : (config : EndConfig) (taken : ℕ) (last : Bool) → remaining config (none_place taken last) ≡ after_none config taken last
+none_left config taken true = refl
+none_left config taken false = refl
 
-poll_is : (who : Who) (taken : ℕ) (last : Bool) → poll who taken last ≡ look who taken last (after_none who taken last)
-poll_is who taken true = refl
-poll_is who taken false = refl
+poll_is : (config : EndConfig) (taken : ℕ) (last : Bool) → poll config taken last ≡ read_avail_index config taken last (after_none config taken last)
+poll_is config taken true = refl
+poll_is config taken false = refl
 
-items_left : (who : Who) (number count : ℕ) → remaining who (items_place number count) ≡ items who number count
-items_left who number zero = refl
-items_left who number (suc more) = refl
+items_left : (config : EndConfig) (number count : ℕ) → remaining config (items_place number count) ≡ items config number count
+items_left config number zero = refl
+items_left config number (suc more) = refl
 
-words_left : (who : Who) (number more entry address bytes : ℕ) (read : List ℕ) (words : ℕ) → remaining who (words_place number more entry address bytes read words) ≡ read_words who number entry address bytes read words (items who (number + 1) more)
-words_left who number more entry address bytes read zero = refl
-words_left who number more entry address bytes read (suc words) = refl
+words_left : (config : EndConfig) (number more entry address bytes : ℕ) (read : List ℕ) (words : ℕ) → remaining config (words_place number more entry address bytes read words) ≡ read_words config number entry address bytes read words (items config (number + 1) more)
+words_left config number more entry address bytes read zero = refl
+words_left config number more entry address bytes read (suc words) = refl
 
 -- a choice between going on and a refusal
-going_on : (who : Who) (b : Bool) (x : Place) (t : CallTree) → remaining who x ≡ t → (if b then t else set_state 0) ≡ remaining who (if b then x else Refusing)
-going_on who b x t e = sym (chosen who b x Refusing ∙ both b (remaining who x) t (set_state 0) (set_state 0) e refl)
+going_on : (config : EndConfig) (b : Bool) (x : Place) (t : CallTree) → remaining config x ≡ t → (if b then t else set_state 0) ≡ remaining config (if b then x else Refusing)
+going_on config b x t e = sym (chosen config b x Refusing ∙ both b (remaining config x) t (set_state 0) (set_state 0) e refl)
 
 -- what is left after a look whose value is in range
-look_left : (who : Who) (taken : ℕ) (last : Bool) (value : ℕ) → remaining who (if published_by taken value == 0 then none_place taken last else items_place taken (published_by taken value)) ≡
-    (if published_by taken value == 0 then after_none who taken last else items who taken (published_by taken value))
-look_left who taken last value = chosen who (published_by taken value == 0) (none_place taken last) (items_place taken (published_by taken value)) ∙
-    both (published_by taken value == 0) _ (after_none who taken last) _ _ (none_left who taken last) (items_left who taken (published_by taken value))
+look_left : (config : EndConfig) (taken : ℕ) (last : Bool) (value : ℕ) → remaining config (if published_by taken value == 0 then none_place taken last else items_place taken (published_by taken value)) ≡
+    (if published_by taken value == 0 then after_none config taken last else items config taken (published_by taken value))
+look_left config taken last value = chosen config (published_by taken value == 0) (none_place taken last) (items_place taken (published_by taken value)) ∙
+    both (published_by taken value == 0) _ (after_none config taken last) _ _ (none_left config taken last) (items_left config taken (published_by taken value))
 
-look_goes : (who : Who) (taken : ℕ) (last : Bool) (step : Step) (left : CallTree) → Goes (look who taken last (after_none who taken last)) step left →
-    (value : ℕ) × (step ≡ step_at who (AtAvailIndex taken last) value) × (left ≡ remaining who (next_place who (AtAvailIndex taken last) value))
-look_goes who taken last step left g = (
+look_goes : (config : EndConfig) (taken : ℕ) (last : Bool) (step : Step) (left : CallTree) → Goes (read_avail_index config taken last (after_none config taken last)) step left →
+    (value : ℕ) × (step ≡ step_at config (ReadingAvailIndex taken last) value) × (left ≡ remaining config (next_place config (ReadingAvailIndex taken last) value))
+look_goes config taken last step left g = (
   g.0,
   g.1,
-  g.2 ∙ going_on who (nat_le (published_by taken g.0) (size_of who.sizes)) (if published_by taken g.0 == 0 then none_place taken last else items_place taken (published_by taken g.0)) _ (look_left who taken last g.0),
+  g.2 ∙ going_on config (nat_le (published_by taken g.0) (size_of config.sizes)) (if published_by taken g.0 == 0 then none_place taken last else items_place taken (published_by taken g.0)) _ (look_left config taken last g.0),
 )
 
-look_comes : (who : Who) (taken : ℕ) (last : Bool) (value : ℕ) → Goes (look who taken last (after_none who taken last)) (step_at who (AtAvailIndex taken last) value) (remaining who (next_place who (AtAvailIndex taken last) value))
-look_comes who taken last value = (
+look_comes : (config : EndConfig) (taken : ℕ) (last : Bool) (value : ℕ) → Goes (read_avail_index config taken last (after_none config taken last)) (step_at config (ReadingAvailIndex taken last) value) (remaining config (next_place config (ReadingAvailIndex taken last) value))
+look_comes config taken last value = (
   value,
   refl,
-  sym (going_on who (nat_le (published_by taken value) (size_of who.sizes)) (if published_by taken value == 0 then none_place taken last else items_place taken (published_by taken value)) _ (look_left who taken last value)),
+  sym (going_on config (nat_le (published_by taken value) (size_of config.sizes)) (if published_by taken value == 0 then none_place taken last else items_place taken (published_by taken value)) _ (look_left config taken last value)),
 )
 
-goes_lem : (who : Who) (place : Place) (step : Step) (left : CallTree) → Goes (remaining who place) step left → (value : ℕ) × (step ≡ step_at who place value) × (left ≡ remaining who (next_place who place value))
-goes_lem who Closed step left g = absurd g
-goes_lem who (AtState handshake) step left g = (g.0, g.1, g.2 ∙ sym (tick_left who (move_of handshake g.0)))
-goes_lem who (Clearing at more state) step left g = (0, g.0, g.1 ∙ sym (clear_left who (at + 1) more state))
-goes_lem who (Setting state) step left g = (0, g.0, g.1)
-goes_lem who Refusing step left g = (0, g.0, g.1)
-goes_lem who Downed step left g = (0, g.0, g.1)
-goes_lem who (AtUsedIndex job freed) step left g = (g.0, g.1, g.2 ∙ going_on who (nat_le (returned_by freed g.0) (job.number - freed)) (ids_place who job freed (returned_by freed g.0)) _ (ids_left who job freed (returned_by freed g.0)))
-goes_lem who (AtUsedId job freed more) step left g = (g.0, g.1, g.2 ∙ going_on who (g.0 == descriptor_of who freed) (ids_place who job (freed + 1) more) _ (ids_left who job (freed + 1) more))
-goes_lem who (Filling job at more) step left g = (0, g.0, g.1 ∙ sym (fill_left who job (at + 1) more))
-goes_lem who (WritingLow job) step left g = (0, g.0, g.1)
-goes_lem who (WritingHigh job) step left g = (0, g.0, g.1)
-goes_lem who (WritingLength job) step left g = (0, g.0, g.1)
-goes_lem who (WritingFlags job) step left g = (0, g.0, g.1)
-goes_lem who (WritingEntry job) step left g = (0, g.0, g.1)
-goes_lem who (WritingIndex job) step left g = (0, g.0, g.1 ∙ sym (tell_left who job.number))
-goes_lem who (AtEvent number) step left g = (g.0, g.1, g.2 ∙ sym (chosen who (asks_for (low_half g.0) number) RingingOffer Closed))
-goes_lem who RingingOffer step left g = (0, g.0, g.1)
-goes_lem who (AtAvailIndex taken last) step left g = look_goes who taken last step left (subst (λ (t : CallTree). Goes t step left) (poll_is who taken last) g)
-goes_lem who (Arming taken) step left g = (0, g.0, g.1)
-goes_lem who (AtEntry number more) step left g = (g.0, g.1, g.2 ∙ going_on who (is_entry who.sizes (entry_half (entry_of who number) g.0)) (AtLow number more (entry_half (entry_of who number) g.0)) _ refl)
-goes_lem who (AtLow number more entry) step left g = g
-goes_lem who (AtHigh number more entry low) step left g = (g.0, g.1, g.2 ∙ going_on who (is_address who.sizes (address_of low g.0)) (AtLength number more entry (address_of low g.0)) _ refl)
-goes_lem who (AtLength number more entry address) step left g = (g.0, g.1, g.2 ∙ going_on who (is_length who.sizes address g.0) (AtFlags number more entry address g.0) _ refl)
-goes_lem who (AtFlags number more entry address bytes) step left g = (g.0, g.1, g.2 ∙ going_on who (low_half g.0 == 0) (words_place number more entry address bytes [] (words_for bytes)) _ (words_left who number more entry address bytes [] (words_for bytes)))
-goes_lem who (AtWord number more entry address bytes read words) step left g = (g.0, g.1, g.2 ∙ sym (words_left who number more entry address bytes (read ++ g.0 ∷ []) words))
-goes_lem who (GivingId number more entry) step left g = (0, g.0, g.1)
-goes_lem who (GivingLength number more) step left g = (0, g.0, g.1)
-goes_lem who (GivingIndex number more) step left g = (0, g.0, g.1 ∙ sym (items_left who (number + 1) more))
-goes_lem who RingingPoll step left g = (0, g.0, g.1)
+goes_lem : (config : EndConfig) (place : Place) (step : Step) (left : CallTree) → Goes (remaining config place) step left → (value : ℕ) × (step ≡ step_at config place value) × (left ≡ remaining config (next_place config place value))
+goes_lem config Closed step left g = absurd g
+goes_lem config (ReadingOtherState handshake) step left g = (g.0, g.1, g.2 ∙ sym (tick_left config (move_of handshake g.0)))
+goes_lem config (Clearing at more state) step left g = (0, g.0, g.1 ∙ sym (clear_left config (at + 1) more state))
+goes_lem config (WritingState state) step left g = (0, g.0, g.1)
+goes_lem config Refusing step left g = (0, g.0, g.1)
+goes_lem config NotInRun step left g = (0, g.0, g.1)
+goes_lem config (ReadingUsedIndex pending freed) step left g = (g.0, g.1, g.2 ∙ going_on config (nat_le (returned_by freed g.0) (pending.number - freed)) (ids_place config pending freed (returned_by freed g.0)) _ (ids_left config pending freed (returned_by freed g.0)))
+goes_lem config (ReadingUsedId pending freed more) step left g = (g.0, g.1, g.2 ∙ going_on config (g.0 == descriptor_of config freed) (ids_place config pending (freed + 1) more) _ (ids_left config pending (freed + 1) more))
+goes_lem config (WritingFrameWord pending at more) step left g = (0, g.0, g.1 ∙ sym (fill_left config pending (at + 1) more))
+goes_lem config (WritingDescAddressLow pending) step left g = (0, g.0, g.1)
+goes_lem config (WritingDescAddressHigh pending) step left g = (0, g.0, g.1)
+goes_lem config (WritingDescLength pending) step left g = (0, g.0, g.1)
+goes_lem config (WritingDescFlags pending) step left g = (0, g.0, g.1)
+goes_lem config (WritingAvailEntry pending) step left g = (0, g.0, g.1)
+goes_lem config (WritingAvailIndex pending) step left g = (0, g.0, g.1 ∙ sym (tell_left config pending.number))
+goes_lem config (ReadingAvailEvent number) step left g = (g.0, g.1, g.2 ∙ sym (chosen config (wants_doorbell (low_half g.0) number) RingingOffer Closed))
+goes_lem config RingingOffer step left g = (0, g.0, g.1)
+goes_lem config (ReadingAvailIndex taken last) step left g = look_goes config taken last step left (subst (λ (t : CallTree). Goes t step left) (poll_is config taken last) g)
+goes_lem config (WritingAvailEvent taken) step left g = (0, g.0, g.1)
+goes_lem config (ReadingAvailEntry number more) step left g = (g.0, g.1, g.2 ∙ going_on config (is_entry config.sizes (entry_half (avail_entry_of config number) g.0)) (ReadingDescAddressLow number more (entry_half (avail_entry_of config number) g.0)) _ refl)
+goes_lem config (ReadingDescAddressLow number more entry) step left g = g
+goes_lem config (ReadingDescAddressHigh number more entry low) step left g = (g.0, g.1, g.2 ∙ going_on config (is_address config.sizes (address_of low g.0)) (ReadingDescLength number more entry (address_of low g.0)) _ refl)
+goes_lem config (ReadingDescLength number more entry address) step left g = (g.0, g.1, g.2 ∙ going_on config (is_length config.sizes address g.0) (ReadingDescFlags number more entry address g.0) _ refl)
+goes_lem config (ReadingDescFlags number more entry address bytes) step left g = (g.0, g.1, g.2 ∙ going_on config (low_half g.0 == 0) (words_place number more entry address bytes [] (words_for bytes)) _ (words_left config number more entry address bytes [] (words_for bytes)))
+goes_lem config (ReadingFrameWord number more entry address bytes read words) step left g = (g.0, g.1, g.2 ∙ sym (words_left config number more entry address bytes (read ++ g.0 ∷ []) words))
+goes_lem config (WritingUsedId number more entry) step left g = (0, g.0, g.1)
+goes_lem config (WritingUsedLength number more) step left g = (0, g.0, g.1)
+goes_lem config (WritingUsedIndex number more) step left g = (0, g.0, g.1 ∙ sym (items_left config (number + 1) more))
+goes_lem config RingingPoll step left g = (0, g.0, g.1)
 
-comes_lem : (who : Who) (place : Place) (value : ℕ) → is_open place ≡ true → Goes (remaining who place) (step_at who place value) (remaining who (next_place who place value))
-comes_lem who Closed value is = let f : false ≡ true = is in cc
-comes_lem who (AtState handshake) value is = (value, refl, tick_left who (move_of handshake value))
-comes_lem who (Clearing at more state) value is = (refl, clear_left who (at + 1) more state)
-comes_lem who (Setting state) value is = (refl, refl)
-comes_lem who Refusing value is = (refl, refl)
-comes_lem who Downed value is = (refl, refl)
-comes_lem who (AtUsedIndex job freed) value is = (value, refl, sym (going_on who (nat_le (returned_by freed value) (job.number - freed)) (ids_place who job freed (returned_by freed value)) _ (ids_left who job freed (returned_by freed value))))
-comes_lem who (AtUsedId job freed more) value is = (value, refl, sym (going_on who (value == descriptor_of who freed) (ids_place who job (freed + 1) more) _ (ids_left who job (freed + 1) more)))
-comes_lem who (Filling job at more) value is = (refl, fill_left who job (at + 1) more)
-comes_lem who (WritingLow job) value is = (refl, refl)
-comes_lem who (WritingHigh job) value is = (refl, refl)
-comes_lem who (WritingLength job) value is = (refl, refl)
-comes_lem who (WritingFlags job) value is = (refl, refl)
-comes_lem who (WritingEntry job) value is = (refl, refl)
-comes_lem who (WritingIndex job) value is = (refl, tell_left who job.number)
-comes_lem who (AtEvent number) value is = (value, refl, chosen who (asks_for (low_half value) number) RingingOffer Closed)
-comes_lem who RingingOffer value is = (refl, refl)
-comes_lem who (AtAvailIndex taken last) value is = subst (λ (t : CallTree). Goes t (step_at who (AtAvailIndex taken last) value) (remaining who (next_place who (AtAvailIndex taken last) value))) (sym (poll_is who taken last)) (look_comes who taken last value)
-comes_lem who (Arming taken) value is = (refl, refl)
-comes_lem who (AtEntry number more) value is = (value, refl, sym (going_on who (is_entry who.sizes (entry_half (entry_of who number) value)) (AtLow number more (entry_half (entry_of who number) value)) _ refl))
-comes_lem who (AtLow number more entry) value is = (value, refl, refl)
-comes_lem who (AtHigh number more entry low) value is = (value, refl, sym (going_on who (is_address who.sizes (address_of low value)) (AtLength number more entry (address_of low value)) _ refl))
-comes_lem who (AtLength number more entry address) value is = (value, refl, sym (going_on who (is_length who.sizes address value) (AtFlags number more entry address value) _ refl))
-comes_lem who (AtFlags number more entry address bytes) value is = (value, refl, sym (going_on who (low_half value == 0) (words_place number more entry address bytes [] (words_for bytes)) _ (words_left who number more entry address bytes [] (words_for bytes))))
-comes_lem who (AtWord number more entry address bytes read words) value is = (value, refl, words_left who number more entry address bytes (read ++ value ∷ []) words)
-comes_lem who (GivingId number more entry) value is = (refl, refl)
-comes_lem who (GivingLength number more) value is = (refl, refl)
-comes_lem who (GivingIndex number more) value is = (refl, items_left who (number + 1) more)
-comes_lem who RingingPoll value is = (refl, refl)
+comes_lem : (config : EndConfig) (place : Place) (value : ℕ) → is_open place ≡ true → Goes (remaining config place) (step_at config place value) (remaining config (next_place config place value))
+comes_lem config Closed value is = let f : false ≡ true = is in cc
+comes_lem config (ReadingOtherState handshake) value is = (value, refl, tick_left config (move_of handshake value))
+comes_lem config (Clearing at more state) value is = (refl, clear_left config (at + 1) more state)
+comes_lem config (WritingState state) value is = (refl, refl)
+comes_lem config Refusing value is = (refl, refl)
+comes_lem config NotInRun value is = (refl, refl)
+comes_lem config (ReadingUsedIndex pending freed) value is = (value, refl, sym (going_on config (nat_le (returned_by freed value) (pending.number - freed)) (ids_place config pending freed (returned_by freed value)) _ (ids_left config pending freed (returned_by freed value))))
+comes_lem config (ReadingUsedId pending freed more) value is = (value, refl, sym (going_on config (value == descriptor_of config freed) (ids_place config pending (freed + 1) more) _ (ids_left config pending (freed + 1) more)))
+comes_lem config (WritingFrameWord pending at more) value is = (refl, fill_left config pending (at + 1) more)
+comes_lem config (WritingDescAddressLow pending) value is = (refl, refl)
+comes_lem config (WritingDescAddressHigh pending) value is = (refl, refl)
+comes_lem config (WritingDescLength pending) value is = (refl, refl)
+comes_lem config (WritingDescFlags pending) value is = (refl, refl)
+comes_lem config (WritingAvailEntry pending) value is = (refl, refl)
+comes_lem config (WritingAvailIndex pending) value is = (refl, tell_left config pending.number)
+comes_lem config (ReadingAvailEvent number) value is = (value, refl, chosen config (wants_doorbell (low_half value) number) RingingOffer Closed)
+comes_lem config RingingOffer value is = (refl, refl)
+comes_lem config (ReadingAvailIndex taken last) value is = subst (λ (t : CallTree). Goes t (step_at config (ReadingAvailIndex taken last) value) (remaining config (next_place config (ReadingAvailIndex taken last) value))) (sym (poll_is config taken last)) (look_comes config taken last value)
+comes_lem config (WritingAvailEvent taken) value is = (refl, refl)
+comes_lem config (ReadingAvailEntry number more) value is = (value, refl, sym (going_on config (is_entry config.sizes (entry_half (avail_entry_of config number) value)) (ReadingDescAddressLow number more (entry_half (avail_entry_of config number) value)) _ refl))
+comes_lem config (ReadingDescAddressLow number more entry) value is = (value, refl, refl)
+comes_lem config (ReadingDescAddressHigh number more entry low) value is = (value, refl, sym (going_on config (is_address config.sizes (address_of low value)) (ReadingDescLength number more entry (address_of low value)) _ refl))
+comes_lem config (ReadingDescLength number more entry address) value is = (value, refl, sym (going_on config (is_length config.sizes address value) (ReadingDescFlags number more entry address value) _ refl))
+comes_lem config (ReadingDescFlags number more entry address bytes) value is = (value, refl, sym (going_on config (low_half value == 0) (words_place number more entry address bytes [] (words_for bytes)) _ (words_left config number more entry address bytes [] (words_for bytes))))
+comes_lem config (ReadingFrameWord number more entry address bytes read words) value is = (value, refl, words_left config number more entry address bytes (read ++ value ∷ []) words)
+comes_lem config (WritingUsedId number more entry) value is = (refl, refl)
+comes_lem config (WritingUsedLength number more) value is = (refl, refl)
+comes_lem config (WritingUsedIndex number more) value is = (refl, items_left config (number + 1) more)
+comes_lem config RingingPoll value is = (refl, refl)
 
-begins_lem : (who : Who) (end : End) (call : Call) → remaining who (first_place who end call) ≡ tree_of who end call
-begins_lem who end Tick = refl
-begins_lem who end Stop = refl
-begins_lem who end (Offer frame) = chosen who (in_run end.handshake.phase) (AtUsedIndex (job_of who end frame) end.freed) Downed
-begins_lem who end Poll = chosen who (in_run end.handshake.phase) (AtAvailIndex (length end.delivered) (is_last who end.found_none)) Downed
+begins_lem : (config : EndConfig) (end : End) (call : Call) → remaining config (first_place config end call) ≡ tree_of config end call
+begins_lem config end Tick = refl
+begins_lem config end Stop = refl
+begins_lem config end (Offer frame) = chosen config (in_run end.handshake.phase) (ReadingUsedIndex (pending_of config end frame) end.freed) NotInRun
+begins_lem config end Poll = chosen config (in_run end.handshake.phase) (ReadingAvailIndex (length end.delivered) (is_last config end.found_none)) NotInRun
 
 pub following : PlacesFollowTrees
 following = record { begins = begins_lem; goes = goes_lem; comes = comes_lem }

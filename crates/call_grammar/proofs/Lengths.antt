@@ -5,9 +5,9 @@ use Rattle.std.proofs.Math.Seq.{get_or-append_seam}
 use Rattle.split_ring.proofs.Frames.{frames_lem}
 use Rattle.call_grammar.specs.Words.{words_for, lengths_of}
 use Rattle.call_grammar.specs.Ends.{End}
-use Rattle.call_grammar.specs.Ticks.{Who}
+use Rattle.call_grammar.specs.Ticks.{EndConfig}
 use Rattle.call_grammar.specs.Offers.{start_at}
-use Rattle.call_grammar.specs.Calls.{job_of}
+use Rattle.call_grammar.specs.Calls.{pending_of}
 use Rattle.call_grammar.specs.Reach.{HasSections}
 
 pub last_length : (frames : List (List ℕ)) (frame : List ℕ) → lengths_of (frames ++ frame ∷ []) (length frames) ≡ length frame
@@ -17,12 +17,12 @@ pub length_before : (frames : List (List ℕ)) (frame : List ℕ) (k : ℕ) → 
 length_before frames frame k low = ap length (get_or-append frames (frame ∷ []) [] k low)
 
 -- the words of an offered frame lie in the section
-pub words_fit : (who : Who) (end : End) (frame : List ℕ) → HasSections who → length frame ≤ who.sizes.mtu + 18 →
-    start_at who (job_of who end frame) + 4 * words_for (length frame) ≤ who.sizes.out
-words_fit who end frame has fits =
-    let job = job_of who end frame in
+pub words_fit : (config : EndConfig) (end : End) (frame : List ℕ) → HasSections config → length frame ≤ config.sizes.mtu + 18 →
+    start_at config (pending_of config end frame) + 4 * words_for (length frame) ≤ config.sizes.out
+words_fit config end frame has fits =
+    let pending = pending_of config end frame in
     let long = last_length end.accepted frame in
-    let placed = frames_lem.placed who.sizes job.lengths job.number has.queue in
+    let placed = frames_lem.placed config.sizes pending.lengths pending.number has.queue in
     let holds = placed.holds (omega arith) in
     let inside = placed.inside (omega arith) in
     omega arith

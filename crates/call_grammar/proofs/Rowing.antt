@@ -2,10 +2,10 @@
 use Rattle.std.proofs.Common.{◌≡◌, ℕ, zero, suc, ◌+◌, ◌-◌, true, false, Bool, List, [], ◌∷◌, ◌++◌, length, refl, sym, subst, inl, inr}
 use Rattle.std.specs.Prelude.{◌==◌, nat_le, if◌then◌else◌}
 use Rattle.split_ring.specs.declared.ranges.FieldName.TheVariants as field_name
-use Rattle.split_ring.specs.Layout.{has_events, size_of, word_place, AvailableIndex, UsedIndex, Id}
+use Rattle.split_ring.specs.Layout.{has_events, size_of, word_offset, AvailIndex, UsedIndex, UsedId}
 use Rattle.split_ring.specs.Spelling.{low_half, high_half, entry_half}
 use Rattle.link_handshake.specs.declared.Phase.{Phase}
-use Rattle.link_handshake.specs.Standing.{move_of}
+use Rattle.link_handshake.specs.HandshakeState.{move_of}
 use Rattle.link_handshake.specs.declared.Move.{Move}
 use Rattle.link_handshake.specs.declared.Move.TheVariants.{Stay, Set, ClearThenSet}
 use Rattle.link_handshake.specs.PhaseTable.{move_on}
@@ -14,11 +14,11 @@ use Rattle.split_ring.specs.declared.steps.Access.TheVariants as access
 use Rattle.call_grammar.specs.Steps.{Mark, Reclaim, Full, Look, Deliver, Done, Over, Step, value_given, step_of}
 use Rattle.call_grammar.specs.Trees.{CallTree, Ended, Does, Reads, Goes}
 use Rattle.call_grammar.specs.Ends.{End}
-use Rattle.call_grammar.specs.Ticks.{Who, clear, set_state, tick_marks, after_tick}
+use Rattle.call_grammar.specs.Ticks.{EndConfig, clear, set_state, tick_marks, after_tick}
 use Rattle.call_grammar.specs.Words.{address_of, words_for, frame_in}
-use Rattle.call_grammar.specs.Offers.{Job, finds_room, entry_of, descriptor_of, refusal, full_marks, ring, asks_for, hear, tell, fill, read_ids, returned_by, reclaim_marks, offer}
-use Rattle.call_grammar.specs.Polls.{is_entry, is_address, is_length, read_words, read_flags, read_length, read_high, read_low, item, items, published_by, is_last, look_marks, look, ask, poll}
-use Rattle.call_grammar.specs.Calls.{Call, Tick, Stop, Offer, Poll, in_run, job_of, down, tree_of}
+use Rattle.call_grammar.specs.Offers.{PendingOffer, frame_fits, avail_entry_of, descriptor_of, refusal, full_marks, ring_doorbell, wants_doorbell, read_avail_event, notify, write_frame_words, read_used_ids, returned_by, reclaim_marks, offer}
+use Rattle.call_grammar.specs.Polls.{is_entry, is_address, is_length, read_words, read_flags, read_length, read_high, read_low, item, items, published_by, is_last, look_marks, read_avail_index, write_avail_event, poll}
+use Rattle.call_grammar.specs.Calls.{Call, Tick, Stop, Offer, Poll, in_run, pending_of, down, tree_of}
 use Rattle.call_grammar.specs.Rows.{MovesTo, phase_with, seen_with, SeesTheOther, RowHolds, KeepsRows, CallsKeepRows}
 
 -- the move of an end is none, or that of the table
@@ -36,125 +36,125 @@ move_moves : (phase : Phase) (value : ℕ) (refused : Bool) → IsMove phase val
 move_moves phase value true = tt
 move_moves phase value false = table_moves phase value (move_on phase value) refl
 
-clear_keeps : (who : Who) (phase : Phase) (seen at more state : ℕ) → MovesTo phase seen state → KeepsRows who phase seen (clear at more (set_state state))
-clear_keeps who phase seen at zero state moves = ((inr moves, tt), tt)
-clear_keeps who phase seen at (suc more) state moves = (tt, clear_keeps who phase seen (at + 1) more state moves)
+clear_keeps : (config : EndConfig) (phase : Phase) (seen at more state : ℕ) → MovesTo phase seen state → KeepsRows config phase seen (clear at more (set_state state))
+clear_keeps config phase seen at zero state moves = ((inr moves, tt), tt)
+clear_keeps config phase seen at (suc more) state moves = (tt, clear_keeps config phase seen (at + 1) more state moves)
 
-tick_keeps : (who : Who) (phase : Phase) (value : ℕ) (move : Move) (seen : ℕ) → IsMove phase value move →
-    RowHolds who phase seen (access.Read who.other) value (tick_marks value move) × KeepsRows who phase (seen_with seen (tick_marks value move)) (after_tick who move)
-tick_keeps who phase value Stay seen is = ((refl, refl, tt), tt)
-tick_keeps who phase value (Set state) seen is = ((refl, refl, tt), ((inr is, tt), tt))
-tick_keeps who phase value (ClearThenSet state) seen is = ((refl, refl, tt), clear_keeps who phase value who.own who.words state is)
+tick_keeps : (config : EndConfig) (phase : Phase) (value : ℕ) (move : Move) (seen : ℕ) → IsMove phase value move →
+    RowHolds config phase seen (access.Read config.other) value (tick_marks value move) × KeepsRows config phase (seen_with seen (tick_marks value move)) (after_tick config move)
+tick_keeps config phase value Stay seen is = ((refl, refl, tt), tt)
+tick_keeps config phase value (Set state) seen is = ((refl, refl, tt), ((inr is, tt), tt))
+tick_keeps config phase value (ClearThenSet state) seen is = ((refl, refl, tt), clear_keeps config phase value config.own config.words state is)
 
 -- a choice of two parts
-either : (who : Who) (phase : Phase) (seen : ℕ) (b : Bool) (t u : CallTree) → KeepsRows who phase seen t → KeepsRows who phase seen u → KeepsRows who phase seen (if b then t else u)
-either who phase seen true t u first second = first
-either who phase seen false t u first second = second
+either : (config : EndConfig) (phase : Phase) (seen : ℕ) (b : Bool) (t u : CallTree) → KeepsRows config phase seen t → KeepsRows config phase seen u → KeepsRows config phase seen (if b then t else u)
+either config phase seen true t u first second = first
+either config phase seen false t u first second = second
 
 -- a choice of marks that see nothing
-blind : (who : Who) (word value : ℕ) (b : Bool) (m n : List Mark) → SeesTheOther who word value m → SeesTheOther who word value n → SeesTheOther who word value (if b then m else n)
-blind who word value true m n first second = first
-blind who word value false m n first second = second
+blind : (config : EndConfig) (word value : ℕ) (b : Bool) (m n : List Mark) → SeesTheOther config word value m → SeesTheOther config word value n → SeesTheOther config word value (if b then m else n)
+blind config word value true m n first second = first
+blind config word value false m n first second = second
 
-back_off : (who : Who) (phase : Phase) (seen : ℕ) → KeepsRows who phase seen (set_state 0)
-back_off who phase seen = ((inl refl, tt), tt)
+back_off : (config : EndConfig) (phase : Phase) (seen : ℕ) → KeepsRows config phase seen (set_state 0)
+back_off config phase seen = ((inl refl, tt), tt)
 
-full_sees : (who : Who) (word value : ℕ) (job : Job) (freed : ℕ) → SeesTheOther who word value (full_marks who job freed)
-full_sees who word value job freed = blind who word value (finds_room who job freed) [] (Full ∷ []) tt tt
+full_sees : (config : EndConfig) (word value : ℕ) (pending : PendingOffer) (freed : ℕ) → SeesTheOther config word value (full_marks config pending freed)
+full_sees config word value pending freed = blind config word value (frame_fits config pending freed) [] (Full ∷ []) tt tt
 
-tell_keeps : (who : Who) (phase : Phase) (seen number : ℕ) → KeepsRows who phase seen (tell who number)
-tell_keeps who phase seen number = either who phase seen (has_events who.sizes) (hear who number) (ring who) (λ value. (
-  blind who _ value (asks_for (low_half value) number) [] (Over ∷ []) tt tt,
-  either who phase _ (asks_for (low_half value) number) (ring who) Ended (tt, tt) tt,
+tell_keeps : (config : EndConfig) (phase : Phase) (seen number : ℕ) → KeepsRows config phase seen (notify config number)
+tell_keeps config phase seen number = either config phase seen (has_events config.sizes) (read_avail_event config number) (ring_doorbell config) (λ value. (
+  blind config _ value (wants_doorbell (low_half value) number) [] (Over ∷ []) tt tt,
+  either config phase _ (wants_doorbell (low_half value) number) (ring_doorbell config) Ended (tt, tt) tt,
 )) (tt, tt)
 
-fill_keeps : (who : Who) (phase : Phase) (seen : ℕ) (job : Job) (at more : ℕ) → KeepsRows who phase seen (fill who job at more)
-fill_keeps who phase seen job at zero = (tt, (tt, (tt, (tt, (tt, (tt, tell_keeps who phase seen job.number))))))
-fill_keeps who phase seen job at (suc more) = (tt, fill_keeps who phase seen job (at + 1) more)
+fill_keeps : (config : EndConfig) (phase : Phase) (seen : ℕ) (pending : PendingOffer) (at more : ℕ) → KeepsRows config phase seen (write_frame_words config pending at more)
+fill_keeps config phase seen pending at zero = (tt, (tt, (tt, (tt, (tt, (tt, tell_keeps config phase seen pending.number))))))
+fill_keeps config phase seen pending at (suc more) = (tt, fill_keeps config phase seen pending (at + 1) more)
 
-ids_keep : (who : Who) (phase : Phase) (job : Job) (freed more seen : ℕ) → KeepsRows who phase seen (read_ids who job freed more)
-ids_keep who phase job freed zero seen = either who phase seen (finds_room who job freed) (fill who job 0 (words_for (length job.frame))) Ended (fill_keeps who phase seen job 0 (words_for (length job.frame))) tt
-ids_keep who phase job freed (suc more) seen = λ value. let word = who.theirs + word_place who.sizes (Id (entry_of who freed)) in (
-  blind who word value (value == descriptor_of who freed) (if more == 0 then full_marks who job (freed + 1) else []) (refusal field_name.UsedId value)
-      (blind who word value (more == 0) (full_marks who job (freed + 1)) [] (full_sees who word value job (freed + 1)) tt) tt,
-  either who phase _ (value == descriptor_of who freed) (read_ids who job (freed + 1) more) (set_state 0) (ids_keep who phase job (freed + 1) more _) (back_off who phase _),
+ids_keep : (config : EndConfig) (phase : Phase) (pending : PendingOffer) (freed more seen : ℕ) → KeepsRows config phase seen (read_used_ids config pending freed more)
+ids_keep config phase pending freed zero seen = either config phase seen (frame_fits config pending freed) (write_frame_words config pending 0 (words_for (length pending.frame))) Ended (fill_keeps config phase seen pending 0 (words_for (length pending.frame))) tt
+ids_keep config phase pending freed (suc more) seen = λ value. let word = config.theirs + word_offset config.sizes (UsedId (avail_entry_of config freed)) in (
+  blind config word value (value == descriptor_of config freed) (if more == 0 then full_marks config pending (freed + 1) else []) (refusal field_name.UsedId value)
+      (blind config word value (more == 0) (full_marks config pending (freed + 1)) [] (full_sees config word value pending (freed + 1)) tt) tt,
+  either config phase _ (value == descriptor_of config freed) (read_used_ids config pending (freed + 1) more) (set_state 0) (ids_keep config phase pending (freed + 1) more _) (back_off config phase _),
 )
 
-offer_keeps : (who : Who) (phase : Phase) (seen : ℕ) (job : Job) (freed : ℕ) → KeepsRows who phase seen (offer who job freed)
-offer_keeps who phase seen job freed = λ value. let word = who.theirs + word_place who.sizes UsedIndex in let d = returned_by freed value in (
-  blind who word value (nat_le d (job.number - freed)) (reclaim_marks who job freed d) (refusal field_name.UsedIndex (high_half value))
-      (blind who word value (d == 0) (Reclaim 0 ∷ full_marks who job freed) (Reclaim d ∷ []) (full_sees who word value job freed) tt) tt,
-  either who phase _ (nat_le d (job.number - freed)) (read_ids who job freed d) (set_state 0) (ids_keep who phase job freed d _) (back_off who phase _),
+offer_keeps : (config : EndConfig) (phase : Phase) (seen : ℕ) (pending : PendingOffer) (freed : ℕ) → KeepsRows config phase seen (offer config pending freed)
+offer_keeps config phase seen pending freed = λ value. let word = config.theirs + word_offset config.sizes UsedIndex in let d = returned_by freed value in (
+  blind config word value (nat_le d (pending.number - freed)) (reclaim_marks config pending freed d) (refusal field_name.UsedIndex (high_half value))
+      (blind config word value (d == 0) (Reclaim 0 ∷ full_marks config pending freed) (Reclaim d ∷ []) (full_sees config word value pending freed) tt) tt,
+  either config phase _ (nat_le d (pending.number - freed)) (read_used_ids config pending freed d) (set_state 0) (ids_keep config phase pending freed d _) (back_off config phase _),
 )
 
-words_keep : (who : Who) (phase : Phase) (number entry address bytes : ℕ) (read : List ℕ) (more : ℕ) (after : CallTree) → ((seen : ℕ) → KeepsRows who phase seen after) → (seen : ℕ) → KeepsRows who phase seen (read_words who number entry address bytes read more after)
-words_keep who phase number entry address bytes read zero after keeps seen = (tt, (tt, (tt, keeps _)))
-words_keep who phase number entry address bytes read (suc more) after keeps seen = λ value. (
-  blind who _ value (more == 0) (Deliver (frame_in bytes (read ++ value ∷ [])) ∷ []) [] tt tt,
-  words_keep who phase number entry address bytes (read ++ value ∷ []) more after keeps _,
+words_keep : (config : EndConfig) (phase : Phase) (number entry address bytes : ℕ) (read : List ℕ) (more : ℕ) (after : CallTree) → ((seen : ℕ) → KeepsRows config phase seen after) → (seen : ℕ) → KeepsRows config phase seen (read_words config number entry address bytes read more after)
+words_keep config phase number entry address bytes read zero after keeps seen = (tt, (tt, (tt, keeps _)))
+words_keep config phase number entry address bytes read (suc more) after keeps seen = λ value. (
+  blind config _ value (more == 0) (Deliver (frame_in bytes (read ++ value ∷ [])) ∷ []) [] tt tt,
+  words_keep config phase number entry address bytes (read ++ value ∷ []) more after keeps _,
 )
 
-flags_keep : (who : Who) (phase : Phase) (seen number entry address bytes : ℕ) (after : CallTree) → ((seen : ℕ) → KeepsRows who phase seen after) → KeepsRows who phase seen (read_flags who number entry address bytes after)
-flags_keep who phase seen number entry address bytes after keeps = λ value. (
-  blind who _ value (low_half value == 0) [] (refusal field_name.DescFlags (low_half value)) tt tt,
-  either who phase _ (low_half value == 0) (read_words who number entry address bytes [] (words_for bytes) after) (set_state 0) (words_keep who phase number entry address bytes [] (words_for bytes) after keeps _) (back_off who phase _),
+flags_keep : (config : EndConfig) (phase : Phase) (seen number entry address bytes : ℕ) (after : CallTree) → ((seen : ℕ) → KeepsRows config phase seen after) → KeepsRows config phase seen (read_flags config number entry address bytes after)
+flags_keep config phase seen number entry address bytes after keeps = λ value. (
+  blind config _ value (low_half value == 0) [] (refusal field_name.DescFlags (low_half value)) tt tt,
+  either config phase _ (low_half value == 0) (read_words config number entry address bytes [] (words_for bytes) after) (set_state 0) (words_keep config phase number entry address bytes [] (words_for bytes) after keeps _) (back_off config phase _),
 )
 
-length_keeps : (who : Who) (phase : Phase) (seen number entry address : ℕ) (after : CallTree) → ((seen : ℕ) → KeepsRows who phase seen after) → KeepsRows who phase seen (read_length who number entry address after)
-length_keeps who phase seen number entry address after keeps = λ value. (
-  blind who _ value (is_length who.sizes address value) [] (refusal field_name.DescLength value) tt tt,
-  either who phase _ (is_length who.sizes address value) (read_flags who number entry address value after) (set_state 0) (flags_keep who phase _ number entry address value after keeps) (back_off who phase _),
+length_keeps : (config : EndConfig) (phase : Phase) (seen number entry address : ℕ) (after : CallTree) → ((seen : ℕ) → KeepsRows config phase seen after) → KeepsRows config phase seen (read_length config number entry address after)
+length_keeps config phase seen number entry address after keeps = λ value. (
+  blind config _ value (is_length config.sizes address value) [] (refusal field_name.DescLength value) tt tt,
+  either config phase _ (is_length config.sizes address value) (read_flags config number entry address value after) (set_state 0) (flags_keep config phase _ number entry address value after keeps) (back_off config phase _),
 )
 
-high_keeps : (who : Who) (phase : Phase) (seen number entry low : ℕ) (after : CallTree) → ((seen : ℕ) → KeepsRows who phase seen after) → KeepsRows who phase seen (read_high who number entry low after)
-high_keeps who phase seen number entry low after keeps = λ value. (
-  blind who _ value (is_address who.sizes (address_of low value)) [] (refusal field_name.DescAddress (address_of low value)) tt tt,
-  either who phase _ (is_address who.sizes (address_of low value)) (read_length who number entry (address_of low value) after) (set_state 0) (length_keeps who phase _ number entry (address_of low value) after keeps) (back_off who phase _),
+high_keeps : (config : EndConfig) (phase : Phase) (seen number entry low : ℕ) (after : CallTree) → ((seen : ℕ) → KeepsRows config phase seen after) → KeepsRows config phase seen (read_high config number entry low after)
+high_keeps config phase seen number entry low after keeps = λ value. (
+  blind config _ value (is_address config.sizes (address_of low value)) [] (refusal field_name.DescAddress (address_of low value)) tt tt,
+  either config phase _ (is_address config.sizes (address_of low value)) (read_length config number entry (address_of low value) after) (set_state 0) (length_keeps config phase _ number entry (address_of low value) after keeps) (back_off config phase _),
 )
 
-item_keeps : (who : Who) (phase : Phase) (seen number : ℕ) (after : CallTree) → ((seen : ℕ) → KeepsRows who phase seen after) → KeepsRows who phase seen (item who number after)
-item_keeps who phase seen number after keeps = λ value. let e = entry_half (entry_of who number) value in (
-  blind who _ value (is_entry who.sizes e) [] (refusal field_name.AvailEntry e) tt tt,
-  either who phase _ (is_entry who.sizes e) (read_low who number e after) (set_state 0) (λ low. (tt, high_keeps who phase _ number e low after keeps)) (back_off who phase _),
+item_keeps : (config : EndConfig) (phase : Phase) (seen number : ℕ) (after : CallTree) → ((seen : ℕ) → KeepsRows config phase seen after) → KeepsRows config phase seen (item config number after)
+item_keeps config phase seen number after keeps = λ value. let e = entry_half (avail_entry_of config number) value in (
+  blind config _ value (is_entry config.sizes e) [] (refusal field_name.AvailEntry e) tt tt,
+  either config phase _ (is_entry config.sizes e) (read_low config number e after) (set_state 0) (λ low. (tt, high_keeps config phase _ number e low after keeps)) (back_off config phase _),
 )
 
-items_keep : (who : Who) (phase : Phase) (seen number more : ℕ) → KeepsRows who phase seen (items who number more)
-items_keep who phase seen number zero = (tt, tt)
-items_keep who phase seen number (suc more) = item_keeps who phase seen number (items who (number + 1) more) (λ s. items_keep who phase s (number + 1) more)
+items_keep : (config : EndConfig) (phase : Phase) (seen number more : ℕ) → KeepsRows config phase seen (items config number more)
+items_keep config phase seen number zero = (tt, tt)
+items_keep config phase seen number (suc more) = item_keeps config phase seen number (items config (number + 1) more) (λ s. items_keep config phase s (number + 1) more)
 
-look_keeps : (who : Who) (phase : Phase) (seen taken : ℕ) (last : Bool) (none : CallTree) → ((seen : ℕ) → KeepsRows who phase seen none) → KeepsRows who phase seen (look who taken last none)
-look_keeps who phase seen taken last none keeps = λ value. let word = who.theirs + word_place who.sizes AvailableIndex in let d = published_by taken value in (
-  blind who word value (nat_le d (size_of who.sizes)) (look_marks last d) (refusal field_name.AvailIndex (high_half value))
-      (blind who word value (d == 0) (if last then Look 0 ∷ Done ∷ [] else Look 0 ∷ []) (Look d ∷ []) (blind who word value last (Look 0 ∷ Done ∷ []) (Look 0 ∷ []) tt tt) tt) tt,
-  either who phase _ (nat_le d (size_of who.sizes)) (if d == 0 then none else items who taken d) (set_state 0) (either who phase _ (d == 0) none (items who taken d) (keeps _) (items_keep who phase _ taken d)) (back_off who phase _),
+look_keeps : (config : EndConfig) (phase : Phase) (seen taken : ℕ) (last : Bool) (none : CallTree) → ((seen : ℕ) → KeepsRows config phase seen none) → KeepsRows config phase seen (read_avail_index config taken last none)
+look_keeps config phase seen taken last none keeps = λ value. let word = config.theirs + word_offset config.sizes AvailIndex in let d = published_by taken value in (
+  blind config word value (nat_le d (size_of config.sizes)) (look_marks last d) (refusal field_name.AvailIndex (high_half value))
+      (blind config word value (d == 0) (if last then Look 0 ∷ Done ∷ [] else Look 0 ∷ []) (Look d ∷ []) (blind config word value last (Look 0 ∷ Done ∷ []) (Look 0 ∷ []) tt tt) tt) tt,
+  either config phase _ (nat_le d (size_of config.sizes)) (if d == 0 then none else items config taken d) (set_state 0) (either config phase _ (d == 0) none (items config taken d) (keeps _) (items_keep config phase _ taken d)) (back_off config phase _),
 )
 
-poll_keeps : (who : Who) (phase : Phase) (seen taken : ℕ) (last : Bool) → KeepsRows who phase seen (poll who taken last)
-poll_keeps who phase seen taken true = look_keeps who phase seen taken true Ended (λ seen. tt)
-poll_keeps who phase seen taken false = look_keeps who phase seen taken false (ask who taken (look who taken true Ended)) (λ seen. (tt, look_keeps who phase seen taken true Ended (λ seen. tt)))
+poll_keeps : (config : EndConfig) (phase : Phase) (seen taken : ℕ) (last : Bool) → KeepsRows config phase seen (poll config taken last)
+poll_keeps config phase seen taken true = look_keeps config phase seen taken true Ended (λ seen. tt)
+poll_keeps config phase seen taken false = look_keeps config phase seen taken false (write_avail_event config taken (read_avail_index config taken true Ended)) (λ seen. (tt, look_keeps config phase seen taken true Ended (λ seen. tt)))
 
-call_keeps : (who : Who) (end : End) (seen : ℕ) (call : Call) → KeepsRows who end.handshake.phase seen (tree_of who end call)
-call_keeps who end seen Tick = λ value. tick_keeps who end.handshake.phase value (move_of end.handshake value) seen (move_moves end.handshake.phase value end.handshake.mark)
-call_keeps who end seen Stop = back_off who end.handshake.phase seen
-call_keeps who end seen (Offer frame) = either who end.handshake.phase seen (in_run end.handshake.phase) (offer who (job_of who end frame) end.freed) down (offer_keeps who end.handshake.phase seen (job_of who end frame) end.freed) (tt, tt)
-call_keeps who end seen Poll = either who end.handshake.phase seen (in_run end.handshake.phase) (poll who (length end.delivered) (is_last who end.found_none)) down (poll_keeps who end.handshake.phase seen (length end.delivered) (is_last who end.found_none)) (tt, tt)
+call_keeps : (config : EndConfig) (end : End) (seen : ℕ) (call : Call) → KeepsRows config end.handshake.phase seen (tree_of config end call)
+call_keeps config end seen Tick = λ value. tick_keeps config end.handshake.phase value (move_of end.handshake value) seen (move_moves end.handshake.phase value end.handshake.mark)
+call_keeps config end seen Stop = back_off config end.handshake.phase seen
+call_keeps config end seen (Offer frame) = either config end.handshake.phase seen (in_run end.handshake.phase) (offer config (pending_of config end frame) end.freed) down (offer_keeps config end.handshake.phase seen (pending_of config end frame) end.freed) (tt, tt)
+call_keeps config end seen Poll = either config end.handshake.phase seen (in_run end.handshake.phase) (poll config (length end.delivered) (is_last config end.found_none)) down (poll_keeps config end.handshake.phase seen (length end.delivered) (is_last config end.found_none)) (tt, tt)
 
 -- the row of a step that gives its own value
-row_of : (who : Who) (phase : Phase) (seen : ℕ) (a : Access) (value : ℕ) (marks : List Mark) → RowHolds who phase seen a 0 marks → RowHolds who phase seen a (value_given a 0) marks
-row_of who phase seen (access.Read word) value marks row = row
-row_of who phase seen (access.Write word written) value marks row = row
-row_of who phase seen (access.State state) value marks row = row
-row_of who phase seen (access.Ring target vector) value marks row = row
-row_of who phase seen access.Nothing value marks row = row
+row_of : (config : EndConfig) (phase : Phase) (seen : ℕ) (a : Access) (value : ℕ) (marks : List Mark) → RowHolds config phase seen a 0 marks → RowHolds config phase seen a (value_given a 0) marks
+row_of config phase seen (access.Read word) value marks row = row
+row_of config phase seen (access.Write word written) value marks row = row
+row_of config phase seen (access.State state) value marks row = row
+row_of config phase seen (access.Ring target vector) value marks row = row
+row_of config phase seen access.Nothing value marks row = row
 
-step_keeps : (who : Who) (phase : Phase) (seen : ℕ) (tree new : CallTree) (step : Step) → KeepsRows who phase seen tree → Goes tree step new →
-    RowHolds who phase seen step.access step.value step.marks × KeepsRows who (phase_with phase step.access) (seen_with seen step.marks) new
-step_keeps who phase seen Ended new step keeps goes = absurd goes
-step_keeps who phase seen (Does access marks rest) new step keeps goes =
-    let P : Step → CallTree → Type 0 = λ s t. RowHolds who phase seen s.access s.value s.marks × KeepsRows who (phase_with phase s.access) (seen_with seen s.marks) t in
-    subst (λ (s : Step). P s new) (sym goes.0) (subst (λ (t : CallTree). P (step_of access 0 marks) t) (sym goes.1) (row_of who phase seen access 0 marks keeps.0, keeps.1))
-step_keeps who phase seen (Reads word marks rest) new step keeps goes =
-    let P : Step → CallTree → Type 0 = λ s t. RowHolds who phase seen s.access s.value s.marks × KeepsRows who (phase_with phase s.access) (seen_with seen s.marks) t in
+step_keeps : (config : EndConfig) (phase : Phase) (seen : ℕ) (tree new : CallTree) (step : Step) → KeepsRows config phase seen tree → Goes tree step new →
+    RowHolds config phase seen step.access step.value step.marks × KeepsRows config (phase_with phase step.access) (seen_with seen step.marks) new
+step_keeps config phase seen Ended new step keeps goes = absurd goes
+step_keeps config phase seen (Does access marks rest) new step keeps goes =
+    let P : Step → CallTree → Type 0 = λ s t. RowHolds config phase seen s.access s.value s.marks × KeepsRows config (phase_with phase s.access) (seen_with seen s.marks) t in
+    subst (λ (s : Step). P s new) (sym goes.0) (subst (λ (t : CallTree). P (step_of access 0 marks) t) (sym goes.1) (row_of config phase seen access 0 marks keeps.0, keeps.1))
+step_keeps config phase seen (Reads word marks rest) new step keeps goes =
+    let P : Step → CallTree → Type 0 = λ s t. RowHolds config phase seen s.access s.value s.marks × KeepsRows config (phase_with phase s.access) (seen_with seen s.marks) t in
     subst (λ (s : Step). P s new) (sym goes.1) (subst (λ (t : CallTree). P (step_of (access.Read word) goes.0 (marks goes.0)) t) (sym goes.2) (keeps goes.0))
 
 pub rowing : CallsKeepRows

@@ -3,15 +3,15 @@ use Rattle.std.specs.Prelude.{ℕ, ◌≡◌, ◌≢◌, ◌+◌, Bool, true, fa
 use Rattle.link_handshake.specs.declared.Phase.{Phase}
 use Rattle.link_handshake.specs.declared.Phase.TheVariants.{Run}
 use Rattle.split_ring.specs.declared.steps.Access.TheVariants.{Nothing}
-use Rattle.split_ring.specs.Layout.{word_place, Entry}
+use Rattle.split_ring.specs.Layout.{word_offset, AvailEntry}
 use Rattle.call_grammar.specs.Steps.{Down, Step, step_of}
 use Rattle.call_grammar.specs.Trees.{CallTree, Ended, Does, Makes}
-use Rattle.link_handshake.specs.Standing.{move_of}
+use Rattle.link_handshake.specs.HandshakeState.{move_of}
 use Rattle.call_grammar.specs.Ends.{End}
-pub use Rattle.call_grammar.specs.Ticks.{Who}
+pub use Rattle.call_grammar.specs.Ticks.{EndConfig}
 use Rattle.call_grammar.specs.Ticks.{tick, set_state, tick_steps, state_step}
 use Rattle.call_grammar.specs.Words.{lengths_of}
-use Rattle.call_grammar.specs.Offers.{Job, entry_of, offer, IsOffer}
+use Rattle.call_grammar.specs.Offers.{PendingOffer, avail_entry_of, offer, IsOffer}
 use Rattle.call_grammar.specs.Polls.{is_last, poll, IsPoll}
 
 -- what an end may be told to do: an Offer is of a frame, by its bytes
@@ -27,12 +27,12 @@ in_run Run = true
 in_run _ = false
 
 -- the job of an offer that this end begins: the frame is the next one of the session
-abbrev pub job_of : Who → End → List ℕ → Job
-job_of who end frame = record {
+abbrev pub pending_of : EndConfig → End → List ℕ → PendingOffer
+pending_of config end frame = record {
   frame = frame;
   number = length end.accepted;
   lengths = lengths_of (end.accepted ++ frame ∷ []);
-  beside = end.written (who.own + word_place who.sizes (Entry (entry_of who (length end.accepted))));
+  neighbour_word = end.written (config.own + word_offset config.sizes (AvailEntry (avail_entry_of config (length end.accepted))));
 }
 
 -- an Offer or a Poll outside RUN is one step without an access
@@ -40,11 +40,11 @@ abbrev pub down : CallTree
 down = Does Nothing (Down ∷ []) Ended
 
 -- a call that this end begins
-abbrev pub tree_of : Who → End → Call → CallTree
-tree_of who end Tick = tick who end
-tree_of who end Stop = set_state 0
-tree_of who end (Offer frame) = if in_run end.handshake.phase then offer who (job_of who end frame) end.freed else down
-tree_of who end Poll = if in_run end.handshake.phase then poll who (length end.delivered) (is_last who end.found_none) else down
+abbrev pub tree_of : EndConfig → End → Call → CallTree
+tree_of config end Tick = tick config end
+tree_of config end Stop = set_state 0
+tree_of config end (Offer frame) = if in_run end.handshake.phase then offer config (pending_of config end frame) end.freed else down
+tree_of config end Poll = if in_run end.handshake.phase then poll config (length end.delivered) (is_last config end.found_none) else down
 
 abbrev pub down_step : Step
 down_step = step_of Nothing 0 (Down ∷ [])
@@ -55,17 +55,17 @@ RunsOrIsDown Run in_run steps = in_run
 RunsOrIsDown _ in_run steps = steps ≡ down_step ∷ []
 
 -- a finished call, that this end began, is one of these lists of steps
-abbrev pub IsCall : Who → End → Call → List Step → Type 0
-IsCall who end Tick steps = (value : ℕ) × (steps ≡ tick_steps who value (move_of end.handshake value))
-IsCall who end Stop steps = steps ≡ state_step 0 ∷ []
-IsCall who end (Offer frame) steps = RunsOrIsDown end.handshake.phase (IsOffer who (job_of who end frame) end.freed steps) steps
-IsCall who end Poll steps = RunsOrIsDown end.handshake.phase (IsPoll who (length end.delivered) (is_last who end.found_none) steps) steps
+abbrev pub IsCall : EndConfig → End → Call → List Step → Type 0
+IsCall config end Tick steps = (value : ℕ) × (steps ≡ tick_steps config value (move_of end.handshake value))
+IsCall config end Stop steps = steps ≡ state_step 0 ∷ []
+IsCall config end (Offer frame) steps = RunsOrIsDown end.handshake.phase (IsOffer config (pending_of config end frame) end.freed steps) steps
+IsCall config end Poll steps = RunsOrIsDown end.handshake.phase (IsPoll config (length end.delivered) (is_last config end.found_none) steps) steps
 
 -- a list of steps runs the tree of a call to its end exactly where it is one of the call's lists
 pub record CallsAreLists : Type 0 where
-  pub listed : (who : Who) (end : End) (call : Call) (steps : List Step) → Makes (tree_of who end call) steps → IsCall who end call steps
-  pub made : (who : Who) (end : End) (call : Call) (steps : List Step) → IsCall who end call steps → Makes (tree_of who end call) steps
+  pub listed : (config : EndConfig) (end : End) (call : Call) (steps : List Step) → Makes (tree_of config end call) steps → IsCall config end call steps
+  pub made : (config : EndConfig) (end : End) (call : Call) (steps : List Step) → IsCall config end call steps → Makes (tree_of config end call) steps
 
 -- every call takes a step
 abbrev pub CallsTakeAStep : Type 0
-CallsTakeAStep = (who : Who) (end : End) (call : Call) → tree_of who end call ≢ Ended
+CallsTakeAStep = (config : EndConfig) (end : End) (call : Call) → tree_of config end call ≢ Ended

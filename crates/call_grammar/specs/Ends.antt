@@ -3,7 +3,7 @@
 use Rattle.std.specs.Prelude.{ℕ, ◌≡◌, ◌≢◌, ◌+◌, ◌==◌, Bool, true, false, if◌then◌else◌, List, [], ◌∷◌, ◌++◌}
 use Rattle.link_handshake.specs.declared.Phase.TheVariants.{Reset}
 use Rattle.link_handshake.specs.PhaseTable.{phase_at}
-use Rattle.link_handshake.specs.Standing.{Standing}
+use Rattle.link_handshake.specs.HandshakeState.{HandshakeState}
 use Rattle.split_ring.specs.declared.steps.Access.{Access}
 use Rattle.split_ring.specs.declared.steps.Access.TheVariants as access
 use Rattle.call_grammar.specs.Steps.{Mark, Reclaim, Accept, Look, Deliver, Return, Refuse, Step}
@@ -12,7 +12,7 @@ use Rattle.call_grammar.specs.Steps.{Mark, Reclaim, Accept, Look, Deliver, Retur
 -- delivered, by their bytes, how many were freed and returned, and whether the last look at the other's available index found no new frame;
 -- and what the end wrote last to each word of the region, or 0
 pub record End : Type 0 where
-  pub handshake : Standing
+  pub handshake : HandshakeState
   pub accepted : List (List ℕ)
   pub freed : ℕ
   pub delivered : List (List ℕ)
@@ -41,29 +41,29 @@ with_state end state = record {
 }
 
 -- what an access changes: a write of a word and a write of State
-abbrev pub stated : End → Access → End
-stated end (access.Write word value) = record end { written = λ w. if w == word then value else end.written w }
-stated end (access.State state) = with_state end state
-stated end _ = end
+abbrev pub with_access : End → Access → End
+with_access end (access.Write word value) = record end { written = λ w. if w == word then value else end.written w }
+with_access end (access.State state) = with_state end state
+with_access end _ = end
 
 -- what a mark counts: frames freed, accepted, delivered and returned; and of a look whether it found none. A refusal marks the end; its phase is set at the State step
 -- after it (profile)
-abbrev pub noted : End → Mark → End
-noted end (Reclaim count) = record end { freed = end.freed + count }
-noted end (Accept frame) = record end { accepted = end.accepted ++ frame ∷ [] }
-noted end (Look count) = record end { found_none = count == 0 }
-noted end (Deliver frame) = record end { delivered = end.delivered ++ frame ∷ [] }
-noted end Return = record end { returned = end.returned + 1 }
-noted end (Refuse refused) = record end { handshake = record (end.handshake) { mark = true } }
-noted end _ = end
+abbrev pub with_mark : End → Mark → End
+with_mark end (Reclaim count) = record end { freed = end.freed + count }
+with_mark end (Accept frame) = record end { accepted = end.accepted ++ frame ∷ [] }
+with_mark end (Look count) = record end { found_none = count == 0 }
+with_mark end (Deliver frame) = record end { delivered = end.delivered ++ frame ∷ [] }
+with_mark end Return = record end { returned = end.returned + 1 }
+with_mark end (Refuse refused) = record end { handshake = record (end.handshake) { mark = true } }
+with_mark end _ = end
 
-abbrev pub noted_all : End → List Mark → End
-noted_all end [] = end
-noted_all end (mark ∷ marks) = noted_all (noted end mark) marks
+abbrev pub with_marks : End → List Mark → End
+with_marks end [] = end
+with_marks end (mark ∷ marks) = with_marks (with_mark end mark) marks
 
 -- the end after this step
 abbrev pub end_after : End → Step → End
-end_after end step = noted_all (stated end step.access) step.marks
+end_after end step = with_marks (with_access end step.access) step.marks
 
 -- the phase changes at a State step alone, and it is then the one that was written
 pub record PhaseFollowsState : Type 0 where

@@ -4,24 +4,24 @@ use Rattle.split_ring.specs.declared.steps.Access.{Access}
 use Rattle.split_ring.specs.declared.steps.Access.TheVariants as access
 use Rattle.split_ring.specs.Spelling.{Spells}
 use Rattle.call_grammar.specs.Steps.{Step}
-use Rattle.call_grammar.specs.Ticks.{Who}
+use Rattle.call_grammar.specs.Ticks.{EndConfig}
 use Rattle.call_grammar.specs.Words.{frame_in}
-use Rattle.call_grammar.specs.Polls.{Item, item_entry, IsGood, item_steps}
+use Rattle.call_grammar.specs.Polls.{Item, item_entry, IsValidItem, item_steps}
 
 -- Below, words gives the value of each word of the other's section, by its number from the start of the section
 
 -- an access that met this value met what those words hold, if it is a read
-abbrev pub Met : Who → (ℕ → ℕ) → Access → ℕ → Type 0
-Met who words (access.Read word) value = value ≡ words (word - who.theirs)
-Met who words _ value = Unit {0}
+abbrev pub MatchesWords : EndConfig → (ℕ → ℕ) → Access → ℕ → Type 0
+MatchesWords config words (access.Read word) value = value ≡ words (word - config.theirs)
+MatchesWords config words _ value = Unit {0}
 
 -- each read of these steps met what the words hold
-abbrev pub AreMet : Who → (ℕ → ℕ) → List Step → Type 0
-AreMet who words [] = Unit {0}
-AreMet who words (step ∷ steps) = Met who words step.access step.value × AreMet who words steps
+abbrev pub AllMatchWords : EndConfig → (ℕ → ℕ) → List Step → Type 0
+AllMatchWords config words [] = Unit {0}
+AllMatchWords config words (step ∷ steps) = MatchesWords config words step.access step.value × AllMatchWords config words steps
 
 -- the frame that the reads of a good item deliver is spelled at its position by every section that holds what they met: the fields and the
 -- bytes of a frame are the same in values that were read, one after the other, as in words that stand together
 abbrev pub ReadItemsAreSpelled : Type 0
-ReadItemsAreSpelled = (who : Who) (number : ℕ) (read : Item) (words : ℕ → ℕ) → IsGood who number read →
-    AreMet who words (item_steps who number read) → Spells who.sizes words number (item_entry who number read) (frame_in read.bytes read.words)
+ReadItemsAreSpelled = (config : EndConfig) (number : ℕ) (read : Item) (words : ℕ → ℕ) → IsValidItem config number read →
+    AllMatchWords config words (item_steps config number read) → Spells config.sizes words number (item_entry config number read) (frame_in read.bytes read.words)

@@ -10,10 +10,10 @@ pub mod Reach
 pub mod Returning
 pub mod Rows
 pub mod Places
-pub mod Plays
+pub mod Replays
 pub mod StepBounds
 pub mod ReadsOnce
 pub mod ItemSpelling
 pub mod Automatic
-pub mod Stretches
+pub mod Bursts
 pub mod Orders

@@ -5,163 +5,163 @@ use Rattle.ivs_base.specs.Numbers.{distance}
 use Rattle.split_ring.specs.declared.ranges.FieldName.{FieldName}
 use Rattle.split_ring.specs.declared.ranges.FieldName.TheVariants as field_name
 use Rattle.split_ring.specs.declared.steps.Access.TheVariants.{Read, Write, Ring}
-use Rattle.split_ring.specs.Layout.{has_events, size_of, limit_of, word_place, Address, Length, Flags, AvailableIndex, Entry, UsedIndex, Id, AvailableEvent}
+use Rattle.split_ring.specs.Layout.{has_events, size_of, limit_of, word_offset, DescAddress, DescLength, DescFlags, AvailIndex, AvailEntry, UsedIndex, UsedId, AvailEvent}
 use Rattle.split_ring.specs.Frames.{start_of, has_room}
 use Rattle.split_ring.specs.Spelling.{low_half, high_half}
 use Rattle.split_ring.specs.Ranges.{IsUsedIndex, IsUsedId, needs_event}
 use Rattle.call_grammar.specs.Steps.{Mark, Reclaim, Full, Accept, Refuse, Over, Step, step_of}
 use Rattle.call_grammar.specs.Trees.{CallTree, Ended, Does, Reads}
-use Rattle.call_grammar.specs.Ticks.{Who, set_state, state_step}
+use Rattle.call_grammar.specs.Ticks.{EndConfig, set_state, state_step}
 use Rattle.call_grammar.specs.Words.{index_word, with_entry, words_for, frame_word}
 
 -- what an offer is to publish: the frame, its number in the session, the lengths of the session's frames up to it, by their numbers, and the word
 -- that holds the frame's entry as the end wrote it last
-pub record Job : Type 0 where
+pub record PendingOffer : Type 0 where
   pub frame : List ℕ
   pub number : ℕ
   pub lengths : ℕ → ℕ
-  pub beside : ℕ
+  pub neighbour_word : ℕ
 
 -- the descriptor of the frame with this number, and the place of its entry in the ring
-abbrev pub descriptor_of : Who → ℕ → ℕ
-descriptor_of who number = number % limit_of who.sizes
+abbrev pub descriptor_of : EndConfig → ℕ → ℕ
+descriptor_of config number = number % limit_of config.sizes
 
-abbrev pub entry_of : Who → ℕ → ℕ
-entry_of who number = number % size_of who.sizes
+abbrev pub avail_entry_of : EndConfig → ℕ → ℕ
+avail_entry_of config number = number % size_of config.sizes
 
 -- a value outside its field's range is marked by the field and the value
 abbrev pub refusal : FieldName → ℕ → List Mark
 refusal field value = Refuse record { field = field; value = value } ∷ []
 
 -- the byte of the section at which the frame starts
-abbrev pub start_at : Who → Job → ℕ
-start_at who job = start_of who.sizes job.lengths job.number
+abbrev pub start_at : EndConfig → PendingOffer → ℕ
+start_at config pending = start_of config.sizes pending.lengths pending.number
 
 -- the frame has room where so many frames were freed
-abbrev pub finds_room : Who → Job → ℕ → Bool
-finds_room who job freed = has_room who.sizes job.lengths freed job.number
+abbrev pub frame_fits : EndConfig → PendingOffer → ℕ → Bool
+frame_fits config pending freed = has_room config.sizes pending.lengths freed pending.number
 
 -- an offer that finds no room is over
-abbrev pub full_marks : Who → Job → ℕ → List Mark
-full_marks who job freed = if finds_room who job freed then [] else Full ∷ []
+abbrev pub full_marks : EndConfig → PendingOffer → ℕ → List Mark
+full_marks config pending freed = if frame_fits config pending freed then [] else Full ∷ []
 
 -- The tree of an offer, from its end on
 
 -- the doorbell of the other peer
-abbrev pub ring : Who → CallTree
-ring who = Does (Ring who.other who.vector) (Over ∷ []) Ended
+abbrev pub ring_doorbell : EndConfig → CallTree
+ring_doorbell config = Does (Ring config.other config.vector) (Over ∷ []) Ended
 
 -- an event asks for a doorbell as the index goes past the frame with this number
-abbrev pub asks_for : (event number : ℕ) → Bool
-asks_for event number = needs_event event ((number + 1) % 65536) (number % 65536)
+abbrev pub wants_doorbell : (event number : ℕ) → Bool
+wants_doorbell event number = needs_event event ((number + 1) % 65536) (number % 65536)
 
 -- the marks of the read of the other's event, in the low half of its word: the offer is over where it doesn't ask
-abbrev pub event_marks : (number value : ℕ) → List Mark
-event_marks number value = if asks_for (low_half value) number then [] else Over ∷ []
+abbrev pub avail_event_marks : (number value : ℕ) → List Mark
+avail_event_marks number value = if wants_doorbell (low_half value) number then [] else Over ∷ []
 
 -- the other's event, and the doorbell where it asks for this frame
-abbrev pub hear : Who → ℕ → CallTree
-hear who number =
-    Reads (who.theirs + word_place who.sizes AvailableEvent)
-    (λ value. event_marks number value)
-    (λ value. if asks_for (low_half value) number then ring who else Ended)
+abbrev pub read_avail_event : EndConfig → ℕ → CallTree
+read_avail_event config number =
+    Reads (config.theirs + word_offset config.sizes AvailEvent)
+    (λ value. avail_event_marks number value)
+    (λ value. if wants_doorbell (low_half value) number then ring_doorbell config else Ended)
 
 -- the doorbell for this frame, in a link with events where the other asks for it
-abbrev pub tell : Who → ℕ → CallTree
-tell who number = if has_events who.sizes then hear who number else ring who
+abbrev pub notify : EndConfig → ℕ → CallTree
+notify config number = if has_events config.sizes then read_avail_event config number else ring_doorbell config
 
 -- the index word, with which the frame is accepted
-abbrev pub publish : Who → Job → CallTree
-publish who job =
-    Does (Write (who.own + word_place who.sizes AvailableIndex) (index_word (job.number + 1))) (Accept job.frame ∷ []) (tell who job.number)
+abbrev pub write_avail_index : EndConfig → PendingOffer → CallTree
+write_avail_index config pending =
+    Does (Write (config.own + word_offset config.sizes AvailIndex) (index_word (pending.number + 1))) (Accept pending.frame ∷ []) (notify config pending.number)
 
 -- the word with the entry, which names the descriptor, and what stands beside it
-abbrev pub entry_written : Who → Job → ℕ
-entry_written who job = with_entry (entry_of who job.number) job.beside (descriptor_of who job.number)
+abbrev pub avail_entry_value : EndConfig → PendingOffer → ℕ
+avail_entry_value config pending = with_entry (avail_entry_of config pending.number) pending.neighbour_word (descriptor_of config pending.number)
 
 -- the entry
-abbrev pub enter : Who → Job → CallTree
-enter who job = Does (Write (who.own + word_place who.sizes (Entry (entry_of who job.number))) (entry_written who job)) [] (publish who job)
+abbrev pub write_avail_entry : EndConfig → PendingOffer → CallTree
+write_avail_entry config pending = Does (Write (config.own + word_offset config.sizes (AvailEntry (avail_entry_of config pending.number))) (avail_entry_value config pending)) [] (write_avail_index config pending)
 
 -- the descriptor's four words: the address, low and high, the length, and no flags
-abbrev pub describe_flags : Who → Job → CallTree
-describe_flags who job = Does (Write (who.own + word_place who.sizes (Flags (descriptor_of who job.number))) 0) [] (enter who job)
+abbrev pub write_desc_flags : EndConfig → PendingOffer → CallTree
+write_desc_flags config pending = Does (Write (config.own + word_offset config.sizes (DescFlags (descriptor_of config pending.number))) 0) [] (write_avail_entry config pending)
 
-abbrev pub describe_length : Who → Job → CallTree
-describe_length who job =
-    Does (Write (who.own + word_place who.sizes (Length (descriptor_of who job.number))) (length job.frame)) [] (describe_flags who job)
+abbrev pub write_desc_length : EndConfig → PendingOffer → CallTree
+write_desc_length config pending =
+    Does (Write (config.own + word_offset config.sizes (DescLength (descriptor_of config pending.number))) (length pending.frame)) [] (write_desc_flags config pending)
 
-abbrev pub describe_high : Who → Job → CallTree
-describe_high who job =
-    Does (Write (who.own + word_place who.sizes (Address (descriptor_of who job.number)) + 1) 0) [] (describe_length who job)
+abbrev pub write_desc_address_high : EndConfig → PendingOffer → CallTree
+write_desc_address_high config pending =
+    Does (Write (config.own + word_offset config.sizes (DescAddress (descriptor_of config pending.number)) + 1) 0) [] (write_desc_length config pending)
 
-abbrev pub describe : Who → Job → CallTree
-describe who job =
-    Does (Write (who.own + word_place who.sizes (Address (descriptor_of who job.number))) (start_at who job))
-    [] (describe_high who job)
+abbrev pub write_desc_address_low : EndConfig → PendingOffer → CallTree
+write_desc_address_low config pending =
+    Does (Write (config.own + word_offset config.sizes (DescAddress (descriptor_of config pending.number))) (start_at config pending))
+    [] (write_desc_address_high config pending)
 
 -- so many words of the frame from this one on, each to its place in the data area
-abbrev pub fill : Who → Job → ℕ → ℕ → CallTree
-fill who job at zero = describe who job
-fill who job at (suc more) =
-    Does (Write (who.own + start_at who job / 4 + at) (frame_word job.frame at))
-    [] (fill who job (at + 1) more)
+abbrev pub write_frame_words : EndConfig → PendingOffer → ℕ → ℕ → CallTree
+write_frame_words config pending at zero = write_desc_address_low config pending
+write_frame_words config pending at (suc more) =
+    Does (Write (config.own + start_at config pending / 4 + at) (frame_word pending.frame at))
+    [] (write_frame_words config pending (at + 1) more)
 
 -- the end of the reads: the offer is over where the frame has no room
-abbrev pub after_ids : Who → Job → ℕ → CallTree
-after_ids who job freed = if finds_room who job freed then fill who job 0 (words_for (length job.frame)) else Ended
+abbrev pub after_ids : EndConfig → PendingOffer → ℕ → CallTree
+after_ids config pending freed = if frame_fits config pending freed then write_frame_words config pending 0 (words_for (length pending.frame)) else Ended
 
 -- the marks of the read of an id, with so many more to come
-abbrev pub id_marks : Who → Job → (freed more : ℕ) → ℕ → List Mark
-id_marks who job freed more value =
-    if value == descriptor_of who freed
-    then (if more == 0 then full_marks who job (freed + 1) else [])
+abbrev pub used_id_marks : EndConfig → PendingOffer → (freed more : ℕ) → ℕ → List Mark
+used_id_marks config pending freed more value =
+    if value == descriptor_of config freed
+    then (if more == 0 then full_marks config pending (freed + 1) else [])
     else refusal field_name.UsedId value
 
 -- so many ids of used elements, where so many frames were freed: each is the descriptor of the oldest frame in flight, which is freed then
-abbrev pub read_ids : Who → Job → ℕ → ℕ → CallTree
-read_ids who job freed zero = after_ids who job freed
-read_ids who job freed (suc more) =
-    Reads (who.theirs + word_place who.sizes (Id (entry_of who freed)))
-    (λ value. id_marks who job freed more value)
-    (λ value. if value == descriptor_of who freed then read_ids who job (freed + 1) more else set_state 0)
+abbrev pub read_used_ids : EndConfig → PendingOffer → ℕ → ℕ → CallTree
+read_used_ids config pending freed zero = after_ids config pending freed
+read_used_ids config pending freed (suc more) =
+    Reads (config.theirs + word_offset config.sizes (UsedId (avail_entry_of config freed)))
+    (λ value. used_id_marks config pending freed more value)
+    (λ value. if value == descriptor_of config freed then read_used_ids config pending (freed + 1) more else set_state 0)
 
 -- how many frames a used index returns
 abbrev pub returned_by : ℕ → ℕ → ℕ
 returned_by freed value = distance (freed % 65536) (high_half value)
 
 -- the marks of a used index that is so far from the frames freed
-abbrev pub reclaim_marks : Who → Job → ℕ → ℕ → List Mark
-reclaim_marks who job freed count = if count == 0 then Reclaim 0 ∷ full_marks who job freed else Reclaim count ∷ []
+abbrev pub reclaim_marks : EndConfig → PendingOffer → ℕ → ℕ → List Mark
+reclaim_marks config pending freed count = if count == 0 then Reclaim 0 ∷ full_marks config pending freed else Reclaim count ∷ []
 
 -- the marks of the read of the used index
-abbrev pub used_marks : Who → Job → ℕ → ℕ → List Mark
-used_marks who job freed value =
-    if nat_le (returned_by freed value) (job.number - freed)
-    then reclaim_marks who job freed (returned_by freed value)
+abbrev pub used_index_marks : EndConfig → PendingOffer → ℕ → ℕ → List Mark
+used_index_marks config pending freed value =
+    if nat_le (returned_by freed value) (pending.number - freed)
+    then reclaim_marks config pending freed (returned_by freed value)
     else refusal field_name.UsedIndex (high_half value)
 
 -- an offer of this job, where so many frames were freed
-abbrev pub offer : Who → Job → ℕ → CallTree
-offer who job freed =
-    Reads (who.theirs + word_place who.sizes UsedIndex)
-    (λ value. used_marks who job freed value)
-    (λ value. if nat_le (returned_by freed value) (job.number - freed) then read_ids who job freed (returned_by freed value) else set_state 0)
+abbrev pub offer : EndConfig → PendingOffer → ℕ → CallTree
+offer config pending freed =
+    Reads (config.theirs + word_offset config.sizes UsedIndex)
+    (λ value. used_index_marks config pending freed value)
+    (λ value. if nat_le (returned_by freed value) (pending.number - freed) then read_used_ids config pending freed (returned_by freed value) else set_state 0)
 
 -- The table of finished offers
 
 -- the read of the used index, with its marks
-abbrev pub used_step : Who → ℕ → List Mark → Step
-used_step who value marks = step_of (Read (who.theirs + word_place who.sizes UsedIndex)) value marks
+abbrev pub used_index_step : EndConfig → ℕ → List Mark → Step
+used_index_step config value marks = step_of (Read (config.theirs + word_offset config.sizes UsedIndex)) value marks
 
 -- the read of the id of the element with this number
-abbrev pub id_step : Who → ℕ → ℕ → List Mark → Step
-id_step who number value marks = step_of (Read (who.theirs + word_place who.sizes (Id (entry_of who number)))) value marks
+abbrev pub used_id_step : EndConfig → ℕ → ℕ → List Mark → Step
+used_id_step config number value marks = step_of (Read (config.theirs + word_offset config.sizes (UsedId (avail_entry_of config number)))) value marks
 
 -- so many ids in order from this number on, the last of them with these marks
-abbrev pub id_steps : Who → ℕ → ℕ → List Mark → List Step
-id_steps who freed zero marks = []
-id_steps who freed (suc more) marks = id_step who freed (descriptor_of who freed) (if more == 0 then marks else []) ∷ id_steps who (freed + 1) more marks
+abbrev pub used_id_steps : EndConfig → ℕ → ℕ → List Mark → List Step
+used_id_steps config freed zero marks = []
+used_id_steps config freed (suc more) marks = used_id_step config freed (descriptor_of config freed) (if more == 0 then marks else []) ∷ used_id_steps config (freed + 1) more marks
 
 -- a refusal is marked on its step, and after it stand State 0 and the end
 abbrev pub refused_steps : Step → List Step
@@ -171,77 +171,77 @@ abbrev pub write_step : ℕ → ℕ → List Mark → Step
 write_step word written marks = step_of (Write word written) 0 marks
 
 -- the words of the frame
-abbrev pub fill_steps : Who → Job → ℕ → ℕ → List Step
-fill_steps who job at zero = []
-fill_steps who job at (suc more) =
-    write_step (who.own + start_at who job / 4 + at) (frame_word job.frame at) [] ∷
-    fill_steps who job (at + 1) more
+abbrev pub frame_write_steps : EndConfig → PendingOffer → ℕ → ℕ → List Step
+frame_write_steps config pending at zero = []
+frame_write_steps config pending at (suc more) =
+    write_step (config.own + start_at config pending / 4 + at) (frame_word pending.frame at) [] ∷
+    frame_write_steps config pending (at + 1) more
 
 -- the descriptor, the entry and the index
-abbrev pub publish_steps : Who → Job → List Step
-publish_steps who job =
-    write_step (who.own + word_place who.sizes (Address (descriptor_of who job.number))) (start_at who job) [] ∷
-    write_step (who.own + word_place who.sizes (Address (descriptor_of who job.number)) + 1) 0 [] ∷
-    write_step (who.own + word_place who.sizes (Length (descriptor_of who job.number))) (length job.frame) [] ∷
-    write_step (who.own + word_place who.sizes (Flags (descriptor_of who job.number))) 0 [] ∷
-    write_step (who.own + word_place who.sizes (Entry (entry_of who job.number))) (entry_written who job) [] ∷
-    write_step (who.own + word_place who.sizes AvailableIndex) (index_word (job.number + 1)) (Accept job.frame ∷ []) ∷ []
+abbrev pub publish_steps : EndConfig → PendingOffer → List Step
+publish_steps config pending =
+    write_step (config.own + word_offset config.sizes (DescAddress (descriptor_of config pending.number))) (start_at config pending) [] ∷
+    write_step (config.own + word_offset config.sizes (DescAddress (descriptor_of config pending.number)) + 1) 0 [] ∷
+    write_step (config.own + word_offset config.sizes (DescLength (descriptor_of config pending.number))) (length pending.frame) [] ∷
+    write_step (config.own + word_offset config.sizes (DescFlags (descriptor_of config pending.number))) 0 [] ∷
+    write_step (config.own + word_offset config.sizes (AvailEntry (avail_entry_of config pending.number))) (avail_entry_value config pending) [] ∷
+    write_step (config.own + word_offset config.sizes AvailIndex) (index_word (pending.number + 1)) (Accept pending.frame ∷ []) ∷ []
 
-abbrev pub ring_step : Who → List Mark → Step
-ring_step who marks = step_of (Ring who.other who.vector) 0 marks
+abbrev pub doorbell_step : EndConfig → List Mark → Step
+doorbell_step config marks = step_of (Ring config.other config.vector) 0 marks
 
 -- the read of the word with the other's event
-abbrev pub event_step : Who → (number value : ℕ) → Step
-event_step who number value = step_of (Read (who.theirs + word_place who.sizes AvailableEvent)) value (event_marks number value)
+abbrev pub avail_event_read_step : EndConfig → (number value : ℕ) → Step
+avail_event_read_step config number value = step_of (Read (config.theirs + word_offset config.sizes AvailEvent)) value (avail_event_marks number value)
 
 -- the doorbell for this frame: in a link with events the read of the other's event, which gave this value, and the doorbell where that asks for it
-abbrev pub tell_steps : Who → (number value : ℕ) → List Step
-tell_steps who number value =
-    if has_events who.sizes
-    then event_step who number value ∷ (if asks_for (low_half value) number then ring_step who (Over ∷ []) ∷ [] else [])
-    else ring_step who (Over ∷ []) ∷ []
+abbrev pub notify_steps : EndConfig → (number value : ℕ) → List Step
+notify_steps config number value =
+    if has_events config.sizes
+    then avail_event_read_step config number value ∷ (if wants_doorbell (low_half value) number then doorbell_step config (Over ∷ []) ∷ [] else [])
+    else doorbell_step config (Over ∷ []) ∷ []
 
 -- the reads of an offer that finds so many returned frames: the used index, then their ids in order, with `full` on the last where the
 -- frame has no room then
-abbrev pub reclaim_steps : Who → Job → ℕ → ℕ → List Step
-reclaim_steps who job freed value =
-    used_step who value (reclaim_marks who job freed (returned_by freed value)) ∷
-    id_steps who freed (returned_by freed value) (full_marks who job (freed + returned_by freed value))
+abbrev pub reclaim_steps : EndConfig → PendingOffer → ℕ → ℕ → List Step
+reclaim_steps config pending freed value =
+    used_index_step config value (reclaim_marks config pending freed (returned_by freed value)) ∷
+    used_id_steps config freed (returned_by freed value) (full_marks config pending (freed + returned_by freed value))
 
 -- the used index is out of range
-pub record RefusesUsedIndex (who : Who) (job : Job) (freed : ℕ) (steps : List Step) : Type 0 where
+pub record RefusesUsedIndex (config : EndConfig) (pending : PendingOffer) (freed : ℕ) (steps : List Step) : Type 0 where
   pub value : ℕ
-  pub beyond : ¬ IsUsedIndex (freed % 65536) (high_half value) (job.number - freed)
-  pub steps_are : steps ≡ refused_steps (used_step who value (refusal field_name.UsedIndex (high_half value)))
+  pub beyond : ¬ IsUsedIndex (freed % 65536) (high_half value) (pending.number - freed)
+  pub steps_are : steps ≡ refused_steps (used_index_step config value (refusal field_name.UsedIndex (high_half value)))
 
 -- the ids are in order up to one that isn't the oldest descriptor in flight
-pub record RefusesUsedId (who : Who) (job : Job) (freed : ℕ) (steps : List Step) : Type 0 where
+pub record RefusesUsedId (config : EndConfig) (pending : PendingOffer) (freed : ℕ) (steps : List Step) : Type 0 where
   pub value : ℕ
-  pub within : IsUsedIndex (freed % 65536) (high_half value) (job.number - freed)
+  pub within : IsUsedIndex (freed % 65536) (high_half value) (pending.number - freed)
   pub passed : ℕ
   pub before : passed < returned_by freed value
   pub id : ℕ
-  pub wrong : ¬ IsUsedId (descriptor_of who (freed + passed)) id
-  pub steps_are : steps ≡ used_step who value (reclaim_marks who job freed (returned_by freed value)) ∷
-      (id_steps who freed passed [] ++ refused_steps (id_step who (freed + passed) id (refusal field_name.UsedId id)))
+  pub wrong : ¬ IsUsedId (descriptor_of config (freed + passed)) id
+  pub steps_are : steps ≡ used_index_step config value (reclaim_marks config pending freed (returned_by freed value)) ∷
+      (used_id_steps config freed passed [] ++ refused_steps (used_id_step config (freed + passed) id (refusal field_name.UsedId id)))
 
 -- the frame has no room
-pub record MeetsFull (who : Who) (job : Job) (freed : ℕ) (steps : List Step) : Type 0 where
+pub record FindsFull (config : EndConfig) (pending : PendingOffer) (freed : ℕ) (steps : List Step) : Type 0 where
   pub value : ℕ
-  pub within : IsUsedIndex (freed % 65536) (high_half value) (job.number - freed)
-  pub full : finds_room who job (freed + returned_by freed value) ≡ false
-  pub steps_are : steps ≡ reclaim_steps who job freed value
+  pub within : IsUsedIndex (freed % 65536) (high_half value) (pending.number - freed)
+  pub full : frame_fits config pending (freed + returned_by freed value) ≡ false
+  pub steps_are : steps ≡ reclaim_steps config pending freed value
 
 -- the frame is accepted
-pub record IsAccepted (who : Who) (job : Job) (freed : ℕ) (steps : List Step) : Type 0 where
+pub record IsAccepted (config : EndConfig) (pending : PendingOffer) (freed : ℕ) (steps : List Step) : Type 0 where
   pub value : ℕ
-  pub within : IsUsedIndex (freed % 65536) (high_half value) (job.number - freed)
-  pub room : finds_room who job (freed + returned_by freed value) ≡ true
+  pub within : IsUsedIndex (freed % 65536) (high_half value) (pending.number - freed)
+  pub room : frame_fits config pending (freed + returned_by freed value) ≡ true
   pub event : ℕ
-  pub steps_are : steps ≡ reclaim_steps who job freed value ++
-      (fill_steps who job 0 (words_for (length job.frame)) ++ (publish_steps who job ++ tell_steps who job.number event))
+  pub steps_are : steps ≡ reclaim_steps config pending freed value ++
+      (frame_write_steps config pending 0 (words_for (length pending.frame)) ++ (publish_steps config pending ++ notify_steps config pending.number event))
 
 -- a finished offer is one of these four lists
-abbrev pub IsOffer : Who → Job → ℕ → List Step → Type 0
-IsOffer who job freed steps =
-    RefusesUsedIndex who job freed steps ⊎ (RefusesUsedId who job freed steps ⊎ (MeetsFull who job freed steps ⊎ IsAccepted who job freed steps))
+abbrev pub IsOffer : EndConfig → PendingOffer → ℕ → List Step → Type 0
+IsOffer config pending freed steps =
+    RefusesUsedIndex config pending freed steps ⊎ (RefusesUsedId config pending freed steps ⊎ (FindsFull config pending freed steps ⊎ IsAccepted config pending freed steps))

@@ -3,8 +3,8 @@
 use Rattle.std.specs.Prelude.{ℕ, ◌≡◌, ◌≢◌, ◌⊎◌, Bool, List, [], ◌∷◌, ◌++◌}
 use Rattle.std.specs.List.{AllByRecursion}
 use Rattle.call_grammar.specs.Steps.{Mark, Return, Done, Step}
-use Rattle.call_grammar.specs.Ticks.{Who, state_step}
-use Rattle.call_grammar.specs.Offers.{ring_step}
+use Rattle.call_grammar.specs.Ticks.{EndConfig, state_step}
+use Rattle.call_grammar.specs.Offers.{doorbell_step}
 use Rattle.call_grammar.specs.Polls.{IsPoll}
 
 -- none of the marks of the step gives a frame back
@@ -17,5 +17,5 @@ EndsWith step steps = (before : List Step) × (steps ≡ before ++ step ∷ [])
 
 -- a finished poll gives nothing back, or its last step is the doorbell of the other peer, or it refused the link
 abbrev pub PollsThatReturnRing : Type 0
-PollsThatReturnRing = (who : Who) (taken : ℕ) (last : Bool) (steps : List Step) → IsPoll who taken last steps →
-    AllByRecursion ReturnsNone steps ⊎ (EndsWith (ring_step who (Done ∷ [])) steps ⊎ EndsWith (state_step 0) steps)
+PollsThatReturnRing = (config : EndConfig) (taken : ℕ) (last : Bool) (steps : List Step) → IsPoll config taken last steps →
+    AllByRecursion ReturnsNone steps ⊎ (EndsWith (doorbell_step config (Done ∷ [])) steps ⊎ EndsWith (state_step 0) steps)

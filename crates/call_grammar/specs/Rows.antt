@@ -10,7 +10,7 @@ use Rattle.call_grammar.specs.Steps.{Mark, Saw, Step}
 use Rattle.call_grammar.specs.Trees.{CallTree, Ended, Does, Reads, Goes}
 use Rattle.call_grammar.specs.Ends.{End}
 use Rattle.call_grammar.specs.Ticks.{other_state}
-use Rattle.call_grammar.specs.Calls.{Who, Call, tree_of}
+use Rattle.call_grammar.specs.Calls.{EndConfig, Call, tree_of}
 
 -- from this phase, an end that saw this value moves on to this state
 abbrev pub MovesTo : Phase → ℕ → ℕ → Type 0
@@ -28,10 +28,10 @@ seen_with seen (Saw value ∷ marks) = seen_with value marks
 seen_with seen (_ ∷ marks) = seen_with seen marks
 
 -- what these marks of a read saw is the state word of the other, and the value that was read
-abbrev pub SeesTheOther : Who → ℕ → ℕ → List Mark → Type 0
-SeesTheOther who word value [] = Unit {0}
-SeesTheOther who word value (Saw seen ∷ marks) = (word ≡ other_state who) × (seen ≡ value) × SeesTheOther who word value marks
-SeesTheOther who word value (_ ∷ marks) = SeesTheOther who word value marks
+abbrev pub SeesTheOther : EndConfig → ℕ → ℕ → List Mark → Type 0
+SeesTheOther config word value [] = Unit {0}
+SeesTheOther config word value (Saw seen ∷ marks) = (word ≡ other_state config) × (seen ≡ value) × SeesTheOther config word value marks
+SeesTheOther config word value (_ ∷ marks) = SeesTheOther config word value marks
 
 -- these marks saw nothing
 abbrev pub SeesNothing : List Mark → Type 0
@@ -40,21 +40,21 @@ SeesNothing (Saw seen ∷ marks) = ⊥
 SeesNothing (_ ∷ marks) = SeesNothing marks
 
 -- the row of one step: by its access, the value read and its marks, for an end in this phase that saw this value last
-abbrev pub RowHolds : Who → Phase → ℕ → Access → ℕ → List Mark → Type 0
-RowHolds who phase seen (access.Read word) value marks = SeesTheOther who word value marks
-RowHolds who phase seen (access.State state) value marks = ((state ≡ 0) ⊎ MovesTo phase seen state) × SeesNothing marks
-RowHolds who phase seen _ value marks = SeesNothing marks
+abbrev pub RowHolds : EndConfig → Phase → ℕ → Access → ℕ → List Mark → Type 0
+RowHolds config phase seen (access.Read word) value marks = SeesTheOther config word value marks
+RowHolds config phase seen (access.State state) value marks = ((state ≡ 0) ⊎ MovesTo phase seen state) × SeesNothing marks
+RowHolds config phase seen _ value marks = SeesNothing marks
 
 -- each step of the call has its row, whatever the reads give
-abbrev pub KeepsRows : Who → Phase → ℕ → CallTree → Type 0
-KeepsRows who phase seen Ended = Unit {0}
-KeepsRows who phase seen (Does access marks rest) =
-    RowHolds who phase seen access 0 marks × KeepsRows who (phase_with phase access) (seen_with seen marks) rest
-KeepsRows who phase seen (Reads word marks rest) = (value : ℕ) →
-    RowHolds who phase seen (access.Read word) value (marks value) × KeepsRows who phase (seen_with seen (marks value)) (rest value)
+abbrev pub KeepsRows : EndConfig → Phase → ℕ → CallTree → Type 0
+KeepsRows config phase seen Ended = Unit {0}
+KeepsRows config phase seen (Does access marks rest) =
+    RowHolds config phase seen access 0 marks × KeepsRows config (phase_with phase access) (seen_with seen marks) rest
+KeepsRows config phase seen (Reads word marks rest) = (value : ℕ) →
+    RowHolds config phase seen (access.Read word) value (marks value) × KeepsRows config phase (seen_with seen (marks value)) (rest value)
 
 -- every call keeps the rows, and so does what a step leaves of it; its phase is that of the end
 pub record CallsKeepRows : Type 0 where
-  pub calls : (who : Who) (end : End) (seen : ℕ) (call : Call) → KeepsRows who end.handshake.phase seen (tree_of who end call)
-  pub step : (who : Who) (phase : Phase) (seen : ℕ) (tree new : CallTree) (step : Step) → KeepsRows who phase seen tree → Goes tree step new →
-      RowHolds who phase seen step.access step.value step.marks × KeepsRows who (phase_with phase step.access) (seen_with seen step.marks) new
+  pub calls : (config : EndConfig) (end : End) (seen : ℕ) (call : Call) → KeepsRows config end.handshake.phase seen (tree_of config end call)
+  pub step : (config : EndConfig) (phase : Phase) (seen : ℕ) (tree new : CallTree) (step : Step) → KeepsRows config phase seen tree → Goes tree step new →
+      RowHolds config phase seen step.access step.value step.marks × KeepsRows config (phase_with phase step.access) (seen_with seen step.marks) new

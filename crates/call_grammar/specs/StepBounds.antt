@@ -6,7 +6,7 @@ use Rattle.split_ring.specs.Layout.{has_events, limit_of}
 use Rattle.call_grammar.specs.Steps.{Mark, Deliver, Refuse, Step}
 use Rattle.call_grammar.specs.Ends.{End}
 use Rattle.call_grammar.specs.Words.{words_for}
-use Rattle.call_grammar.specs.Ticks.{Who}
+use Rattle.call_grammar.specs.Ticks.{EndConfig}
 use Rattle.call_grammar.specs.Calls.{Call, Tick, Stop, Offer, Poll, IsCall}
 
 -- a refusal in an item of a poll counts 8, that of an index or an id none
@@ -32,20 +32,20 @@ items_bound (step ∷ steps) = marks_bound step.marks + items_bound steps
 
 -- a Tick has as many steps as a section has words and 2 more; a Stop has 1; an Offer of w words has the limit in flight and w and 8 more,
 -- or 9 in a link with events; a Poll has 2, or 4 in a link with events, and those of its items
-abbrev pub bound_of : Who → Call → List Step → ℕ
-bound_of who Tick steps = who.words + 2
-bound_of who Stop steps = 1
-bound_of who (Offer frame) steps = limit_of who.sizes + words_for (length frame) + (if has_events who.sizes then 9 else 8)
-bound_of who Poll steps = (if has_events who.sizes then 4 else 2) + items_bound steps
+abbrev pub bound_of : EndConfig → Call → List Step → ℕ
+bound_of config Tick steps = config.words + 2
+bound_of config Stop steps = 1
+bound_of config (Offer frame) steps = limit_of config.sizes + words_for (length frame) + (if has_events config.sizes then 9 else 8)
+bound_of config Poll steps = (if has_events config.sizes then 4 else 2) + items_bound steps
 
 -- no more frames are in flight than may be
-abbrev pub HasFewInFlight : Who → End → Type 0
-HasFewInFlight who end = length end.accepted ≤ end.freed + limit_of who.sizes
+abbrev pub HasFewInFlight : EndConfig → End → Type 0
+HasFewInFlight config end = length end.accepted ≤ end.freed + limit_of config.sizes
 
 -- a finished call meets its bound, where no more frames are in flight than may be
 abbrev pub CallsMeetBounds : Type 0
-CallsMeetBounds = (who : Who) (end : End) (call : Call) (steps : List Step) → HasFewInFlight who end → IsCall who end call steps →
-    length steps ≤ bound_of who call steps
+CallsMeetBounds = (config : EndConfig) (end : End) (call : Call) (steps : List Step) → HasFewInFlight config end → IsCall config end call steps →
+    length steps ≤ bound_of config call steps
 
 abbrev pub is_offer : Call → Bool
 is_offer (Offer frame) = true
@@ -53,5 +53,5 @@ is_offer _ = false
 
 -- and a Tick, a Stop and a Poll meet theirs wherever the counts stand
 abbrev pub OtherCallsMeetBounds : Type 0
-OtherCallsMeetBounds = (who : Who) (end : End) (call : Call) (steps : List Step) → is_offer call ≡ false → IsCall who end call steps →
-    length steps ≤ bound_of who call steps
+OtherCallsMeetBounds = (config : EndConfig) (end : End) (call : Call) (steps : List Step) → is_offer call ≡ false → IsCall config end call steps →
+    length steps ≤ bound_of config call steps

@@ -3,7 +3,7 @@
 use Rattle.std.specs.Prelude.{ℕ, zero, suc, ◌+◌, List, [], ◌∷◌, ◌++◌}
 use Rattle.link_handshake.specs.declared.Move.{Move}
 use Rattle.link_handshake.specs.declared.Move.TheVariants.{Stay, Set, ClearThenSet}
-use Rattle.link_handshake.specs.Standing.{move_of}
+use Rattle.link_handshake.specs.HandshakeState.{move_of}
 use Rattle.split_ring.specs.declared.steps.Access.TheVariants.{Read, Write, State}
 use Rattle.split_ring.specs.Layout.{Sizes}
 use Rattle.call_grammar.specs.Steps.{Mark, Saw, Over, Step, step_of}
@@ -12,7 +12,7 @@ use Rattle.call_grammar.specs.Ends.{End}
 
 -- who makes the calls: a peer and its partner, the first words of their sections and the words of each, the sizes of the queue in them,
 -- and the vector of the traffic doorbell
-pub record Who : Type 0 where
+pub record EndConfig : Type 0 where
   pub me : ℕ
   pub other : ℕ
   pub own : ℕ
@@ -37,19 +37,19 @@ tick_marks value Stay = Saw value ∷ Over ∷ []
 tick_marks value (Set state) = Saw value ∷ []
 tick_marks value (ClearThenSet state) = Saw value ∷ []
 
-abbrev pub after_tick : Who → Move → CallTree
-after_tick who Stay = Ended
-after_tick who (Set state) = set_state state
-after_tick who (ClearThenSet state) = clear who.own who.words (set_state state)
+abbrev pub after_tick : EndConfig → Move → CallTree
+after_tick config Stay = Ended
+after_tick config (Set state) = set_state state
+after_tick config (ClearThenSet state) = clear config.own config.words (set_state state)
 
 -- the word with the other's state: the State Table begins at word 0, and has a word for each peer (profile)
-abbrev pub other_state : Who → ℕ
-other_state who = who.other
+abbrev pub other_state : EndConfig → ℕ
+other_state config = config.other
 
 -- a Tick that this end begins
-abbrev pub tick : Who → End → CallTree
-tick who end =
-    Reads (other_state who) (λ value. tick_marks value (move_of end.handshake value)) (λ value. after_tick who (move_of end.handshake value))
+abbrev pub tick : EndConfig → End → CallTree
+tick config end =
+    Reads (other_state config) (λ value. tick_marks value (move_of end.handshake value)) (λ value. after_tick config (move_of end.handshake value))
 
 -- The table
 
@@ -61,11 +61,11 @@ abbrev pub state_step : ℕ → Step
 state_step state = step_of (State state) 0 (Over ∷ [])
 
 -- the read of the other's state
-abbrev pub saw_step : Who → ℕ → List Mark → Step
-saw_step who value marks = step_of (Read (other_state who)) value marks
+abbrev pub saw_step : EndConfig → ℕ → List Mark → Step
+saw_step config value marks = step_of (Read (other_state config)) value marks
 
 -- a Tick that read this value, by the move that it makes: no more; the State step; or 0 to each own word ascending and then the State step
-abbrev pub tick_steps : Who → ℕ → Move → List Step
-tick_steps who value Stay = saw_step who value (Saw value ∷ Over ∷ []) ∷ []
-tick_steps who value (Set state) = saw_step who value (Saw value ∷ []) ∷ state_step state ∷ []
-tick_steps who value (ClearThenSet state) = saw_step who value (Saw value ∷ []) ∷ (clear_steps who.own who.words ++ state_step state ∷ [])
+abbrev pub tick_steps : EndConfig → ℕ → Move → List Step
+tick_steps config value Stay = saw_step config value (Saw value ∷ Over ∷ []) ∷ []
+tick_steps config value (Set state) = saw_step config value (Saw value ∷ []) ∷ state_step state ∷ []
+tick_steps config value (ClearThenSet state) = saw_step config value (Saw value ∷ []) ∷ (clear_steps config.own config.words ++ state_step state ∷ [])

@@ -7,14 +7,14 @@
 //!
 //! - A place carries its own numbers (the frame's, the frames freed, the item's), so what is left of a call needs no other data. The job of
 //!   an offer has the lengths of its session's frames; that they come from the frames accepted and the one offered is said where an end
-//!   begins the call (`job_of`).
+//!   begins the call (`pending_of`).
 //! - `freed` of an end rises by the whole distance at `reclaim`, before the ids are read; a place in the middle of the ids tells how many
 //!   are left.
 //! - An end keeps one bit for its event: whether its last look of the session found nothing. Where it did, the event stands at the next
 //!   frame, since every look that finds nothing and is the last of its poll comes after the event was written there, and a frame that is
 //!   delivered since was found by a later look. It is said of the look, not of the event, so that it can be read off the marks of a
 //!   history, and costs an engine no number. In version 1 nobody asks for it.
-//! - The second look of a poll is a look like any other: the place `AtAvailIndex` says whether it is the last one, and a poll of version 1
+//! - The second look of a poll is a look like any other: the place `ReadingAvailIndex` says whether it is the last one, and a poll of version 1
 //!   is one whose first look is its last. So events add one place to a poll, the write of the own event, and one to an offer, the read of
 //!   the other's.
 //! - The bound of a poll depends on what it reads, so it is told by its marks (`specs/StepBounds`).
@@ -28,7 +28,7 @@ ghost use Rattle.call_grammar.specs.Reach.{CallsStayInReach};
 ghost use Rattle.call_grammar.specs.Returning.{PollsThatReturnRing};
 ghost use Rattle.call_grammar.specs.Rows.{CallsKeepRows};
 ghost use Rattle.call_grammar.specs.Places.{PlacesFollowTrees};
-ghost use Rattle.call_grammar.specs.Plays.{PlayedAreCalls};
+ghost use Rattle.call_grammar.specs.Replays.{ReplaysAreCalls};
 ghost use Rattle.call_grammar.specs.StepBounds.{CallsMeetBounds, OtherCallsMeetBounds};
 ghost use Rattle.call_grammar.specs.ReadsOnce.{FieldsAreReadOnce};
 ghost use Rattle.call_grammar.specs.ItemSpelling.{ReadItemsAreSpelled};
@@ -75,7 +75,7 @@ pub fn places_follow_trees()
 
 /// A list of steps is a call exactly where it is played, step by step, from the call's first place to its end.
 pub fn played_are_calls()
-    ensures { PlayedAreCalls }
+    ensures { ReplaysAreCalls }
 {}
 
 /// A finished call has no more steps than its bound: an Offer where no more frames are in flight than may be, and any other call at all times.

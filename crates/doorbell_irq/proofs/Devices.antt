@@ -9,7 +9,7 @@ use Rattle.doorbell_irq.specs.DeviceRules.{vector_of, resets, write_of, delivery
 use Rattle.doorbell_irq.specs.Registers.{IsPeer, Takes, delivery_at}
 use Rattle.doorbell_irq.specs.declared.trigger.Trigger.{Trigger}
 use Rattle.doorbell_irq.specs.Triggers.{vector_at, delivery_if, delivery_among}
-use Rattle.doorbell_irq.specs.Stands.{Stands}
+use Rattle.doorbell_irq.specs.Refinement.{Refines}
 use Rattle.doorbell_irq.proofs.Lists.{slice_get-same, slice_get-set_same, slice_get-set_other, slice_get-within, nat_cases}
 use Rattle.doorbell_irq.proofs.Same.{delivery_same}
 use Rattle.doorbell_irq.proofs.Steps.{peer_taken, peer_kept, keeps}
@@ -20,11 +20,11 @@ deliveries_same f g zero same = refl
 deliveries_same f g (suc n) same = ap₂ (λ ds d. ds ++ delivery_to n d) (deliveries_same f g n (λ peer less. same peer (omega arith))) (same n (omega arith))
 
 -- The registers of a peer of a device that stands there.
-pub peer_at : (w : Devices) (events : List Event) (device : DeviceView) → IsDeviceView device → Stands w events device → (peer : ℕ) (d : Registers) → peer < device.peers →
+pub peer_at : (w : Devices) (events : List Event) (device : DeviceView) → IsDeviceView device → Refines w events device → (peer : ℕ) (d : Registers) → peer < device.peers →
     IsPeer w events peer (get_or device.registers peer d)
-peer_at w events device sound stands peer d inside =
-    stands.registers peer (get_or device.registers peer d) (omega (arith, stands.peers))
-    (slice_get-get_or device.registers peer d (omega (arith, stands.seats, sound.few)))
+peer_at w events device sound refines peer d inside =
+    refines.registers peer (get_or device.registers peer d) (omega (arith, refines.peers))
+    (slice_get-get_or device.registers peer d (omega (arith, refines.seats, sound.few)))
 
 -- The event leaves the other peers alone, but for what it triggers.
 pub record Spares (w : Devices) (event : Event) (peer : ℕ) : Type 0 where
@@ -32,10 +32,10 @@ pub record Spares (w : Devices) (event : Event) (peer : ℕ) : Type 0 where
   pub connection : (before : Bool) → connected_after event peer before ≡ before
   pub writes : (part : Part) → write_of w.wiring event peer part ≡ None
 
-module _ (w : Devices) (events : List Event) (event : Event) (old : DeviceView) (sound : IsDeviceView old) (stands : Stands w events old) (source : ℕ) (inside : source < old.peers)
+module _ (w : Devices) (events : List Event) (event : Event) (old : DeviceView) (sound : IsDeviceView old) (refines : Refines w events old) (source : ℕ) (inside : source < old.peers)
     (spares : (peer : ℕ) → peer ≢ source → Spares w event peer) where
   entries_few : vector_count w.wiring ≤ 64
-  entries_few = subst (λ wiring. vector_count wiring ≤ 64) stands.wiring sound.entries
+  entries_few = subst (λ wiring. vector_count wiring ≤ 64) refines.wiring sound.entries
 
   -- A peer that isn't triggered stays as it is.
   spared : (peer : ℕ) (r : Registers) → peer ≢ source → vector_of (bytes_after w events) event peer ≡ None → IsPeer w events peer r → IsPeer w (event ∷ events) peer r
@@ -45,19 +45,19 @@ module _ (w : Devices) (events : List Event) (event : Event) (old : DeviceView) 
 
   -- An event that triggers nobody: the source's registers alone go on.
   pub moved : (new : DeviceView) (own : Registers) → new.peers ≡ old.peers → new.wiring ≡ old.wiring → new.registers ≡ set old.registers source own →
-      ((peer : ℕ) → vector_of (bytes_after w events) event peer ≡ None) → IsPeer w (event ∷ events) source own → Stands w (event ∷ events) new
+      ((peer : ℕ) → vector_of (bytes_after w events) event peer ≡ None) → IsPeer w (event ∷ events) source own → Refines w (event ∷ events) new
   moved new own peers wiring registers quiet is = record {
-    peers = peers ∙ stands.peers;
-    wiring = wiring ∙ stands.wiring;
-    seats = ap length registers ∙ length-set old.registers source own ∙ stands.seats;
+    peers = peers ∙ refines.peers;
+    wiring = wiring ∙ refines.wiring;
+    seats = ap length registers ∙ length-set old.registers source own ∙ refines.seats;
     registers = λ peer r here at. elim (nat_cases peer source) [
       | inl same ↦ (
           let found : own ≡ r = slice_get-same (set old.registers source own) source own r
-          (slice_get-set_same old.registers source own (omega (arith, stands.seats, sound.few)))
+          (slice_get-set_same old.registers source own (omega (arith, refines.seats, sound.few)))
           (ap (slice_get (set old.registers source own)) (sym same) ∙ ap (λ rs. slice_get rs peer) (sym registers) ∙ at) in
           subst (λ p. IsPeer w (event ∷ events) p r) (sym same) (subst (λ x. IsPeer w (event ∷ events) source x) found is)
           )
-      | inr other ↦ spared peer r other (quiet peer) (stands.registers peer r here
+      | inr other ↦ spared peer r other (quiet peer) (refines.registers peer r here
           (sym (slice_get-set_other old.registers source peer own other) ∙ ap (λ rs. slice_get rs peer) (sym registers) ∙ at))
     ];
   }
@@ -72,15 +72,15 @@ module _ (w : Devices) (events : List Event) (event : Event) (old : DeviceView) 
       (triggered : (peer : ℕ) → vector_at trigger peer ≡ vector_of (bytes_after w events) event peer) where
     -- The registers of a peer before it is triggered.
     before_of : (peer : ℕ) → peer < old.peers → (r : Registers) × (slice_get (set old.registers source own) peer ≡ Some r)
-    before_of peer here = slice_get-within (set old.registers source own) peer (omega (arith, length-set old.registers source own, stands.seats, sound.few))
+    before_of peer here = slice_get-within (set old.registers source own) peer (omega (arith, length-set old.registers source own, refines.seats, sound.few))
 
     others_are : (peer : ℕ) (r : Registers) → peer < old.peers → peer ≢ source → slice_get (set old.registers source own) peer ≡ Some r → IsPeer w events peer r
     others_are peer r here other at =
-        stands.registers peer r (omega (arith, stands.peers)) (sym (slice_get-set_other old.registers source peer own other) ∙ at)
+        refines.registers peer r (omega (arith, refines.peers)) (sym (slice_get-set_other old.registers source peer own other) ∙ at)
 
     own_is : (peer : ℕ) (r : Registers) → peer ≡ source → slice_get (set old.registers source own) peer ≡ Some r → own ≡ r
     own_is peer r same at = slice_get-same (set old.registers source own) source own r
-        (slice_get-set_same old.registers source own (omega (arith, stands.seats, sound.few)))
+        (slice_get-set_same old.registers source own (omega (arith, refines.seats, sound.few)))
         (ap (slice_get (set old.registers source own)) (sym same) ∙ at)
 
     -- A peer after the event and its triggers.
@@ -88,7 +88,7 @@ module _ (w : Devices) (events : List Event) (event : Event) (old : DeviceView) 
         Takes old.wiring (vector_at trigger peer) before after → IsPeer w (event ∷ events) peer after
     led_at peer before after here at taken =
         let takes : Takes w.wiring (vector_at trigger peer) before after =
-        subst (λ wiring. Takes wiring (vector_at trigger peer) before after) stands.wiring taken in
+        subst (λ wiring. Takes wiring (vector_at trigger peer) before after) refines.wiring taken in
         elim (nat_cases peer source) [
           | inl same ↦ (
               let found = own_is peer before same at in
@@ -112,13 +112,13 @@ module _ (w : Devices) (events : List Event) (event : Event) (old : DeviceView) 
     pub led : (new : DeviceView) → new.peers ≡ old.peers → new.wiring ≡ old.wiring → length new.registers ≡ length (set old.registers source own) →
         ((peer : ℕ) (before after : Registers) → peer < old.peers → slice_get (set old.registers source own) peer ≡ Some before →
         slice_get new.registers peer ≡ Some after → Takes old.wiring (vector_at trigger peer) before after) →
-        Stands w (event ∷ events) new
+        Refines w (event ∷ events) new
     led new peers wiring seats takes = record {
-      peers = peers ∙ stands.peers;
-      wiring = wiring ∙ stands.wiring;
-      seats = seats ∙ length-set old.registers source own ∙ stands.seats;
+      peers = peers ∙ refines.peers;
+      wiring = wiring ∙ refines.wiring;
+      seats = seats ∙ length-set old.registers source own ∙ refines.seats;
       registers = λ peer r here at.
-          let inside : peer < old.peers = omega (arith, stands.peers) in
+          let inside : peer < old.peers = omega (arith, refines.peers) in
           let before = before_of peer inside in
           led_at peer before.0 r inside before.1 (takes peer before.0 r inside before.1 at);
     }
@@ -131,7 +131,7 @@ module _ (w : Devices) (events : List Event) (event : Event) (old : DeviceView) 
         let by_peer : IsPeer w events peer before.0 → delivery_at old.wiring before.0 (vector_at trigger peer)
         ≡ delivery_of w.wiring (is_connected events) (bytes_after w events) event peer =
         λ is. delivery_same w events peer before.0 is old.wiring sound.entries (vector_at trigger peer)
-        ∙ ap₂ (λ wiring v. delivery_by wiring (is_connected events peer) (bytes_after w events peer) v) stands.wiring (triggered peer) in
+        ∙ ap₂ (λ wiring v. delivery_by wiring (is_connected events peer) (bytes_after w events peer) v) refines.wiring (triggered peer) in
         ap (delivery_if old.wiring (vector_at trigger peer)) before.1 ∙ elim (nat_cases peer source) [
           | inl same ↦ elim goes [
             | inl was ↦ by_peer (subst (λ p. IsPeer w events p before.0) (sym same)
@@ -150,4 +150,4 @@ module _ (w : Devices) (events : List Event) (event : Event) (old : DeviceView) 
         ≡ deliveries_below (delivery_of w.wiring (is_connected events) (bytes_after w events) event) w.shape.peers
     came = deliveries_same (delivery_among old.wiring trigger (set old.registers source own))
         (delivery_of w.wiring (is_connected events) (bytes_after w events) event) old.peers came_at
-        ∙ ap (deliveries_below (delivery_of w.wiring (is_connected events) (bytes_after w events) event)) stands.peers
+        ∙ ap (deliveries_below (delivery_of w.wiring (is_connected events) (bytes_after w events) event)) refines.peers

@@ -3,5 +3,5 @@ pub mod DeviceRules
 pub mod Registers
 pub mod Triggers
 pub mod DeviceView
-pub mod Stands
+pub mod Refinement
 pub mod Routes

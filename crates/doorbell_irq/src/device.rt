@@ -5,7 +5,7 @@ ghost use Rattle.pci_space.specs.Fields.{is_access};
 ghost use Rattle.pci_space.specs.Wiring.{IsWiring};
 ghost use Rattle.doorbell_irq.specs.Events.{Devices, Event, ConfigWritten, RegisterWritten, MsixWritten, WasReset, WasDisconnected, WasConnected, Config, vector_count};
 ghost use Rattle.doorbell_irq.specs.DeviceRules.{bytes_after, effect_of, reset_event, register_at, msix_at};
-ghost use Rattle.doorbell_irq.specs.Stands.{Stands, peer_count};
+ghost use Rattle.doorbell_irq.specs.Refinement.{Refines, peer_count};
 ghost use Rattle.doorbell_irq.specs.Routes.{IsRoute};
 
 use crate::doorbell::REGISTER_STATE;
@@ -43,7 +43,7 @@ impl Device {
     pub fn new(geometry: &Geometry, wiring: Wiring) -> Device
         requires few { geometry.now.peers ≤ 8 }
         requires wired { IsWiring wiring }
-        ensures { Stands (record { shape = geometry.now; wiring = wiring }) [] result }
+        ensures { Refines (record { shape = geometry.now; wiring = wiring }) [] result }
     {
         let mut registers = [Registers::new(geometry, wiring, 0); 8];
         for peer in 1..8 {
@@ -62,7 +62,7 @@ impl Device {
     pub fn config_read(&self, peer: u32, offset: u16, width: u16) -> Result<u32, BadAccess>
         requires { peer < peer_count self.now }
         ensures allowed { IsOk result ↔ IsTrue (is_access 256 offset width) }
-        ensures value { (w : Devices) (events : List Event) → Stands w events self.now →
+        ensures value { (w : Devices) (events : List Event) → Refines w events self.now →
             IfOk result (λ v. v ≡ number_from (bytes_after w events peer Config) offset width) }
         ensures refused { IfErr result (λ e. e ≡ record { offset = offset; width = width }) }
     {
@@ -79,8 +79,8 @@ impl Device {
     ) -> Result<(), BadAccess>
         requires { peer < peer_count self.old }
         ensures allowed { IsOk result ↔ IsTrue (is_access 256 offset width) }
-        ensures written { (w : Devices) (events : List Event) → Stands w events self.old →
-            OnOk result (Stands w (ConfigWritten peer offset width value ∷ events) self.new) }
+        ensures written { (w : Devices) (events : List Event) → Refines w events self.old →
+            OnOk result (Refines w (ConfigWritten peer offset width value ∷ events) self.new) }
         ensures refused { IfErr result (λ e. (e ≡ record { offset = offset; width = width }) × (self.new ≡ self.old)) }
         ensures peers { peer_count self.new ≡ peer_count self.old }
     {
@@ -90,7 +90,7 @@ impl Device {
     /// Reads a register of a peer: an aligned 32-bit word of its register page, and 0 at every other offset.
     pub fn register_read(&self, peer: u32, offset: u32) -> u32
         requires { peer < peer_count self.now }
-        ensures { (w : Devices) (events : List Event) → Stands w events self.now → result ≡ register_at (bytes_after w events peer) offset }
+        ensures { (w : Devices) (events : List Event) → Refines w events self.now → result ≡ register_at (bytes_after w events peer) offset }
     {
         self.registers[peer as usize].read_register(offset)
     }
@@ -99,8 +99,8 @@ impl Device {
     /// other offset ignores it.
     pub fn register_write(&mut self, peer: u32, offset: u32, value: u32) -> Effect
         requires { peer < peer_count self.old }
-        ensures effect { (w : Devices) (events : List Event) → Stands w events self.old → result ≡ effect_of w events (RegisterWritten peer offset value) }
-        ensures stands { (w : Devices) (events : List Event) → Stands w events self.old → Stands w (RegisterWritten peer offset value ∷ events) self.new }
+        ensures effect { (w : Devices) (events : List Event) → Refines w events self.old → result ≡ effect_of w events (RegisterWritten peer offset value) }
+        ensures refines { (w : Devices) (events : List Event) → Refines w events self.old → Refines w (RegisterWritten peer offset value ∷ events) self.new }
         ensures peers { peer_count self.new ≡ peer_count self.old }
     {
         let trigger = self.registers[peer as usize].write_register(peer, offset, value);
@@ -113,7 +113,7 @@ impl Device {
     /// How a doorbell reaches a peer as its registers stand.
     pub fn route(&self, peer: u32) -> Route
         requires { peer < peer_count self.now }
-        ensures { (w : Devices) (events : List Event) → Stands w events self.now → IsRoute w events peer result }
+        ensures { (w : Devices) (events : List Event) → Refines w events self.now → IsRoute w events peer result }
     {
         self.registers[peer as usize].route(self.wiring)
     }
@@ -121,7 +121,7 @@ impl Device {
     /// Reads the MSI-X region of a peer: an aligned 32-bit word of an entry of its table, and 0 at every other offset.
     pub fn msix_read(&self, peer: u32, offset: u32) -> u32
         requires { peer < peer_count self.now }
-        ensures { (w : Devices) (events : List Event) → Stands w events self.now → result ≡ msix_at w.wiring (bytes_after w events peer) offset }
+        ensures { (w : Devices) (events : List Event) → Refines w events self.now → result ≡ msix_at w.wiring (bytes_after w events peer) offset }
     {
         self.registers[peer as usize].read_entry(self.wiring, offset)
     }
@@ -129,7 +129,7 @@ impl Device {
     /// Writes the MSI-X region of a peer. Every offset but an aligned word of an entry ignores it.
     pub fn msix_write(&mut self, peer: u32, offset: u32, value: u32)
         requires { peer < peer_count self.old }
-        ensures stands { (w : Devices) (events : List Event) → Stands w events self.old → Stands w (MsixWritten peer offset value ∷ events) self.new }
+        ensures refines { (w : Devices) (events : List Event) → Refines w events self.old → Refines w (MsixWritten peer offset value ∷ events) self.new }
         ensures peers { peer_count self.new ≡ peer_count self.old }
     {
         self.registers[peer as usize].write_entry(self.wiring, offset, value);
@@ -138,8 +138,8 @@ impl Device {
     /// Gives all registers of a peer their reset values. Its State is 0 then, and the others are triggered where it was another.
     pub fn reset(&mut self, peer: u32) -> Effect
         requires { peer < peer_count self.old }
-        ensures effect { (w : Devices) (events : List Event) → Stands w events self.old → result ≡ effect_of w events (WasReset peer) }
-        ensures stands { (w : Devices) (events : List Event) → Stands w events self.old → Stands w (WasReset peer ∷ events) self.new }
+        ensures effect { (w : Devices) (events : List Event) → Refines w events self.old → result ≡ effect_of w events (WasReset peer) }
+        ensures refines { (w : Devices) (events : List Event) → Refines w events self.old → Refines w (WasReset peer ∷ events) self.new }
         ensures peers { peer_count self.new ≡ peer_count self.old }
     {
         self.reset_by(peer, false)
@@ -148,8 +148,8 @@ impl Device {
     /// Resets a peer and disconnects it: nothing is delivered to it until it is connected again.
     pub fn disconnect(&mut self, peer: u32) -> Effect
         requires { peer < peer_count self.old }
-        ensures effect { (w : Devices) (events : List Event) → Stands w events self.old → result ≡ effect_of w events (WasDisconnected peer) }
-        ensures stands { (w : Devices) (events : List Event) → Stands w events self.old → Stands w (WasDisconnected peer ∷ events) self.new }
+        ensures effect { (w : Devices) (events : List Event) → Refines w events self.old → result ≡ effect_of w events (WasDisconnected peer) }
+        ensures refines { (w : Devices) (events : List Event) → Refines w events self.old → Refines w (WasDisconnected peer ∷ events) self.new }
         ensures peers { peer_count self.new ≡ peer_count self.old }
     {
         self.reset_by(peer, true)
@@ -158,8 +158,8 @@ impl Device {
     /// Resets a peer, which may disconnect it.
     fn reset_by(&mut self, peer: u32, disconnects: bool) -> Effect
         requires { peer < peer_count self.old }
-        ensures effect { (w : Devices) (events : List Event) → Stands w events self.old → result ≡ effect_of w events (reset_event disconnects peer) }
-        ensures stands { (w : Devices) (events : List Event) → Stands w events self.old → Stands w (reset_event disconnects peer ∷ events) self.new }
+        ensures effect { (w : Devices) (events : List Event) → Refines w events self.old → result ≡ effect_of w events (reset_event disconnects peer) }
+        ensures refines { (w : Devices) (events : List Event) → Refines w events self.old → Refines w (reset_event disconnects peer ∷ events) self.new }
         ensures peers { peer_count self.new ≡ peer_count self.old }
     {
         let trigger = self.registers[peer as usize].reset(peer, disconnects);
@@ -172,7 +172,7 @@ impl Device {
     /// Connects a peer again, at reset. Nobody is triggered: a peer that was disconnected has State 0 already.
     pub fn connect(&mut self, peer: u32)
         requires { peer < peer_count self.old }
-        ensures stands { (w : Devices) (events : List Event) → Stands w events self.old → Stands w (WasConnected peer ∷ events) self.new }
+        ensures refines { (w : Devices) (events : List Event) → Refines w events self.old → Refines w (WasConnected peer ∷ events) self.new }
         ensures peers { peer_count self.new ≡ peer_count self.old }
     {
         self.registers[peer as usize].connect();

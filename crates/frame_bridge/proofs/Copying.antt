@@ -7,16 +7,16 @@ use Rattle.std.proofs.lemmas.Option.{slice_get_within}
 use Rattle.std.proofs.lemmas.List.{length-set, map-append}
 use Rattle.std.proofs.lemmas.List.Folds.{list_any-append}
 use Rattle.std.proofs.lemmas.List.Elements.{filter-append}
-use Rattle.line_text.specs.Rows.{line_of_row, text_of}
+use Rattle.line_format.specs.Rows.{line_of_row, text_of}
 use Rattle.link_endpoint.specs.Engine.{delivered}
 use Rattle.frame_bridge.specs.declared.ports.Port.{Port}
 use Rattle.frame_bridge.specs.declared.run.Run.{Run}
 use Rattle.frame_bridge.specs.Forwarding.{Arrival, first_ports, is_forwarded, ports_for, forward}
-use Rattle.frame_bridge.specs.Standing.{StandsAfter, arrival}
+use Rattle.frame_bridge.specs.BridgeView.{RefinesArrivals, arrival}
 use Rattle.frame_bridge.specs.Links.{Link, with_copies}
 use Rattle.frame_bridge.specs.Run.{World}
 use Rattle.frame_bridge.specs.Output.{pieces_of, arrive_row}
-use Rattle.frame_bridge.specs.Held.{PortStands, RunStands, most_counted, with_copy, with_arrival}
+use Rattle.frame_bridge.specs.Refinement.{PortRefines, RunRefines, most_counted, with_copy, with_arrival}
 use Rattle.frame_bridge.proofs.Worlds.{forward_append}
 use Rattle.frame_bridge.proofs.PortTurns.{text_more, count_more}
 use Rattle.frame_bridge.proofs.There.{get_here, get_other, no_copies}
@@ -142,32 +142,32 @@ among_ports p (suc n) k below = among_at p n k (k == n) refl below (λ lt. among
 
 -- All copies
 
-copy_stands : (link : Link) (forwarded : List (List ℕ)) (frame : List ℕ) (port : Port) → PortStands link forwarded port →
-    PortStands (with_copies (frame ∷ []) link) (forwarded ++ frame ∷ []) (with_copy frame port)
-copy_stands link forwarded frame port stands = record {
-  region = stands.region;
-  station = stands.station;
+copy_stands : (link : Link) (forwarded : List (List ℕ)) (frame : List ℕ) (port : Port) → PortRefines link forwarded port →
+    PortRefines (with_copies (frame ∷ []) link) (forwarded ++ frame ∷ []) (with_copy frame port)
+copy_stands link forwarded frame port refines = record {
+  region = refines.region;
+  station = refines.station;
   own = record {
-    end = stands.own.end;
+    end = refines.own.end;
     plan = record {
-      frames = ap (λ (l : List (List ℕ)). l ++ frame ∷ []) stands.own.plan.frames;
-      expected_is = stands.own.plan.expected_is;
-      delivered = stands.own.plan.delivered;
-      round = stands.own.plan.round;
+      frames = ap (λ (l : List (List ℕ)). l ++ frame ∷ []) refines.own.plan.frames;
+      expected_is = refines.own.plan.expected_is;
+      delivered = refines.own.plan.delivered;
+      round = refines.own.plan.round;
     };
   };
-  outs = stands.outs;
-  delivered = stands.delivered;
+  outs = refines.outs;
+  delivered = refines.delivered;
   forwarded_is =
       let one : length (forwarded ++ frame ∷ []) ≡ length forwarded + 1 = length-append forwarded (frame ∷ []) in
-      count_more (length forwarded) port.forwarded (min (port.forwarded + 1) most_counted) stands.forwarded_is refl ∙ ap (λ (n : ℕ). min n most_counted) (sym one);
+      count_more (length forwarded) port.forwarded (min (port.forwarded + 1) most_counted) refines.forwarded_is refl ∙ ap (λ (n : ℕ). min n most_counted) (sym one);
 }
 
-copied_stands_if : (link : Link) (forwarded : List (List ℕ)) (frame : List ℕ) (port : Port) (b : Bool) → PortStands link forwarded port →
-    PortStands (with_copies ((if b then frame ∷ [] else []) ++ []) link) (forwarded ++ ((if b then frame ∷ [] else []) ++ [])) (copied_if b frame port)
-copied_stands_if link forwarded frame port true stands = copy_stands link forwarded frame port stands
-copied_stands_if link forwarded frame port false stands =
-    subst (λ (l : List (List ℕ)). PortStands (with_copies [] link) l port) (sym (append-nil forwarded)) (no_copies link forwarded port stands)
+copied_stands_if : (link : Link) (forwarded : List (List ℕ)) (frame : List ℕ) (port : Port) (b : Bool) → PortRefines link forwarded port →
+    PortRefines (with_copies ((if b then frame ∷ [] else []) ++ []) link) (forwarded ++ ((if b then frame ∷ [] else []) ++ [])) (copied_if b frame port)
+copied_stands_if link forwarded frame port true refines = copy_stands link forwarded frame port refines
+copied_stands_if link forwarded frame port false refines =
+    subst (λ (l : List (List ℕ)). PortRefines (with_copies [] link) l port) (sym (append-nil forwarded)) (no_copies link forwarded port refines)
 
 get_some : {A : Type 0} (xs : List A) (k : ℕ) → k < length xs → (x : A) × (slice_get xs k ≡ Some x)
 get_some [] k below = absurd (omega arith)
@@ -176,15 +176,15 @@ get_some (x ∷ xs) (suc k) below = get_some xs k (omega arith)
 
 -- what a frame that arrived made of the run
 pub record Arrived (ports : ℕ) (w : World) (old new : Run) (from : ℕ) (frame to : List ℕ) : Type 0 where
-  pub stands : RunStands ports w old
-  pub bridge : StandsAfter new.bridge (w.arrivals ++ arrival from frame ∷ [])
+  pub refines : RunRefines ports w old
+  pub bridge : RefinesArrivals new.bridge (w.arrivals ++ arrival from frame ∷ [])
   pub same : new.bridge.ports ≡ old.bridge.ports
   pub goes : to ≡ ports_for old.bridge.ports w.arrivals (arrival from frame)
   pub text : new.text.items ≡ old.text.items ++ line_of_row pieces_of (arrive_row (arrival from frame))
   pub copied : Copied old.ports.items new.ports.items to frame (length old.ports.items)
 
 each_arrived : (ports : ℕ) (w : World) (old new : Run) (from : ℕ) (frame to : List ℕ) → Arrived ports w old new from frame to → (k : ℕ) (port : Port) →
-    slice_get new.ports.items k ≡ Some port → PortStands ((with_arrival w from frame).links k) (forward (with_arrival w from frame).arrivals k) port
+    slice_get new.ports.items k ≡ Some port → PortRefines ((with_arrival w from frame).links k) (forward (with_arrival w from frame).arrivals k) port
 each_arrived ports w old new from frame to arrived k port here =
     let last : Arrival = arrival from frame in
     let arrivals : List Arrival = w.arrivals ++ last ∷ [] in
@@ -192,25 +192,25 @@ each_arrived ports w old new from frame to arrived k port here =
     let long : length new.ports.items ≡ length old.ports.items = arrived.copied.long in
     let within : k < length old.ports.items = omega arith in
     let was = get_some old.ports.items k within in
-    let below : k < ports = omega (arith, within, arrived.stands.long) in
+    let below : k < ports = omega (arith, within, arrived.refines.long) in
     let among : is_among to k ≡ is_forwarded arrivals last k =
-    ap (λ (l : List ℕ). is_among l k) (arrived.goes ∙ ap (λ (n : ℕ). ports_for n w.arrivals last) arrived.stands.count) ∙ among_ports (is_forwarded arrivals last) ports k below in
+    ap (λ (l : List ℕ). is_among l k) (arrived.goes ∙ ap (λ (n : ℕ). ports_for n w.arrivals last) arrived.refines.count) ∙ among_ports (is_forwarded arrivals last) ports k below in
     let yes : nat_lt k (length old.ports.items) ≡ true = lt-ltb k (length old.ports.items) within in
     let port_is : port ≡ copied_if (is_forwarded arrivals last k) frame was.0 =
     same_some port (copied_if (is_forwarded arrivals last k) frame was.0) (sym here ∙ (arrived.copied.each k was.0 was.1 ∙
     (ap (λ (b : Bool). Some (copied_if (b && is_among to k) frame was.0)) yes ∙ ap (λ (b : Bool). Some (copied_if b frame was.0)) among))) in
-    let stands = copied_stands_if (w.links k) (forward w.arrivals k) frame was.0 (is_forwarded arrivals last k) (arrived.stands.each k was.0 was.1) in
-    subst (λ (p : Port). PortStands ((with_arrival w from frame).links k) (forward arrivals k) p) (sym port_is)
-    (subst (λ (l : List (List ℕ)). PortStands ((with_arrival w from frame).links k) l (copied_if (is_forwarded arrivals last k) frame was.0))
-    (sym (forward_append w.arrivals (last ∷ []) k)) stands)
+    let refines = copied_stands_if (w.links k) (forward w.arrivals k) frame was.0 (is_forwarded arrivals last k) (arrived.refines.each k was.0 was.1) in
+    subst (λ (p : Port). PortRefines ((with_arrival w from frame).links k) (forward arrivals k) p) (sym port_is)
+    (subst (λ (l : List (List ℕ)). PortRefines ((with_arrival w from frame).links k) l (copied_if (is_forwarded arrivals last k) frame was.0))
+    (sym (forward_append w.arrivals (last ∷ []) k)) refines)
 
-pub arrived_run : (ports : ℕ) (w : World) (old new : Run) (from : ℕ) (frame to : List ℕ) → Arrived ports w old new from frame to → RunStands ports (with_arrival w from frame) new
+pub arrived_run : (ports : ℕ) (w : World) (old new : Run) (from : ℕ) (frame to : List ℕ) → Arrived ports w old new from frame to → RunRefines ports (with_arrival w from frame) new
 arrived_run ports w old new from frame to arrived = record {
   bridge = arrived.bridge;
-  count = arrived.same ∙ arrived.stands.count;
-  long = arrived.copied.long ∙ arrived.stands.long;
+  count = arrived.same ∙ arrived.refines.count;
+  long = arrived.copied.long ∙ arrived.refines.long;
   each = each_arrived ports w old new from frame to arrived;
-  text = arrived.text ∙ (ap (λ (t : List ℕ). t ++ line_of_row pieces_of (arrive_row (arrival from frame))) arrived.stands.text ∙
+  text = arrived.text ∙ (ap (λ (t : List ℕ). t ++ line_of_row pieces_of (arrive_row (arrival from frame))) arrived.refines.text ∙
       (sym (text_more (map arrive_row w.arrivals) (arrive_row (arrival from frame))) ∙ ap (text_of pieces_of) (sym (map-append arrive_row w.arrivals (arrival from frame ∷ [])))));
 }
 

@@ -11,25 +11,25 @@ use Rattle.link_handshake.specs.declared.Phase.{Phase}
 use Rattle.link_handshake.specs.declared.Phase.TheVariants.{Reset, Init, Ready, Run}
 use Rattle.link_handshake.specs.PhaseTable.{state_of}
 use Rattle.call_grammar.specs.Steps.{Mark}
-use Rattle.call_grammar.specs.Ends.{End, stated}
+use Rattle.call_grammar.specs.Ends.{End, with_access}
 use Rattle.call_grammar.specs.Rows.{MovesTo}
-use Rattle.call_grammar.specs.Calls.{Who, Call, Tick, Stop, Offer, Poll, in_run, job_of}
+use Rattle.call_grammar.specs.Calls.{EndConfig, Call, Tick, Stop, Offer, Poll, in_run, pending_of}
 use Rattle.call_grammar.specs.Polls.{is_last}
-use Rattle.call_grammar.specs.Places.{Place, Closed, Setting, AtUsedIndex, AtAvailIndex, Downed, first_place, access_at, marks_at, is_open}
+use Rattle.call_grammar.specs.Places.{Place, Closed, WritingState, ReadingUsedIndex, ReadingAvailIndex, NotInRun, first_place, access_at, marks_at, is_open}
 use Rattle.call_grammar.specs.Automatic.{Round, Anew, AfterOffer, AfterPoll, Choice, ChoosesTick, ChoosesOffer, ChoosesPoll, IsFinished, choice_of, in_phase}
 use Rattle.link_machine.specs.LinkMachine.{Side}
-use Rattle.ends_pair.specs.Ground.{IsGround, who_of, IsOffered, IsGivenTo}
-use Rattle.ends_pair.specs.Steps.{Stored, Meets, Leaves, OnlyComes, BeginsCall, TakesStep}
-use Rattle.ends_pair.specs.Sides.{CallIs, SideIs, SawFor}
+use Rattle.link_invariant.specs.LinkConfig.{IsLinkConfig, config_of, IsOffered, IsGivenTo}
+use Rattle.link_invariant.specs.Steps.{Stored, ReadsMemory, MemoryAfter, OnlyEndChanges, BeginsCall, TakesStep}
+use Rattle.link_invariant.specs.Sides.{CallIs, SideIs, SawFor}
 use Rattle.pair_sessions.specs.Once.{CalmRuns, begins, steps}
 use Rattle.pair_sessions.proofs.Calm.{deliver_lem}
-use Rattle.frame_bridge.specs.Links.{ground, expected, Party, Link, choice, with_choice, opened, left_after, delivered_by, stepped, value_in, words_after, put_party, step_of_link, turned}
+use Rattle.frame_bridge.specs.Links.{link_config, expected, AutoEnd, Link, choice, with_choice, opened, left_after, delivered_by, stepped, value_in, words_after, with_end, step_of_link, turned}
 use Rattle.frame_bridge.specs.Keeps.{job_frame, HeadIs, ends_in, places_in, Sound}
 use Rattle.frame_bridge.proofs.Steps.{accepted_by, heads_on, counts_on, noted_accepted, noted_delivered, SameLists, stated_lists}
 
 -- The region has a ground
 
-pub is_ground : IsGround ground
+pub is_ground : IsLinkConfig link_config
 unfolding queue_size
 is_ground = record {
   queue = record { known = (omega arith, omega arith); mtu_least = omega arith; mtu_most = omega arith; section = omega arith; fits = refl; one_slot = omega arith };
@@ -39,28 +39,28 @@ is_ground = record {
 
 -- Parties by their numbers
 
-pub put_here : (parties : ℕ → Party) (p : ℕ) (party : Party) → put_party parties p party p ≡ party
+pub put_here : (parties : ℕ → AutoEnd) (p : ℕ) (party : AutoEnd) → with_end parties p party p ≡ party
 put_here parties p party = ap (λ (b : Bool). if b then party else parties p) (eq-eqb p p refl)
 
-pub put_other : (parties : ℕ → Party) (p : ℕ) (party : Party) (q : ℕ) → q ≢ p → put_party parties p party q ≡ parties q
+pub put_other : (parties : ℕ → AutoEnd) (p : ℕ) (party : AutoEnd) (q : ℕ) → q ≢ p → with_end parties p party q ≡ parties q
 put_other parties p party q other = ap (λ (b : Bool). if b then party else parties q) (ne_eqb q p other)
 
-same_at : (parties : ℕ → Party) (p q : ℕ) (b : Bool) → (q == p) ≡ b → (if b then parties p else parties q) ≡ parties q
+same_at : (parties : ℕ → AutoEnd) (p q : ℕ) (b : Bool) → (q == p) ≡ b → (if b then parties p else parties q) ≡ parties q
 same_at parties p q true is = ap parties (sym (eqb-true q p is))
 same_at parties p q false is = refl
 
-pub put_same : (parties : ℕ → Party) (p : ℕ) → put_party parties p (parties p) ≡ parties
+pub put_same : (parties : ℕ → AutoEnd) (p : ℕ) → with_end parties p (parties p) ≡ parties
 put_same parties p = λ i q. same_at parties p q (q == p) refl i
 
-twice_at : (x y z : Party) (b : Bool) → (if b then y else (if b then x else z)) ≡ (if b then y else z)
+twice_at : (x y z : AutoEnd) (b : Bool) → (if b then y else (if b then x else z)) ≡ (if b then y else z)
 twice_at x y z true = refl
 twice_at x y z false = refl
 
-pub put_twice : (parties : ℕ → Party) (p : ℕ) (x y : Party) → put_party (put_party parties p x) p y ≡ put_party parties p y
+pub put_twice : (parties : ℕ → AutoEnd) (p : ℕ) (x y : AutoEnd) → with_end (with_end parties p x) p y ≡ with_end parties p y
 put_twice parties p x y = λ i q. twice_at x y (parties q) (q == p) i
 
-by_number : (P : Party → ℕ → Type 0) (parties : ℕ → Party) (p : ℕ) (party : Party) → P party p → ((q : ℕ) → q < 2 → P (parties q) q) → (q : ℕ) → q < 2 →
-    P (put_party parties p party q) q
+by_number : (P : AutoEnd → ℕ → Type 0) (parties : ℕ → AutoEnd) (p : ℕ) (party : AutoEnd) → P party p → ((q : ℕ) → q < 2 → P (parties q) q) → (q : ℕ) → q < 2 →
+    P (with_end parties p party q) q
 by_number P parties p party here there q below = at (q == p) refl
   where
     at : (b : Bool) → (q == p) ≡ b → P (if b then party else parties q) q
@@ -68,20 +68,20 @@ by_number P parties p party here there q below = at (q == p) refl
     at false is = there q below
 
 -- an end comes to be another, and the other stays
-comes : (parties : ℕ → Party) (p : ℕ) (party : Party) →
-    OnlyComes (λ q. (parties q).end) (λ q. (put_party parties p party q).end) (λ q. (parties q).place) (λ q. (put_party parties p party q).place) p party.end party.place
+comes : (parties : ℕ → AutoEnd) (p : ℕ) (party : AutoEnd) →
+    OnlyEndChanges (λ q. (parties q).end) (λ q. (with_end parties p party q).end) (λ q. (parties q).place) (λ q. (with_end parties p party q).place) p party.end party.place
 comes parties p party = record {
-  end_is = ap (λ (x : Party). x.end) (put_here parties p party);
-  place_is = ap (λ (x : Party). x.place) (put_here parties p party);
-  ends_stay = λ q other. ap (λ (x : Party). x.end) (put_other parties p party q other);
-  places_stay = λ q other. ap (λ (x : Party). x.place) (put_other parties p party q other);
+  end_is = ap (λ (x : AutoEnd). x.end) (put_here parties p party);
+  place_is = ap (λ (x : AutoEnd). x.place) (put_here parties p party);
+  ends_stay = λ q other. ap (λ (x : AutoEnd). x.end) (put_other parties p party q other);
+  places_stay = λ q other. ap (λ (x : AutoEnd). x.place) (put_other parties p party q other);
 }
 
 -- a link goes on by one end alone
-put_sound : (given : ℕ → List (List ℕ)) (link : Link) (p : ℕ) (party : Party) (memory : ℕ → ℕ) → Sound given link → p < 2 →
-    CalmRuns ground memory (λ q. (put_party link.parties p party q).end) (λ q. (put_party link.parties p party q).place) →
+put_sound : (given : ℕ → List (List ℕ)) (link : Link) (p : ℕ) (party : AutoEnd) (memory : ℕ → ℕ) → Sound given link → p < 2 →
+    CalmRuns link_config memory (λ q. (with_end link.parties p party q).end) (λ q. (with_end link.parties p party q).place) →
     given p ≡ party.end.accepted ++ party.frames → party.delivered ≡ party.end.delivered → HeadIs party.place party.frames →
-    Sound given (record { memory = memory; parties = put_party link.parties p party })
+    Sound given (record { memory = memory; parties = with_end link.parties p party })
 put_sound given link p party memory sound below runs counted told head = record {
   runs = runs;
   counted = by_number (λ x q. given q ≡ x.end.accepted ++ x.frames) link.parties p party counted sound.counted;
@@ -107,9 +107,9 @@ pub All_left : {A : Type 0} (P : A → Type 0) (xs ys : List A) → All P (xs ++
 All_left P xs ys all = All-from_recursion P xs (all_left P xs ys (recursion_from_All P (xs ++ ys) all))
 
 -- the frames that are still to come may be offered
-pub to_come : (given : ℕ → List (List ℕ)) (link : Link) (p : ℕ) → Sound given link → p < 2 → All (IsOffered ground) (link.parties p).frames
+pub to_come : (given : ℕ → List (List ℕ)) (link : Link) (p : ℕ) → Sound given link → p < 2 → All (IsOffered link_config) (link.parties p).frames
 to_come given link p sound below =
-    All_right (IsOffered ground) (link.parties p).end.accepted (link.parties p).frames (subst (All (IsOffered ground)) (sound.counted p below) (sound.offered p below))
+    All_right (IsOffered link_config) (link.parties p).end.accepted (link.parties p).frames (subst (All (IsOffered link_config)) (sound.counted p below) (sound.offered p below))
 
 first_chosen : (phase : Phase) (round : Round) (frames : List (List ℕ)) (delivered most : ℕ) (frame : List ℕ) → choice_of phase round frames delivered most ≡ ChoosesOffer frame →
     (rest : List (List ℕ)) × (frames ≡ frame ∷ rest)
@@ -131,23 +131,23 @@ first_chosen Run AfterOffer (x ∷ xs) delivered most frame is = absurd (cc)
 first_chosen Run AfterPoll (x ∷ xs) delivered most frame is = absurd (cc)
 
 -- what choosing keeps: the end, the frames, and what was told
-pub record SameParty (old new : Party) : Type 0 where
+pub record SameParty (old new : AutoEnd) : Type 0 where
   pub end : new.end ≡ old.end
   pub frames : new.frames ≡ old.frames
   pub delivered : new.delivered ≡ old.delivered
 
-no_head : (who : Who) (end : End) (call : Call) (frames : List (List ℕ)) → ((frame : List ℕ) → call ≡ Offer frame → (rest : List (List ℕ)) × (frames ≡ frame ∷ rest)) →
-    HeadIs (first_place who end call) frames
-no_head who end Tick frames first = λ frame is. absurd (cc)
-no_head who end Stop frames first = λ frame is. absurd (cc)
-no_head who end Poll frames first = λ frame is. absurd (polls (in_run end.handshake.phase) frame is)
+no_head : (config : EndConfig) (end : End) (call : Call) (frames : List (List ℕ)) → ((frame : List ℕ) → call ≡ Offer frame → (rest : List (List ℕ)) × (frames ≡ frame ∷ rest)) →
+    HeadIs (first_place config end call) frames
+no_head config end Tick frames first = λ frame is. absurd (cc)
+no_head config end Stop frames first = λ frame is. absurd (cc)
+no_head config end Poll frames first = λ frame is. absurd (polls (in_run end.handshake.phase) frame is)
   where
-    polls : (b : Bool) (frame : List ℕ) → job_frame (if b then AtAvailIndex (length end.delivered) (is_last who end.found_none) else Downed) ≡ Some frame → ⊥
+    polls : (b : Bool) (frame : List ℕ) → job_frame (if b then ReadingAvailIndex (length end.delivered) (is_last config end.found_none) else NotInRun) ≡ Some frame → ⊥
     polls true frame is = cc
     polls false frame is = cc
-no_head who end (Offer offer) frames first = λ frame is. offers (in_run end.handshake.phase) frame is
+no_head config end (Offer offer) frames first = λ frame is. offers (in_run end.handshake.phase) frame is
   where
-    offers : (b : Bool) (frame : List ℕ) → job_frame (if b then AtUsedIndex (job_of who end offer) end.freed else Downed) ≡ Some frame →
+    offers : (b : Bool) (frame : List ℕ) → job_frame (if b then ReadingUsedIndex (pending_of config end offer) end.freed else NotInRun) ≡ Some frame →
         (rest : List (List ℕ)) × (frames ≡ frame ∷ rest)
     offers true frame is = let same : offer ≡ frame = cc in let here = first offer refl in (here.0, here.1 ∙ ap (λ (f : List ℕ). f ∷ here.0) same)
     offers false frame is = absurd (cc)
@@ -156,30 +156,30 @@ shut : (place : Place) → is_open place ≡ false → place ≡ Closed
 shut Closed is = refl
 shut place is = absurd (cc)
 
-may_begin : (call : Call) (frames : List (List ℕ)) → All (IsOffered ground) frames →
-    ((frame : List ℕ) → call ≡ Offer frame → (rest : List (List ℕ)) × (frames ≡ frame ∷ rest)) → IsGivenTo ground call
+may_begin : (call : Call) (frames : List (List ℕ)) → All (IsOffered link_config) frames →
+    ((frame : List ℕ) → call ≡ Offer frame → (rest : List (List ℕ)) × (frames ≡ frame ∷ rest)) → IsGivenTo link_config call
 may_begin Tick frames may first = tt
 may_begin Stop frames may first = tt
 may_begin Poll frames may first = tt
 may_begin (Offer frame) frames may first =
     let here = first frame refl in
-    (recursion_from_All (IsOffered ground) (frame ∷ here.0) (subst (All (IsOffered ground)) here.1 may)).0
+    (recursion_from_All (IsOffered link_config) (frame ∷ here.0) (subst (All (IsOffered link_config)) here.1 may)).0
 
 -- a link whose end begins this call
 begun : (given : ℕ → List (List ℕ)) (link : Link) (p : ℕ) (call : Call) (round : Round) → Sound given link → p < 2 → is_open (link.parties p).place ≡ false → call ≢ Stop →
     ((frame : List ℕ) → call ≡ Offer frame → (rest : List (List ℕ)) × ((link.parties p).frames ≡ frame ∷ rest)) →
-    Sound given (record link { parties = put_party link.parties p (record (link.parties p) { place = first_place (who_of ground p) (link.parties p).end call; round = round }) })
+    Sound given (record link { parties = with_end link.parties p (record (link.parties p) { place = first_place (config_of link_config p) (link.parties p).end call; round = round }) })
 begun given link p call round sound below closed calm first =
-    let party : Party = record (link.parties p) { place = first_place (who_of ground p) (link.parties p).end call; round = round } in
-    let may : All (IsOffered ground) (link.parties p).frames = to_come given link p sound below in
-    let given_to : BeginsCall ground (ends_in link) (λ q. (put_party link.parties p party q).end) (places_in link) (λ q. (put_party link.parties p party q).place) p call =
+    let party : AutoEnd = record (link.parties p) { place = first_place (config_of link_config p) (link.parties p).end call; round = round } in
+    let may : All (IsOffered link_config) (link.parties p).frames = to_come given link p sound below in
+    let given_to : BeginsCall link_config (ends_in link) (λ q. (with_end link.parties p party q).end) (places_in link) (λ q. (with_end link.parties p party q).place) p call =
     record { given = may_begin call (link.parties p).frames may first; closed = shut (link.parties p).place closed; comes = comes link.parties p party } in
     put_sound given link p party link.memory sound below
-    (begins link.memory (ends_in link) (λ q. (put_party link.parties p party q).end) (places_in link) (λ q. (put_party link.parties p party q).place) p call sound.runs below calm given_to)
-    (sound.counted p below) (sound.told p below) (no_head (who_of ground p) (link.parties p).end call (link.parties p).frames first)
+    (begins link.memory (ends_in link) (λ q. (with_end link.parties p party q).end) (places_in link) (λ q. (with_end link.parties p party q).place) p call sound.runs below calm given_to)
+    (sound.counted p below) (sound.told p below) (no_head (config_of link_config p) (link.parties p).end call (link.parties p).frames first)
 
 choice_sound : (given : ℕ → List (List ℕ)) (link : Link) (p : ℕ) (c : Choice) → Sound given link → p < 2 → is_open (link.parties p).place ≡ false →
-    choice (link.parties p) ≡ c → Sound given (record link { parties = put_party link.parties p (with_choice (who_of ground p) (link.parties p) c) })
+    choice (link.parties p) ≡ c → Sound given (record link { parties = with_end link.parties p (with_choice (config_of link_config p) (link.parties p) c) })
 choice_sound given link p ChoosesTick sound below closed is =
     begun given link p Tick Anew sound below closed (λ e. cc) (λ frame e. absurd (cc))
 choice_sound given link p (ChoosesOffer offer) sound below closed is =
@@ -190,17 +190,17 @@ choice_sound given link p (ChoosesOffer offer) sound below closed is =
 choice_sound given link p ChoosesPoll sound below closed is =
     begun given link p Poll AfterPoll sound below closed (λ e. cc) (λ frame e. absurd (cc))
 choice_sound given link p IsFinished sound below closed is =
-    subst (λ (parties : ℕ → Party). Sound given (record link { parties = parties })) (sym (put_same link.parties p)) sound
+    subst (λ (parties : ℕ → AutoEnd). Sound given (record link { parties = parties })) (sym (put_same link.parties p)) sound
 
 open_sound : (given : ℕ → List (List ℕ)) (link : Link) (p : ℕ) (b : Bool) → Sound given link → p < 2 → is_open (link.parties p).place ≡ b →
-    Sound given (record link { parties = put_party link.parties p (if b then link.parties p else with_choice (who_of ground p) (link.parties p) (choice (link.parties p))) })
+    Sound given (record link { parties = with_end link.parties p (if b then link.parties p else with_choice (config_of link_config p) (link.parties p) (choice (link.parties p))) })
 open_sound given link p true sound below is =
-    subst (λ (parties : ℕ → Party). Sound given (record link { parties = parties })) (sym (put_same link.parties p)) sound
+    subst (λ (parties : ℕ → AutoEnd). Sound given (record link { parties = parties })) (sym (put_same link.parties p)) sound
 open_sound given link p false sound below is = choice_sound given link p (choice (link.parties p)) sound below is refl
 
 -- after the choice
 pub opened_sound : (given : ℕ → List (List ℕ)) (link : Link) (p : ℕ) → Sound given link → p < 2 →
-    Sound given (record link { parties = put_party link.parties p (opened (who_of ground p) (link.parties p)) })
+    Sound given (record link { parties = with_end link.parties p (opened (config_of link_config p) (link.parties p)) })
 opened_sound given link p sound below = open_sound given link p (is_open (link.parties p).place) sound below refl
 
 -- The step
@@ -233,20 +233,20 @@ none_yet : (opened_count : ℕ) (end : End) → (1 ≤ opened_count → 2 ≤ st
 none_yet zero end stays none init = none refl
 none_yet (suc count) end stays none init = absurd (let two = stays (omega arith) in omega arith)
 
-call_at : (end : End) (place : Place) (side : Side) → place ≡ Setting 2 → SideIs end place side → state_of end.handshake.phase ≡ 1
+call_at : (end : End) (place : Place) (side : Side) → place ≡ WritingState 2 → SideIs end place side → state_of end.handshake.phase ≡ 1
 call_at end place side at is =
-    let call : CallIs end (Setting 2) side = subst (λ (x : Place). CallIs end x side) at is.call in
+    let call : CallIs end (WritingState 2) side = subst (λ (x : Place). CallIs end x side) at is.call in
     saw_init end side.seen call.0
 
 -- a session opens where none was: the lists are empty
-empty_lists : (link : Link) (p : ℕ) → CalmRuns ground link.memory (ends_in link) (places_in link) → p < 2 → places_in link p ≡ Setting 2 →
+empty_lists : (link : Link) (p : ℕ) → CalmRuns link_config link.memory (ends_in link) (places_in link) → p < 2 → places_in link p ≡ WritingState 2 →
     ((ends_in link p).accepted ≡ []) × ((ends_in link p).delivered ≡ [])
 empty_lists link p runs below at =
-    let all = deliver_lem ground link.memory (ends_in link) (places_in link) is_ground runs in
+    let all = deliver_lem link_config link.memory (ends_in link) (places_in link) is_ground runs in
     let here = all.3 p below in
     none_yet (all.1 p).opened (ends_in link p) here.1.stays here.1.none (call_at (ends_in link p) (places_in link p) (all.0 p) at here.0)
 
-meets : (memory : ℕ → ℕ) (a : Access) → Meets memory a (value_in memory a)
+meets : (memory : ℕ → ℕ) (a : Access) → ReadsMemory memory a (value_in memory a)
 meets memory (access.Read word) = refl
 meets memory (access.Write word value) = tt
 meets memory (access.State state) = tt
@@ -256,10 +256,10 @@ meets memory access.Nothing = tt
 stored : (memory : ℕ → ℕ) (at value : ℕ) → Stored memory (λ w. if w == at then value else memory w) at value
 stored memory at value = record {
   here = ap (λ (b : Bool). if b then value else memory at) (eq-eqb at at refl);
-  beside = λ w other. ap (λ (b : Bool). if b then value else memory w) (ne_eqb w at other);
+  neighbour_word = λ w other. ap (λ (b : Bool). if b then value else memory w) (ne_eqb w at other);
 }
 
-leaves : (p : ℕ) (memory : ℕ → ℕ) (a : Access) → Leaves p memory a (words_after p memory a)
+leaves : (p : ℕ) (memory : ℕ → ℕ) (a : Access) → MemoryAfter p memory a (words_after p memory a)
 leaves p memory (access.Read word) = refl
 leaves p memory (access.Write word value) = stored memory word value
 leaves p memory (access.State state) = stored memory p state
@@ -270,44 +270,44 @@ leaves p memory access.Nothing = refl
 pub step_sound : (given : ℕ → List (List ℕ)) (link : Link) (p : ℕ) → Sound given link → p < 2 → is_open (link.parties p).place ≡ true →
     Sound given (step_of_link p link (link.parties p))
 step_sound given link p sound below opens =
-    let who : Who = who_of ground p in
-    let party : Party = link.parties p in
-    let a : Access = access_at who party.place in
+    let config : EndConfig = config_of link_config p in
+    let party : AutoEnd = link.parties p in
+    let a : Access = access_at config party.place in
     let value : ℕ = value_in link.memory a in
-    let new : Party = stepped who value party in
-    let takes : TakesStep ground link.memory (words_after p link.memory a) (ends_in link) (λ q. (put_party link.parties p new q).end) (places_in link) (λ q. (put_party link.parties p new q).place) p value =
+    let new : AutoEnd = stepped config value party in
+    let takes : TakesStep link_config link.memory (words_after p link.memory a) (ends_in link) (λ q. (with_end link.parties p new q).end) (places_in link) (λ q. (with_end link.parties p new q).place) p value =
     record { opened = opens; meets = meets link.memory a; leaves = leaves p link.memory a; comes = comes link.parties p new } in
-    let lists : SameLists party.end (stated party.end a) = stated_lists who party.place party.end (λ at. empty_lists link p sound.runs below at) in
-    let marks : List Mark = marks_at who party.place value in
+    let lists : SameLists party.end (with_access party.end a) = stated_lists config party.place party.end (λ at. empty_lists link p sound.runs below at) in
+    let marks : List Mark = marks_at config party.place value in
     let accepted : new.end.accepted ≡ party.end.accepted ++ accepted_by marks =
-    noted_accepted marks (stated party.end a) ∙ ap (λ (l : List (List ℕ)). l ++ accepted_by marks) lists.accepted in
+    noted_accepted marks (with_access party.end a) ∙ ap (λ (l : List (List ℕ)). l ++ accepted_by marks) lists.accepted in
     let delivered : new.end.delivered ≡ party.end.delivered ++ delivered_by marks =
-    noted_delivered marks (stated party.end a) ∙ ap (λ (l : List (List ℕ)). l ++ delivered_by marks) lists.delivered in
+    noted_delivered marks (with_access party.end a) ∙ ap (λ (l : List (List ℕ)). l ++ delivered_by marks) lists.delivered in
     put_sound given link p new (words_after p link.memory a) sound below
-    (steps link.memory (words_after p link.memory a) (ends_in link) (λ q. (put_party link.parties p new q).end) (places_in link) (λ q. (put_party link.parties p new q).place) p value sound.runs below takes)
-    (sound.counted p below ∙ (ap (λ (l : List (List ℕ)). party.end.accepted ++ l) (counts_on who party.place value party.frames (sound.heads p below)) ∙
+    (steps link.memory (words_after p link.memory a) (ends_in link) (λ q. (with_end link.parties p new q).end) (places_in link) (λ q. (with_end link.parties p new q).place) p value sound.runs below takes)
+    (sound.counted p below ∙ (ap (λ (l : List (List ℕ)). party.end.accepted ++ l) (counts_on config party.place value party.frames (sound.heads p below)) ∙
     (sym (append_assoc party.end.accepted (accepted_by marks) (left_after party.frames marks)) ∙ ap (λ (l : List (List ℕ)). l ++ left_after party.frames marks) (sym accepted))))
     (ap (λ (l : List (List ℕ)). l ++ delivered_by marks) (sound.told p below) ∙ sym delivered)
-    (heads_on who party.place value party.frames (sound.heads p below))
+    (heads_on config party.place value party.frames (sound.heads p below))
 
 -- A turn
 
-step_from : (given : ℕ → List (List ℕ)) (link : Link) (p : ℕ) (party : Party) → Sound given (record link { parties = put_party link.parties p party }) → p < 2 →
+step_from : (given : ℕ → List (List ℕ)) (link : Link) (p : ℕ) (party : AutoEnd) → Sound given (record link { parties = with_end link.parties p party }) → p < 2 →
     is_open party.place ≡ true → Sound given (step_of_link p link party)
 step_from given link p party sound below opens =
-    let here : put_party link.parties p party p ≡ party = put_here link.parties p party in
-    let put : Link = record link { parties = put_party link.parties p party } in
-    let next : Sound given (step_of_link p put (put_party link.parties p party p)) = step_sound given put p sound below (ap (λ (x : Party). is_open x.place) here ∙ opens) in
-    let from : Sound given (step_of_link p put party) = subst (λ (x : Party). Sound given (step_of_link p put x)) here next in
-    let who : Who = who_of ground p in
-    let a : Access = access_at who party.place in
-    subst (λ (parties : ℕ → Party). Sound given (record { memory = words_after p link.memory a; parties = parties }))
-    (put_twice link.parties p party (stepped who (value_in link.memory a) party)) from
+    let here : with_end link.parties p party p ≡ party = put_here link.parties p party in
+    let put : Link = record link { parties = with_end link.parties p party } in
+    let next : Sound given (step_of_link p put (with_end link.parties p party p)) = step_sound given put p sound below (ap (λ (x : AutoEnd). is_open x.place) here ∙ opens) in
+    let from : Sound given (step_of_link p put party) = subst (λ (x : AutoEnd). Sound given (step_of_link p put x)) here next in
+    let config : EndConfig = config_of link_config p in
+    let a : Access = access_at config party.place in
+    subst (λ (parties : ℕ → AutoEnd). Sound given (record { memory = words_after p link.memory a; parties = parties }))
+    (put_twice link.parties p party (stepped config (value_in link.memory a) party)) from
 
-turn_at : (given : ℕ → List (List ℕ)) (link : Link) (p : ℕ) (b : Bool) → Sound given link → p < 2 → is_open (opened (who_of ground p) (link.parties p)).place ≡ b →
-    Sound given (if b then step_of_link p link (opened (who_of ground p) (link.parties p)) else link)
-turn_at given link p true sound below is = step_from given link p (opened (who_of ground p) (link.parties p)) (opened_sound given link p sound below) below is
+turn_at : (given : ℕ → List (List ℕ)) (link : Link) (p : ℕ) (b : Bool) → Sound given link → p < 2 → is_open (opened (config_of link_config p) (link.parties p)).place ≡ b →
+    Sound given (if b then step_of_link p link (opened (config_of link_config p) (link.parties p)) else link)
+turn_at given link p true sound below is = step_from given link p (opened (config_of link_config p) (link.parties p)) (opened_sound given link p sound below) below is
 turn_at given link p false sound below is = sound
 
 pub turned_sound : (given : ℕ → List (List ℕ)) (link : Link) (p : ℕ) → Sound given link → p < 2 → Sound given (turned p link)
-turned_sound given link p sound below = turn_at given link p (is_open (opened (who_of ground p) (link.parties p)).place) sound below refl
+turned_sound given link p sound below = turn_at given link p (is_open (opened (config_of link_config p) (link.parties p)).place) sound below refl

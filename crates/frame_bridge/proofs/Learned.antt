@@ -19,7 +19,7 @@ use Rattle.std.proofs.lemmas.Map.Keys.{IsDistinct-from_sorted}
 use Rattle.std.proofs.lemmas.Map.Entries.{length-keys_of}
 use Rattle.std.proofs.lemmas.Bool.{lt-ltb, le-ltb}
 use Rattle.frame_bridge.specs.Forwarding.{Arrival, source, is_group, same_address, is_from, single, senders, most_known, is_learned, latest_port, port_of, known_count}
-use Rattle.frame_bridge.specs.Standing.{View, StandsAfter, port_in}
+use Rattle.frame_bridge.specs.BridgeView.{View, RefinesArrivals, port_in}
 use Rattle.frame_bridge.proofs.Growing.{unless, or_true, first_seen, first_new, first_begins, is_some_find, any_reverse, distinct_snoc, distinct_grows}
 
 -- Addresses
@@ -195,15 +195,15 @@ group_port xs x a true group here =
 group_port xs x a false group other = port_other xs x a other
 
 -- the source is a group address: nothing changes
-pub stands_group : (bridge : View) (xs : List Arrival) (x : Arrival) → StandsAfter bridge xs → is_group (source x.frame) ≡ true →
-    StandsAfter bridge (xs ++ x ∷ [])
-stands_group bridge xs x stands group = record {
-  known = λ a. stands.known a ∙ sym (group_port xs x a (is_from a x) group refl);
-  size = stands.size ∙ ap (λ (n : ℕ). min most_known n) (sym (count_group xs x group));
+pub stands_group : (bridge : View) (xs : List Arrival) (x : Arrival) → RefinesArrivals bridge xs → is_group (source x.frame) ≡ true →
+    RefinesArrivals bridge (xs ++ x ∷ [])
+stands_group bridge xs x refines group = record {
+  known = λ a. refines.known a ∙ sym (group_port xs x a (is_from a x) group refl);
+  size = refines.size ∙ ap (λ (n : ℕ). min most_known n) (sym (count_group xs x group));
 }
 
-unlearned : (bridge : View) (xs : List Arrival) (a : List ℕ) → StandsAfter bridge xs → is_some (port_in bridge a) ≡ false → is_learned xs a ≡ false
-unlearned bridge xs a stands none = sym (is_some_port xs a) ∙ (ap (λ (o : Option ℕ). is_some o) (sym (stands.known a)) ∙ none)
+unlearned : (bridge : View) (xs : List Arrival) (a : List ℕ) → RefinesArrivals bridge xs → is_some (port_in bridge a) ≡ false → is_learned xs a ≡ false
+unlearned bridge xs a refines none = sym (is_some_port xs a) ∙ (ap (λ (o : Option ℕ). is_some o) (sym (refines.known a)) ∙ none)
 
 full_learned : (xs : List Arrival) (x : Arrival) (a : List ℕ) (seen : Bool) → list_any (is_from a) xs ≡ seen → is_from a x ≡ true → single a ≡ true →
     is_learned xs a ≡ false → most_known ≤ distinct_count same_address (senders xs) → is_learned (xs ++ x ∷ []) a ≡ false
@@ -222,46 +222,46 @@ single_from : (a : List ℕ) → is_group a ≡ false → single a ≡ true
 single_from a alone = ap not alone
 
 -- the source isn't known, and the most are: nothing changes
-pub stands_full : (bridge : View) (xs : List Arrival) (x : Arrival) → StandsAfter bridge xs → is_group (source x.frame) ≡ false →
-    is_some (port_in bridge (source x.frame)) ≡ false → most_known ≤ length bridge.table → StandsAfter bridge (xs ++ x ∷ [])
-stands_full bridge xs x stands alone none full =
+pub stands_full : (bridge : View) (xs : List Arrival) (x : Arrival) → RefinesArrivals bridge xs → is_group (source x.frame) ≡ false →
+    is_some (port_in bridge (source x.frame)) ≡ false → most_known ≤ length bridge.table → RefinesArrivals bridge (xs ++ x ∷ [])
+stands_full bridge xs x refines alone none full =
     let count : ℕ = distinct_count same_address (senders xs) in
-    let many : most_known ≤ count = grind (arith, stands.size) in
-    let unknown : is_learned xs (source x.frame) ≡ false = unlearned bridge xs (source x.frame) stands none in
+    let many : most_known ≤ count = grind (arith, refines.size) in
+    let unknown : is_learned xs (source x.frame) ≡ false = unlearned bridge xs (source x.frame) refines none in
     let more = count_single xs x alone in
     let stays : min most_known (distinct_count same_address (senders xs)) ≡ min most_known (distinct_count same_address (senders (xs ++ x ∷ []))) = omega (arith, more, many) in
     record {
-      known = λ a. stands.known a ∙ sym (full_port xs x a (is_from a x) refl (single_from (source x.frame) alone) unknown many);
-      size = stands.size ∙ stays;
+      known = λ a. refines.known a ∙ sym (full_port xs x a (is_from a x) refl (single_from (source x.frame) alone) unknown many);
+      size = refines.size ∙ stays;
     }
 
 -- it is known already, or there is room
 abbrev pub HasRoom : View → List ℕ → Type 0
 HasRoom bridge a = (length bridge.table < most_known) ⊎ (is_some (port_in bridge a) ≡ true)
 
-few_from : (bridge : View) (xs : List Arrival) → StandsAfter bridge xs → length bridge.table < most_known → distinct_count same_address (senders xs) < most_known
-few_from bridge xs stands few = omega (arith, stands.size, few)
+few_from : (bridge : View) (xs : List Arrival) → RefinesArrivals bridge xs → length bridge.table < most_known → distinct_count same_address (senders xs) < most_known
+few_from bridge xs refines few = omega (arith, refines.size, few)
 
-learned_where : (bridge : View) (xs : List Arrival) (a : List ℕ) → StandsAfter bridge xs → list_any (is_from a) xs ≡ true → single a ≡ true → HasRoom bridge a →
+learned_where : (bridge : View) (xs : List Arrival) (a : List ℕ) → RefinesArrivals bridge xs → list_any (is_from a) xs ≡ true → single a ≡ true → HasRoom bridge a →
     is_learned xs a ≡ true
-learned_where bridge xs a stands seen s (inl few) = learned_few xs a seen s (few_from bridge xs stands few)
-learned_where bridge xs a stands seen s (inr known) = sym (is_some_port xs a) ∙ (ap (λ (o : Option ℕ). is_some o) (sym (stands.known a)) ∙ known)
+learned_where bridge xs a refines seen s (inl few) = learned_few xs a seen s (few_from bridge xs refines few)
+learned_where bridge xs a refines seen s (inr known) = sym (is_some_port xs a) ∙ (ap (λ (o : Option ℕ). is_some o) (sym (refines.known a)) ∙ known)
 
-few_where : (bridge : View) (xs : List Arrival) (a : List ℕ) → StandsAfter bridge xs → list_any (is_from a) xs ≡ false → HasRoom bridge a →
+few_where : (bridge : View) (xs : List Arrival) (a : List ℕ) → RefinesArrivals bridge xs → list_any (is_from a) xs ≡ false → HasRoom bridge a →
     distinct_count same_address (senders xs) < most_known
-few_where bridge xs a stands new (inl few) = few_from bridge xs stands few
-few_where bridge xs a stands new (inr known) =
+few_where bridge xs a refines new (inl few) = few_from bridge xs refines few
+few_where bridge xs a refines new (inr known) =
     let unknown : is_learned xs a ≡ false = unseen xs a new in
-    let yes : is_learned xs a ≡ true = sym (is_some_port xs a) ∙ (ap (λ (o : Option ℕ). is_some o) (sym (stands.known a)) ∙ known) in
+    let yes : is_learned xs a ≡ true = sym (is_some_port xs a) ∙ (ap (λ (o : Option ℕ). is_some o) (sym (refines.known a)) ∙ known) in
     absurd (cc)
 
-put_learned : (bridge : View) (xs : List Arrival) (x : Arrival) (seen : Bool) → list_any (is_from (source x.frame)) xs ≡ seen → StandsAfter bridge xs →
+put_learned : (bridge : View) (xs : List Arrival) (x : Arrival) (seen : Bool) → list_any (is_from (source x.frame)) xs ≡ seen → RefinesArrivals bridge xs →
     single (source x.frame) ≡ true → HasRoom bridge (source x.frame) → is_learned (xs ++ x ∷ []) (source x.frame) ≡ true
-put_learned bridge xs x true seen stands s room =
-    learned_seen xs (x ∷ []) (source x.frame) seen ∙ learned_where bridge xs (source x.frame) stands seen s room
-put_learned bridge xs x false new stands s room =
+put_learned bridge xs x true seen refines s room =
+    learned_seen xs (x ∷ []) (source x.frame) seen ∙ learned_where bridge xs (source x.frame) refines seen s room
+put_learned bridge xs x false new refines s room =
     learned_new xs x (source x.frame) new (same_self (source x.frame)) s ∙
-    lt-ltb (distinct_count same_address (senders xs)) most_known (few_where bridge xs (source x.frame) stands new room)
+    lt-ltb (distinct_count same_address (senders xs)) most_known (few_where bridge xs (source x.frame) refines new room)
 
 put_port : (xs : List Arrival) (x : Arrival) (a : List ℕ) (old : Option ℕ) (here : Bool) → is_from a x ≡ here → is_learned (xs ++ x ∷ []) (source x.frame) ≡ true →
     old ≡ port_of xs a → cond here (Some x.port) old ≡ port_of (xs ++ x ∷ []) a
@@ -269,40 +269,40 @@ put_port xs x a old true here learned was =
     sym (port_here xs x a here (ap (is_learned (xs ++ x ∷ [])) (same_is a (source x.frame) here) ∙ learned))
 put_port xs x a old false other learned was = was ∙ sym (port_other xs x a other)
 
-put_size : (bridge : View) (xs : List Arrival) (x : Arrival) (new : ℕ) (seen : Bool) → list_any (is_from (source x.frame)) xs ≡ seen → StandsAfter bridge xs →
+put_size : (bridge : View) (xs : List Arrival) (x : Arrival) (new : ℕ) (seen : Bool) → list_any (is_from (source x.frame)) xs ≡ seen → RefinesArrivals bridge xs →
     is_group (source x.frame) ≡ false → HasRoom bridge (source x.frame) → new ≡ length bridge.table + unless (is_some (port_in bridge (source x.frame))) →
     new ≡ min most_known (distinct_count same_address (senders (xs ++ x ∷ [])))
-put_size bridge xs x new true seen stands alone room is =
+put_size bridge xs x new true seen refines alone room is =
     let a : List ℕ = source x.frame in
     let member : is_member same_address (senders xs) a ≡ true = is_sender xs a (single_from a alone) ∙ seen in
     let known : is_some (port_in bridge a) ≡ true =
-    ap (λ (o : Option ℕ). is_some o) (stands.known a) ∙ (is_some_port xs a ∙ learned_where bridge xs a stands seen (single_from a alone) room) in
+    ap (λ (o : Option ℕ). is_some o) (refines.known a) ∙ (is_some_port xs a ∙ learned_where bridge xs a refines seen (single_from a alone) room) in
     let none : unless (is_some (port_in bridge a)) ≡ 0 = ap (λ (b : Bool). unless b) known in
     let same : unless (is_member same_address (senders xs) a) ≡ 0 = ap (λ (b : Bool). unless b) member in
-    omega (arith, is, none, same, count_single xs x alone, stands.size)
-put_size bridge xs x new false unseen_yet stands alone room is =
+    omega (arith, is, none, same, count_single xs x alone, refines.size)
+put_size bridge xs x new false unseen_yet refines alone room is =
     let a : List ℕ = source x.frame in
     let member : is_member same_address (senders xs) a ≡ false = is_sender xs a (single_from a alone) ∙ unseen_yet in
     let known : is_some (port_in bridge a) ≡ false =
-    ap (λ (o : Option ℕ). is_some o) (stands.known a) ∙ (is_some_port xs a ∙ unseen xs a unseen_yet) in
+    ap (λ (o : Option ℕ). is_some o) (refines.known a) ∙ (is_some_port xs a ∙ unseen xs a unseen_yet) in
     let one : unless (is_some (port_in bridge a)) ≡ 1 = ap (λ (b : Bool). unless b) known in
     let more : unless (is_member same_address (senders xs) a) ≡ 1 = ap (λ (b : Bool). unless b) member in
-    omega (arith, is, one, more, count_single xs x alone, stands.size, few_where bridge xs a stands unseen_yet room)
+    omega (arith, is, one, more, count_single xs x alone, refines.size, few_where bridge xs a refines unseen_yet room)
 
 turned : (a b : List ℕ) → is_at (slice_cmp nat_cmp b) a ≡ same_address a b
 turned a b = at_is_same b a ∙ nat_list_eq_equiv.symm b a
 
 -- the source gets the port
-pub stands_put : (bridge after : View) (xs : List Arrival) (x : Arrival) → StandsAfter bridge xs → is_group (source x.frame) ≡ false → HasRoom bridge (source x.frame) →
+pub stands_put : (bridge after : View) (xs : List Arrival) (x : Arrival) → RefinesArrivals bridge xs → is_group (source x.frame) ≡ false → HasRoom bridge (source x.frame) →
     ((a : List ℕ) → port_in after a ≡ cond (is_at (slice_cmp nat_cmp (source x.frame)) a) (Some x.port) (port_in bridge a)) →
-    length after.table ≡ length bridge.table + unless (is_some (port_in bridge (source x.frame))) → StandsAfter after (xs ++ x ∷ [])
-stands_put bridge after xs x stands alone room updates size =
+    length after.table ≡ length bridge.table + unless (is_some (port_in bridge (source x.frame))) → RefinesArrivals after (xs ++ x ∷ [])
+stands_put bridge after xs x refines alone room updates size =
     let learned : is_learned (xs ++ x ∷ []) (source x.frame) ≡ true =
-    put_learned bridge xs x (list_any (is_from (source x.frame)) xs) refl stands (single_from (source x.frame) alone) room in
+    put_learned bridge xs x (list_any (is_from (source x.frame)) xs) refl refines (single_from (source x.frame) alone) room in
     record {
       known = λ a. updates a ∙ (ap (λ (b : Bool). cond b (Some x.port) (port_in bridge a)) (turned a (source x.frame)) ∙
-          put_port xs x a (port_in bridge a) (is_from a x) refl learned (stands.known a));
-      size = put_size bridge xs x (length after.table) (list_any (is_from (source x.frame)) xs) refl stands alone room size;
+          put_port xs x a (port_in bridge a) (is_from a x) refl learned (refines.known a));
+      size = put_size bridge xs x (length after.table) (list_any (is_from (source x.frame)) xs) refl refines alone room size;
     }
 
 -- How many are known
@@ -317,19 +317,19 @@ known_member xs a false unlearned = and_false (is_member same_address (senders x
 learned_alike : (xs : List Arrival) (a b : List ℕ) → same_address a b ≡ true → is_learned xs a ≡ is_learned xs b
 learned_alike xs a b same = ap (is_learned xs) (same_is a b same)
 
-keys_known : (bridge : View) (xs : List Arrival) → StandsAfter bridge xs → (a : List ℕ) →
+keys_known : (bridge : View) (xs : List Arrival) → RefinesArrivals bridge xs → (a : List ℕ) →
     is_member (eq_by_cmp (slice_cmp nat_cmp)) (keys_of bridge.table) a ≡ is_member same_address (filter (is_learned xs) (senders xs)) a
-keys_known bridge xs stands a =
-    sym (is_some-lookup (is_at (slice_cmp nat_cmp a)) bridge.table) ∙ (ap (λ (o : Option ℕ). is_some o) (stands.known a) ∙ (is_some_port xs a ∙
+keys_known bridge xs refines a =
+    sym (is_some-lookup (is_at (slice_cmp nat_cmp a)) bridge.table) ∙ (ap (λ (o : Option ℕ). is_some o) (refines.known a) ∙ (is_some_port xs a ∙
     sym (is_member-filter nat_list_eq_equiv (is_learned xs) a (λ b same. learned_alike xs a b same) (senders xs) ∙ known_member xs a (is_learned xs a) refl)))
 
 -- a map whose keys are in order has as many entries as addresses are known
-pub known_counts : (bridge : View) (xs : List Arrival) → StandsAfter bridge xs → IsStrictlySortedBy (slice_cmp nat_cmp) (keys_of bridge.table) →
+pub known_counts : (bridge : View) (xs : List Arrival) → RefinesArrivals bridge xs → IsStrictlySortedBy (slice_cmp nat_cmp) (keys_of bridge.table) →
     length bridge.table ≡ known_count xs
-known_counts bridge xs stands ordered =
+known_counts bridge xs refines ordered =
     let keys : List (List ℕ) = keys_of bridge.table in
     let learned : List (List ℕ) = filter (is_learned xs) (senders xs) in
     let same : length keys ≡ distinct_count (eq_by_cmp (slice_cmp nat_cmp)) learned =
     length-from_keys (eq_by_cmp_equiv nat_list_cmp_total) keys learned (IsDistinct-from_sorted (slice_cmp nat_cmp) keys ordered)
-    (λ a. keys_known bridge xs stands a ∙ ap (λ (e : List ℕ → List ℕ → Bool). is_member e learned a) fun_same) in
+    (λ a. keys_known bridge xs refines a ∙ ap (λ (e : List ℕ → List ℕ → Bool). is_member e learned a) fun_same) in
     sym (length-keys_of bridge.table) ∙ (same ∙ ap (λ (e : List ℕ → List ℕ → Bool). distinct_count e learned) (sym fun_same))

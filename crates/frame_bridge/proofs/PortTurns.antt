@@ -3,13 +3,13 @@ use Rattle.std.proofs.Common.{◌≡◌, ℕ, ◌+◌, Bool, true, false, List, 
 use Rattle.std.specs.Prelude.{min}
 use Rattle.std.proofs.lemmas.List.{map-append}
 use Rattle.std.proofs.lemmas.List.Concat.{flat_map-append, flat_map-cons}
-use Rattle.line_text.specs.Rows.{Row, line_of_row, text_of}
+use Rattle.line_format.specs.Rows.{Row, line_of_row, text_of}
 use Rattle.frame_bridge.specs.declared.output.Line.{Line}
-use Rattle.frame_bridge.specs.declared.parties.Party as held
+use Rattle.frame_bridge.specs.declared.auto_ends.AutoEnd as held
 use Rattle.frame_bridge.specs.declared.ports.Port.{Port}
-use Rattle.frame_bridge.specs.Links.{Party, Link, turned, told_by}
+use Rattle.frame_bridge.specs.Links.{AutoEnd, Link, turned, observed_by}
 use Rattle.frame_bridge.specs.Output.{pieces_of, out_row}
-use Rattle.frame_bridge.specs.Held.{PartyStands, RegionStands, PortStands, most_counted, if_told}
+use Rattle.frame_bridge.specs.Refinement.{AutoEndRefines, RegionRefines, PortRefines, most_counted, delivered_if}
 use Rattle.frame_bridge.proofs.Worlds.{turned_told, turned_other}
 
 -- one line more
@@ -24,55 +24,55 @@ outs_more frames frame = ap (text_of pieces_of) (map-append out_row frames (fram
 pub count_more : (n m k : ℕ) → m ≡ min n most_counted → k ≡ min (m + 1) most_counted → k ≡ min (n + 1) most_counted
 count_more n m k old new = omega arith
 
-pub own_turned : (link : Link) (forwarded : List (List ℕ)) (old new : Port) → PortStands link forwarded old → RegionStands (turned 1 link).memory new.region →
-    PartyStands 1 ((turned 1 link).parties 1) new.own → new.station ≡ old.station → new.outs ≡ old.outs → new.delivered ≡ old.delivered → new.forwarded ≡ old.forwarded →
-    PortStands (turned 1 link) forwarded new
-own_turned link forwarded old new stands region own station outs delivered counted =
+pub own_turned : (link : Link) (forwarded : List (List ℕ)) (old new : Port) → PortRefines link forwarded old → RegionRefines (turned 1 link).memory new.region →
+    AutoEndRefines 1 ((turned 1 link).parties 1) new.own → new.station ≡ old.station → new.outs ≡ old.outs → new.delivered ≡ old.delivered → new.forwarded ≡ old.forwarded →
+    PortRefines (turned 1 link) forwarded new
+own_turned link forwarded old new refines region own station outs delivered counted =
     let same : link.parties 0 ≡ (turned 1 link).parties 0 = sym (turned_other link 1 0 (λ e. cc)) in
     record {
       region = region;
-      station = subst (λ (h : held.Party). PartyStands 0 ((turned 1 link).parties 0) h) (sym station) (subst (λ (p : Party). PartyStands 0 p old.station) same stands.station);
+      station = subst (λ (h : held.AutoEnd). AutoEndRefines 0 ((turned 1 link).parties 0) h) (sym station) (subst (λ (p : AutoEnd). AutoEndRefines 0 p old.station) same refines.station);
       own = own;
-      outs = ap (λ v. v.items) outs ∙ (stands.outs ∙ ap (λ (p : Party). text_of pieces_of (map out_row p.delivered)) same);
-      delivered = delivered ∙ (stands.delivered ∙ ap (λ (p : Party). min (length p.delivered) most_counted) same);
-      forwarded_is = counted ∙ stands.forwarded_is;
+      outs = ap (λ v. v.items) outs ∙ (refines.outs ∙ ap (λ (p : AutoEnd). text_of pieces_of (map out_row p.delivered)) same);
+      delivered = delivered ∙ (refines.delivered ∙ ap (λ (p : AutoEnd). min (length p.delivered) most_counted) same);
+      forwarded_is = counted ∙ refines.forwarded_is;
     }
 
 -- what the station delivered after its turn
-delivered_after : (link : Link) (told : Bool) (frame : List ℕ) → told_by 0 link ≡ if_told told frame →
-    ((turned 0 link).parties 0).delivered ≡ (link.parties 0).delivered ++ if_told told frame
+delivered_after : (link : Link) (told : Bool) (frame : List ℕ) → observed_by 0 link ≡ delivered_if told frame →
+    ((turned 0 link).parties 0).delivered ≡ (link.parties 0).delivered ++ delivered_if told frame
 delivered_after link told frame is = turned_told link 0 ∙ ap (λ (l : List (List ℕ)). (link.parties 0).delivered ++ l) is
 
-pub station_told : (link : Link) (forwarded : List (List ℕ)) (old new : Port) (frame : List ℕ) → PortStands link forwarded old → RegionStands (turned 0 link).memory new.region →
-    PartyStands 0 ((turned 0 link).parties 0) new.station → told_by 0 link ≡ if_told true frame → new.own ≡ old.own →
+pub station_told : (link : Link) (forwarded : List (List ℕ)) (old new : Port) (frame : List ℕ) → PortRefines link forwarded old → RegionRefines (turned 0 link).memory new.region →
+    AutoEndRefines 0 ((turned 0 link).parties 0) new.station → observed_by 0 link ≡ delivered_if true frame → new.own ≡ old.own →
     new.outs.items ≡ old.outs.items ++ line_of_row pieces_of (out_row frame) → new.delivered ≡ min (old.delivered + 1) most_counted → new.forwarded ≡ old.forwarded →
-    PortStands (turned 0 link) forwarded new
-station_told link forwarded old new frame stands region station told own outs delivered counted =
+    PortRefines (turned 0 link) forwarded new
+station_told link forwarded old new frame refines region station told own outs delivered counted =
     let same : link.parties 1 ≡ (turned 0 link).parties 1 = sym (turned_other link 0 1 (λ e. cc)) in
     let frames : ((turned 0 link).parties 0).delivered ≡ (link.parties 0).delivered ++ frame ∷ [] = delivered_after link true frame told in
     let count : length ((link.parties 0).delivered ++ frame ∷ []) ≡ length (link.parties 0).delivered + 1 = length-append (link.parties 0).delivered (frame ∷ []) in
     record {
       region = region;
       station = station;
-      own = subst (λ (h : held.Party). PartyStands 1 ((turned 0 link).parties 1) h) (sym own) (subst (λ (p : Party). PartyStands 1 p old.own) same stands.own);
-      outs = outs ∙ (ap (λ (t : List ℕ). t ++ line_of_row pieces_of (out_row frame)) stands.outs ∙ (sym (outs_more (link.parties 0).delivered frame) ∙
+      own = subst (λ (h : held.AutoEnd). AutoEndRefines 1 ((turned 0 link).parties 1) h) (sym own) (subst (λ (p : AutoEnd). AutoEndRefines 1 p old.own) same refines.own);
+      outs = outs ∙ (ap (λ (t : List ℕ). t ++ line_of_row pieces_of (out_row frame)) refines.outs ∙ (sym (outs_more (link.parties 0).delivered frame) ∙
           ap (λ (fs : List (List ℕ)). text_of pieces_of (map out_row fs)) (sym frames)));
-      delivered = count_more (length (link.parties 0).delivered) old.delivered new.delivered stands.delivered delivered ∙
+      delivered = count_more (length (link.parties 0).delivered) old.delivered new.delivered refines.delivered delivered ∙
           ap (λ (n : ℕ). min n most_counted) (sym (ap length frames ∙ count));
-      forwarded_is = counted ∙ stands.forwarded_is;
+      forwarded_is = counted ∙ refines.forwarded_is;
     }
 
-pub station_quiet : (link : Link) (forwarded : List (List ℕ)) (old new : Port) (frame : List ℕ) → PortStands link forwarded old → RegionStands (turned 0 link).memory new.region →
-    PartyStands 0 ((turned 0 link).parties 0) new.station → told_by 0 link ≡ if_told false frame → new.own ≡ old.own → new.outs ≡ old.outs →
-    new.delivered ≡ old.delivered → new.forwarded ≡ old.forwarded → PortStands (turned 0 link) forwarded new
-station_quiet link forwarded old new frame stands region station told own outs delivered counted =
+pub station_quiet : (link : Link) (forwarded : List (List ℕ)) (old new : Port) (frame : List ℕ) → PortRefines link forwarded old → RegionRefines (turned 0 link).memory new.region →
+    AutoEndRefines 0 ((turned 0 link).parties 0) new.station → observed_by 0 link ≡ delivered_if false frame → new.own ≡ old.own → new.outs ≡ old.outs →
+    new.delivered ≡ old.delivered → new.forwarded ≡ old.forwarded → PortRefines (turned 0 link) forwarded new
+station_quiet link forwarded old new frame refines region station told own outs delivered counted =
     let same : link.parties 1 ≡ (turned 0 link).parties 1 = sym (turned_other link 0 1 (λ e. cc)) in
     let frames : ((turned 0 link).parties 0).delivered ≡ (link.parties 0).delivered = delivered_after link false frame told ∙ append-nil (link.parties 0).delivered in
     record {
       region = region;
       station = station;
-      own = subst (λ (h : held.Party). PartyStands 1 ((turned 0 link).parties 1) h) (sym own) (subst (λ (p : Party). PartyStands 1 p old.own) same stands.own);
-      outs = ap (λ v. v.items) outs ∙ (stands.outs ∙ ap (λ (fs : List (List ℕ)). text_of pieces_of (map out_row fs)) (sym frames));
-      delivered = delivered ∙ (stands.delivered ∙ ap (λ (fs : List (List ℕ)). min (length fs) most_counted) (sym frames));
-      forwarded_is = counted ∙ stands.forwarded_is;
+      own = subst (λ (h : held.AutoEnd). AutoEndRefines 1 ((turned 0 link).parties 1) h) (sym own) (subst (λ (p : AutoEnd). AutoEndRefines 1 p old.own) same refines.own);
+      outs = ap (λ v. v.items) outs ∙ (refines.outs ∙ ap (λ (fs : List (List ℕ)). text_of pieces_of (map out_row fs)) (sym frames));
+      delivered = delivered ∙ (refines.delivered ∙ ap (λ (fs : List (List ℕ)). min (length fs) most_counted) (sym frames));
+      forwarded_is = counted ∙ refines.forwarded_is;
     }

@@ -4,8 +4,8 @@ use Rattle.std.specs.Prelude.{if◌then◌else◌, Some, slice_get}
 use Rattle.std.specs.List.{flat_map}
 use Rattle.std.proofs.lemmas.Option.{slice_get_within}
 use Rattle.std.proofs.lemmas.List.Concat.{flat_map-append, flat_map-cons}
-use Rattle.line_text.specs.Forms.{line_of}
-use Rattle.line_text.specs.Rows.{Row, row, fields_of_row, line_of_row, text_of}
+use Rattle.line_format.specs.Forms.{line_of}
+use Rattle.line_format.specs.Rows.{Row, row, fields_of_row, line_of_row, text_of}
 use Rattle.bridge_text.specs.declared.scripts.Sent.{Sent}
 use Rattle.bridge_text.specs.Spelling as text
 use Rattle.frame_bridge.specs.declared.output.Line.{Line}
@@ -16,7 +16,7 @@ use Rattle.frame_bridge.specs.Forwarding.{Arrival, is_forwarded, first_ports, fo
 use Rattle.frame_bridge.specs.Run.{World, started, schedule, ran, run_of}
 use Rattle.frame_bridge.specs.Keeps.{Going}
 use Rattle.frame_bridge.specs.Output.{pieces_of, arrive_row, port_rows, outs, output_of, IsOutput}
-use Rattle.frame_bridge.specs.Held.{ArePorts, IsThere}
+use Rattle.frame_bridge.specs.Refinement.{ArePorts, IsThere}
 use Rattle.frame_bridge.proofs.Worlds.{delivers}
 use Rattle.frame_bridge.proofs.PortTurns.{text_more}
 
@@ -62,13 +62,13 @@ outs_within all front rest is = let sum : length all ≡ length front + length r
 -- at the end the ports are those of the world
 pub are_ports : (sent : List Sent) (ports : ℕ) (w : World) (run : Run) → IsThere sent ports w run → length run.text.items < 2 ^ 64 → ArePorts w run.ports.items
 are_ports sent ports w run there small = record {
-  each = there.stands.each;
+  each = there.refines.each;
   fits = λ k below.
-      let text : length run.text.items ≡ length (text_of pieces_of (map arrive_row w.arrivals)) = ap length there.stands.text in
+      let text : length run.text.items ≡ length (text_of pieces_of (map arrive_row w.arrivals)) = ap length there.refines.text in
       omega (arith, text, small, arrivals_fit w.arrivals, forwarded_fit [] w.arrivals k);
   within = λ k below.
       let script : text.World = record { ports = ports; rounds = 0; sent = sent } in
-      let goes_out = (delivers script w k there.going (omega (arith, below, there.stands.long))).goes_out in
+      let goes_out = (delivers script w k there.going (omega (arith, below, there.refines.long))).goes_out in
       outs_within (forward w.arrivals k) (outs w k) goes_out.0 goes_out.1;
 }
 
@@ -76,8 +76,8 @@ are_ports sent ports w run there small = record {
 pub in_order : (w : World) (ports : List Port) → ArePorts w ports → (k : ℕ) (port : Port) → slice_get ports k ≡ Some port → port.delivered ≤ port.forwarded
 in_order w ports are k port here =
     let below : k < length ports = slice_get_within ports k port here in
-    let stands = are.each k port here in
-    omega (arith, are.within k below, stands.delivered, stands.forwarded_is)
+    let refines = are.each k port here in
+    omega (arith, are.within k below, refines.delivered, refines.forwarded_is)
 
 -- the parts together
 pub whole_output : (ports : ℕ) (w : World) (start middle known all : List ℕ) → start ≡ text_of pieces_of (map arrive_row w.arrivals) →

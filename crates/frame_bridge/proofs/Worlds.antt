@@ -3,23 +3,23 @@ use Rattle.std.proofs.Common.{◌≡◌, ◌≢◌, ℕ, zero, suc, ◌+◌, ◌
 use Rattle.std.specs.Prelude.{◌==◌, nat_le, slice_index, if◌then◌else◌, filter, All}
 use Rattle.std.specs.List.{AllByRecursion}
 use Rattle.std.proofs.lemmas.Bool.{ne_eqb, eqb-false, leb-true}
-use Rattle.line_text.proofs.SpellLaws.{both_true}
+use Rattle.line_format.proofs.SpellLaws.{both_true}
 use Rattle.std.proofs.lemmas.List.{append-nil, map-append, get_or_default}
 use Rattle.std.proofs.lemmas.List.Elements.{All-append, All-nil, filter-append, recursion_from_All, All-from_recursion}
 use Rattle.call_grammar.specs.Ends.{End, fresh}
 use Rattle.call_grammar.specs.Places.{Place, Closed, access_at, marks_at, is_open}
-use Rattle.call_grammar.specs.Calls.{Who}
+use Rattle.call_grammar.specs.Calls.{EndConfig}
 use Rattle.call_grammar.specs.Automatic.{Choice, ChoosesTick, ChoosesOffer, ChoosesPoll, IsFinished}
-use Rattle.ends_pair.specs.Ground.{who_of, IsOffered}
-use Rattle.ends_pair.specs.Runs.{HonestRuns}
-use Rattle.ends_pair.specs.Runs as honest
+use Rattle.link_invariant.specs.LinkConfig.{config_of, IsOffered}
+use Rattle.link_invariant.specs.Runs.{HonestRuns}
+use Rattle.link_invariant.specs.Runs as honest
 use Rattle.pair_sessions.specs.Once.{CalmRuns, starts, begins, steps, others}
 use Rattle.pair_sessions.proofs.Calm.{deliver_lem}
 use Rattle.bridge_text.specs.declared.scripts.Sent.{Sent}
 use Rattle.bridge_text.specs.Spelling as text
 use Rattle.frame_bridge.specs.Forwarding.{Arrival, is_forwarded, forwarded_after, forward}
-use Rattle.frame_bridge.specs.Standing.{arrival}
-use Rattle.frame_bridge.specs.Links.{ground, Party, Link, starting, choice, with_choice, opened, delivered_by, stepped, value_in, step_of_link, turned, told_by, with_copies}
+use Rattle.frame_bridge.specs.BridgeView.{arrival}
+use Rattle.frame_bridge.specs.Links.{link_config, AutoEnd, Link, starting, choice, with_choice, opened, delivered_by, stepped, value_in, step_of_link, turned, observed_by, with_copies}
 use Rattle.frame_bridge.specs.Run.{World, Turn, frames_of, started, arriving, world_after}
 use Rattle.frame_bridge.specs.Output.{outs, arrived_at, Delivers}
 use Rattle.frame_bridge.specs.Keeps.{HeadIs, ends_in, places_in, Sound, given_to, Going}
@@ -72,67 +72,67 @@ arrived_other port other (frame ∷ frames) apart =
 
 -- What a turn tells
 
-same_delivered : (who : Who) (party : Party) (c : Choice) → (with_choice who party c).delivered ≡ party.delivered
-same_delivered who party ChoosesTick = refl
-same_delivered who party (ChoosesOffer frame) = refl
-same_delivered who party ChoosesPoll = refl
-same_delivered who party IsFinished = refl
+same_delivered : (config : EndConfig) (party : AutoEnd) (c : Choice) → (with_choice config party c).delivered ≡ party.delivered
+same_delivered config party ChoosesTick = refl
+same_delivered config party (ChoosesOffer frame) = refl
+same_delivered config party ChoosesPoll = refl
+same_delivered config party IsFinished = refl
 
-opened_at : (who : Who) (party : Party) (b : Bool) → (if b then party else with_choice who party (choice party)).delivered ≡ party.delivered
-opened_at who party true = refl
-opened_at who party false = same_delivered who party (choice party)
+opened_at : (config : EndConfig) (party : AutoEnd) (b : Bool) → (if b then party else with_choice config party (choice party)).delivered ≡ party.delivered
+opened_at config party true = refl
+opened_at config party false = same_delivered config party (choice party)
 
-told_at : (link : Link) (p : ℕ) (party : Party) (b : Bool) → party.delivered ≡ (link.parties p).delivered →
+told_at : (link : Link) (p : ℕ) (party : AutoEnd) (b : Bool) → party.delivered ≡ (link.parties p).delivered →
     ((if b then step_of_link p link party else link).parties p).delivered ≡
-    (link.parties p).delivered ++ (if b then delivered_by (marks_at (who_of ground p) party.place (value_in link.memory (access_at (who_of ground p) party.place))) else [])
+    (link.parties p).delivered ++ (if b then delivered_by (marks_at (config_of link_config p) party.place (value_in link.memory (access_at (config_of link_config p) party.place))) else [])
 told_at link p party true same =
-    let a = access_at (who_of ground p) party.place in
-    ap (λ (x : Party). x.delivered) (put_here link.parties p (stepped (who_of ground p) (value_in link.memory a) party)) ∙
-    ap (λ (l : List (List ℕ)). l ++ delivered_by (marks_at (who_of ground p) party.place (value_in link.memory a))) same
+    let a = access_at (config_of link_config p) party.place in
+    ap (λ (x : AutoEnd). x.delivered) (put_here link.parties p (stepped (config_of link_config p) (value_in link.memory a) party)) ∙
+    ap (λ (l : List (List ℕ)). l ++ delivered_by (marks_at (config_of link_config p) party.place (value_in link.memory a))) same
 told_at link p party false same = sym (append-nil (link.parties p).delivered)
 
-pub turned_told : (link : Link) (p : ℕ) → ((turned p link).parties p).delivered ≡ (link.parties p).delivered ++ told_by p link
+pub turned_told : (link : Link) (p : ℕ) → ((turned p link).parties p).delivered ≡ (link.parties p).delivered ++ observed_by p link
 turned_told link p =
-    let party : Party = opened (who_of ground p) (link.parties p) in
-    told_at link p party (is_open party.place) (opened_at (who_of ground p) (link.parties p) (is_open (link.parties p).place))
+    let party : AutoEnd = opened (config_of link_config p) (link.parties p) in
+    told_at link p party (is_open party.place) (opened_at (config_of link_config p) (link.parties p) (is_open (link.parties p).place))
 
-other_at : (link : Link) (p q : ℕ) (party : Party) (b : Bool) → q ≢ p → (if b then step_of_link p link party else link).parties q ≡ link.parties q
+other_at : (link : Link) (p q : ℕ) (party : AutoEnd) (b : Bool) → q ≢ p → (if b then step_of_link p link party else link).parties q ≡ link.parties q
 other_at link p q party true apart =
-    put_other link.parties p (stepped (who_of ground p) (value_in link.memory (access_at (who_of ground p) party.place)) party) q apart
+    put_other link.parties p (stepped (config_of link_config p) (value_in link.memory (access_at (config_of link_config p) party.place)) party) q apart
 other_at link p q party false apart = refl
 
 pub turned_other : (link : Link) (p q : ℕ) → q ≢ p → (turned p link).parties q ≡ link.parties q
-turned_other link p q apart = other_at link p q (opened (who_of ground p) (link.parties p)) (is_open (opened (who_of ground p) (link.parties p)).place) apart
+turned_other link p q apart = other_at link p q (opened (config_of link_config p) (link.parties p)) (is_open (opened (config_of link_config p) (link.parties p)).place) apart
 
 -- A link
 
-copied_end : (parties : ℕ → Party) (frames : List (List ℕ)) (q : ℕ) (b : Bool) → (q == 1) ≡ b → (if b then record (parties 1) { frames = frames } else parties q).end ≡ (parties q).end
+copied_end : (parties : ℕ → AutoEnd) (frames : List (List ℕ)) (q : ℕ) (b : Bool) → (q == 1) ≡ b → (if b then record (parties 1) { frames = frames } else parties q).end ≡ (parties q).end
 copied_end parties frames q true is = ap (λ (k : ℕ). (parties k).end) (sym (eqb-true q 1 is))
 copied_end parties frames q false is = refl
 
-copied_place : (parties : ℕ → Party) (frames : List (List ℕ)) (q : ℕ) (b : Bool) → (q == 1) ≡ b → (if b then record (parties 1) { frames = frames } else parties q).place ≡ (parties q).place
+copied_place : (parties : ℕ → AutoEnd) (frames : List (List ℕ)) (q : ℕ) (b : Bool) → (q == 1) ≡ b → (if b then record (parties 1) { frames = frames } else parties q).place ≡ (parties q).place
 copied_place parties frames q true is = ap (λ (k : ℕ). (parties k).place) (sym (eqb-true q 1 is))
 copied_place parties frames q false is = refl
 
 head_longer : (place : Place) (frames copies : List (List ℕ)) → HeadIs place frames → HeadIs place (frames ++ copies)
 head_longer place frames copies head = λ frame is. let here = head frame is in (here.0 ++ copies, ap (λ (l : List (List ℕ)). l ++ copies) here.1)
 
-pub copies_sound : (sent forwarded copies : List (List ℕ)) (link : Link) → Sound (given_to sent forwarded) link → All (IsOffered ground) copies →
+pub copies_sound : (sent forwarded copies : List (List ℕ)) (link : Link) → Sound (given_to sent forwarded) link → All (IsOffered link_config) copies →
     Sound (given_to sent (forwarded ++ copies)) (with_copies copies link)
 copies_sound sent forwarded copies link sound may = record { runs = runs; counted = counted; told = told; heads = heads; offered = offered }
   where
-    parties : ℕ → Party
+    parties : ℕ → AutoEnd
     parties = link.parties
 
     longer : List (List ℕ)
     longer = (link.parties 1).frames ++ copies
 
-    runs : CalmRuns ground link.memory (ends_in (with_copies copies link)) (places_in (with_copies copies link))
+    runs : CalmRuns link_config link.memory (ends_in (with_copies copies link)) (places_in (with_copies copies link))
     runs =
         let ends : ends_in link ≡ ends_in (with_copies copies link) = λ i q. sym (copied_end link.parties ((link.parties 1).frames ++ copies) q (q == 1) refl) i in
         let places : places_in link ≡ places_in (with_copies copies link) = λ i q. sym (copied_place link.parties ((link.parties 1).frames ++ copies) q (q == 1) refl) i in
-        subst (λ (e : ℕ → End). CalmRuns ground link.memory e (places_in (with_copies copies link))) ends
-        (subst (λ (p : ℕ → Place). CalmRuns ground link.memory (ends_in link) p) places sound.runs)
+        subst (λ (e : ℕ → End). CalmRuns link_config link.memory e (places_in (with_copies copies link))) ends
+        (subst (λ (p : ℕ → Place). CalmRuns link_config link.memory (ends_in link) p) places sound.runs)
 
     counted : (p : ℕ) → p < 2 → given_to sent (forwarded ++ copies) p ≡ ((with_copies copies link).parties p).end.accepted ++ ((with_copies copies link).parties p).frames
     counted zero below = sound.counted 0 below
@@ -150,27 +150,27 @@ copies_sound sent forwarded copies link sound may = record { runs = runs; counte
     heads (suc zero) below = head_longer (link.parties 1).place (link.parties 1).frames copies (sound.heads 1 below)
     heads (suc (suc p)) below = absurd (omega arith)
 
-    offered : (p : ℕ) → p < 2 → All (IsOffered ground) (given_to sent (forwarded ++ copies) p)
+    offered : (p : ℕ) → p < 2 → All (IsOffered link_config) (given_to sent (forwarded ++ copies) p)
     offered zero below = sound.offered 0 below
-    offered (suc zero) below = All-append (IsOffered ground) forwarded copies (sound.offered 1 below) may
+    offered (suc zero) below = All-append (IsOffered link_config) forwarded copies (sound.offered 1 below) may
     offered (suc (suc p)) below = absurd (omega arith)
 
 -- what the bridge's end delivered was offered by the station
-pub delivered_offered : (sent forwarded : List (List ℕ)) (link : Link) → Sound (given_to sent forwarded) link → All (IsOffered ground) (link.parties 1).delivered
+pub delivered_offered : (sent forwarded : List (List ℕ)) (link : Link) → Sound (given_to sent forwarded) link → All (IsOffered link_config) (link.parties 1).delivered
 delivered_offered sent forwarded link sound =
-    let all = deliver_lem ground link.memory (ends_in link) (places_in link) is_ground sound.runs in
+    let all = deliver_lem link_config link.memory (ends_in link) (places_in link) is_ground sound.runs in
     let begins_with = (all.3 0 (omega arith)).2 in
-    let accepted : All (IsOffered ground) (link.parties 0).end.accepted =
-    All_left (IsOffered ground) (link.parties 0).end.accepted (link.parties 0).frames (subst (All (IsOffered ground)) (sound.counted 0 (omega arith)) (sound.offered 0 (omega arith))) in
-    let delivered : All (IsOffered ground) (link.parties 1).end.delivered =
-    All_left (IsOffered ground) (link.parties 1).end.delivered begins_with.0 (subst (All (IsOffered ground)) begins_with.1 accepted) in
-    subst (All (IsOffered ground)) (sym (sound.told 1 (omega arith))) delivered
+    let accepted : All (IsOffered link_config) (link.parties 0).end.accepted =
+    All_left (IsOffered link_config) (link.parties 0).end.accepted (link.parties 0).frames (subst (All (IsOffered link_config)) (sound.counted 0 (omega arith)) (sound.offered 0 (omega arith))) in
+    let delivered : All (IsOffered link_config) (link.parties 1).end.delivered =
+    All_left (IsOffered link_config) (link.parties 1).end.delivered begins_with.0 (subst (All (IsOffered link_config)) begins_with.1 accepted) in
+    subst (All (IsOffered link_config)) (sym (sound.told 1 (omega arith))) delivered
 
 -- and so was what it delivers on a turn
-pub told_offered : (sent forwarded : List (List ℕ)) (link : Link) → Sound (given_to sent forwarded) link → All (IsOffered ground) (told_by 1 link)
+pub told_offered : (sent forwarded : List (List ℕ)) (link : Link) → Sound (given_to sent forwarded) link → All (IsOffered link_config) (observed_by 1 link)
 told_offered sent forwarded link sound =
-    All_right (IsOffered ground) (link.parties 1).delivered (told_by 1 link)
-    (subst (All (IsOffered ground)) (turned_told link 1) (delivered_offered sent forwarded (turned 1 link) (turned_sound (given_to sent forwarded) link 1 sound (omega arith))))
+    All_right (IsOffered link_config) (link.parties 1).delivered (observed_by 1 link)
+    (subst (All (IsOffered link_config)) (turned_told link 1) (delivered_offered sent forwarded (turned 1 link) (turned_sound (given_to sent forwarded) link 1 sound (omega arith))))
 
 -- The run
 
@@ -179,27 +179,27 @@ told_offered sent forwarded link sound =
 bytes_below : (bytes : List ℕ) → ((i : ℕ) → slice_index bytes i < 256) → All (λ byte. byte < 256) bytes
 bytes_below bytes small = λ k d below. subst (λ (b : ℕ). b < 256) (get_or_default bytes k 0 d below) (small k)
 
-sent_offered : (w : text.World) (s : Sent) → text.IsAllowed w s → IsOffered ground s.frame
+sent_offered : (w : text.World) (s : Sent) → text.IsAllowed w s → IsOffered link_config s.frame
 sent_offered w s is =
     let both = both_true (nat_le 14 (length s.frame)) (nat_le (length s.frame) 274) is.size in
     record { least = leb-true 14 (length s.frame) both.0; most = leb-true (length s.frame) 274 both.1; bytes = bytes_below s.frame is.bytes }
 
-each_offered : (w : text.World) (port : ℕ) (sent : List Sent) → AllByRecursion (text.IsAllowed w) sent → AllByRecursion (IsOffered ground) (frames_of port sent)
+each_offered : (w : text.World) (port : ℕ) (sent : List Sent) → AllByRecursion (text.IsAllowed w) sent → AllByRecursion (IsOffered link_config) (frames_of port sent)
 each_offered w port [] all = tt
 each_offered w port (s ∷ sent) all = one_sent (s.port == port) s sent (sent_offered w s all.0) (each_offered w port sent all.1)
   where
-    one_sent : (b : Bool) (s : Sent) (sent : List Sent) → IsOffered ground s.frame → AllByRecursion (IsOffered ground) (frames_of port sent) →
-        AllByRecursion (IsOffered ground) (map (λ (x : Sent). x.frame) (if b then s ∷ filter (λ (x : Sent). x.port == port) sent else filter (λ (x : Sent). x.port == port) sent))
+    one_sent : (b : Bool) (s : Sent) (sent : List Sent) → IsOffered link_config s.frame → AllByRecursion (IsOffered link_config) (frames_of port sent) →
+        AllByRecursion (IsOffered link_config) (map (λ (x : Sent). x.frame) (if b then s ∷ filter (λ (x : Sent). x.port == port) sent else filter (λ (x : Sent). x.port == port) sent))
     one_sent true s sent here later = (here, later)
     one_sent false s sent here later = later
 
-pub frames_offered : (w : text.World) (port : ℕ) → text.IsWorld w → All (IsOffered ground) (frames_of port w.sent)
+pub frames_offered : (w : text.World) (port : ℕ) → text.IsWorld w → All (IsOffered link_config) (frames_of port w.sent)
 frames_offered w port is =
-    All-from_recursion (IsOffered ground) (frames_of port w.sent) (each_offered w port w.sent (recursion_from_All (text.IsAllowed w) w.sent is.allowed))
+    All-from_recursion (IsOffered link_config) (frames_of port w.sent) (each_offered w port w.sent (recursion_from_All (text.IsAllowed w) w.sent is.allowed))
 
 -- the start
 
-start_sound : (frames : List (List ℕ)) → All (IsOffered ground) frames →
+start_sound : (frames : List (List ℕ)) → All (IsOffered link_config) frames →
     Sound (given_to frames []) (record { memory = λ w. 0; parties = λ p. starting (if p == 0 then frames else []) })
 start_sound frames may = record { runs = starts (λ w. 0) (λ p. fresh) (λ p. Closed) (λ w. refl) (λ p. refl) (λ p. refl); counted = counted; told = λ p below. refl; heads = λ p below frame is. absurd (cc); offered = offered }
   where
@@ -208,9 +208,9 @@ start_sound frames may = record { runs = starts (λ w. 0) (λ p. fresh) (λ p. C
     counted (suc zero) below = refl
     counted (suc (suc p)) below = absurd (omega arith)
 
-    offered : (p : ℕ) → p < 2 → All (IsOffered ground) (given_to frames [] p)
+    offered : (p : ℕ) → p < 2 → All (IsOffered link_config) (given_to frames [] p)
     offered zero below = may
-    offered (suc zero) below = All-nil (IsOffered ground)
+    offered (suc zero) below = All-nil (IsOffered link_config)
     offered (suc (suc p)) below = absurd (omega arith)
 
 pub started_going : (w : text.World) → text.IsWorld w → Going w.sent w.ports (started w.sent)
@@ -218,13 +218,13 @@ started_going w is = record { links = λ port below. start_sound (frames_of port
 
 -- a turn
 
-arriving_if : (w : World) (t : Turn) (b : Bool) → (P : List ℕ → Type 0) → AllByRecursion P (told_by 1 (w.links t.port)) → AllByRecursion (λ x. P x.frame) (if b then map (arrival t.port) (told_by 1 (w.links t.port)) else [])
-arriving_if w t true P all = arrivals_all P t.port (told_by 1 (w.links t.port)) all
+arriving_if : (w : World) (t : Turn) (b : Bool) → (P : List ℕ → Type 0) → AllByRecursion P (observed_by 1 (w.links t.port)) → AllByRecursion (λ x. P x.frame) (if b then map (arrival t.port) (observed_by 1 (w.links t.port)) else [])
+arriving_if w t true P all = arrivals_all P t.port (observed_by 1 (w.links t.port)) all
 arriving_if w t false P all = tt
 
-arriving_offered : (sent : List Sent) (ports : ℕ) (w : World) (t : Turn) → Going sent ports w → t.port < ports → AllByRecursion (λ x. IsOffered ground x.frame) (arriving w t)
+arriving_offered : (sent : List Sent) (ports : ℕ) (w : World) (t : Turn) → Going sent ports w → t.port < ports → AllByRecursion (λ x. IsOffered link_config x.frame) (arriving w t)
 arriving_offered sent ports w t going below =
-    arriving_if w t (t.end == 1) (IsOffered ground) (recursion_from_All (IsOffered ground) (told_by 1 (w.links t.port))
+    arriving_if w t (t.end == 1) (IsOffered link_config) (recursion_from_All (IsOffered link_config) (observed_by 1 (w.links t.port))
     (told_offered (frames_of t.port sent) (forward w.arrivals t.port) (w.links t.port) (going.links t.port below)))
 
 link_if : (sent : List Sent) (ports : ℕ) (w : World) (t : Turn) (port : ℕ) (b : Bool) → Going sent ports w → port < ports → t.end < 2 →
@@ -237,21 +237,21 @@ link_after : (sent : List Sent) (ports : ℕ) (w : World) (t : Turn) → Going s
 link_after sent ports w t going there end port below =
     let copies : List (List ℕ) = forwarded_after w.arrivals (arriving w t) port in
     let link : Link = if port == t.port then turned t.end (w.links port) else w.links port in
-    let may : All (IsOffered ground) copies =
-    All-from_recursion (IsOffered ground) copies (copies_all (IsOffered ground) w.arrivals (arriving w t) port (arriving_offered sent ports w t going there)) in
+    let may : All (IsOffered link_config) copies =
+    All-from_recursion (IsOffered link_config) copies (copies_all (IsOffered link_config) w.arrivals (arriving w t) port (arriving_offered sent ports w t going there)) in
     subst (λ (l : List (List ℕ)). Sound (given_to (frames_of port sent) l) (with_copies copies link)) (sym (forward_append w.arrivals (arriving w t) port))
     (copies_sound (frames_of port sent) (forward w.arrivals port) copies link (link_if sent ports w t port (port == t.port) going below end) may)
 
 -- what the bridge's end of a port has delivered after a turn
 told_after : (w : World) (t : Turn) (port end : ℕ) → end < 2 → t.port ≡ port → t.end ≡ end →
-    ((turned end (w.links port)).parties 1).delivered ≡ ((w.links port).parties 1).delivered ++ arrived_at port (if end == 1 then map (arrival port) (told_by 1 (w.links port)) else [])
-told_after w t port zero below at is = ap (λ (x : Party). x.delivered) (turned_other (w.links port) 0 1 (λ e. cc)) ∙ sym (append-nil ((w.links port).parties 1).delivered)
+    ((turned end (w.links port)).parties 1).delivered ≡ ((w.links port).parties 1).delivered ++ arrived_at port (if end == 1 then map (arrival port) (observed_by 1 (w.links port)) else [])
+told_after w t port zero below at is = ap (λ (x : AutoEnd). x.delivered) (turned_other (w.links port) 0 1 (λ e. cc)) ∙ sym (append-nil ((w.links port).parties 1).delivered)
 told_after w t port (suc zero) below at is =
-    turned_told (w.links port) 1 ∙ ap (λ (l : List (List ℕ)). ((w.links port).parties 1).delivered ++ l) (sym (arrived_own port (told_by 1 (w.links port))))
+    turned_told (w.links port) 1 ∙ ap (λ (l : List (List ℕ)). ((w.links port).parties 1).delivered ++ l) (sym (arrived_own port (observed_by 1 (w.links port))))
 told_after w t port (suc (suc n)) below at is = absurd (omega arith)
 
-none_from : (w : World) (t : Turn) (port : ℕ) (b : Bool) → t.port ≢ port → arrived_at port (if b then map (arrival t.port) (told_by 1 (w.links t.port)) else []) ≡ []
-none_from w t port true apart = arrived_other port t.port (told_by 1 (w.links t.port)) apart
+none_from : (w : World) (t : Turn) (port : ℕ) (b : Bool) → t.port ≢ port → arrived_at port (if b then map (arrival t.port) (observed_by 1 (w.links t.port)) else []) ≡ []
+none_from w t port true apart = arrived_other port t.port (observed_by 1 (w.links t.port)) apart
 none_from w t port false apart = refl
 
 arrived_if : (w : World) (t : Turn) (port : ℕ) (b : Bool) → t.end < 2 → (port == t.port) ≡ b →
@@ -259,7 +259,7 @@ arrived_if : (w : World) (t : Turn) (port : ℕ) (b : Bool) → t.end < 2 → (p
 arrived_if w t port true end is =
     let same : t.port ≡ port = sym (eqb-true port t.port is) in
     told_after w t port t.end end same refl ∙
-    ap (λ (k : ℕ). ((w.links port).parties 1).delivered ++ arrived_at port (if t.end == 1 then map (arrival k) (told_by 1 (w.links k)) else [])) (sym same)
+    ap (λ (k : ℕ). ((w.links port).parties 1).delivered ++ arrived_at port (if t.end == 1 then map (arrival k) (observed_by 1 (w.links k)) else [])) (sym same)
 arrived_if w t port false end is =
     sym (append-nil ((w.links port).parties 1).delivered) ∙
     ap (λ (l : List (List ℕ)). ((w.links port).parties 1).delivered ++ l) (sym (none_from w t port (t.end == 1) (λ e. eqb-false port t.port is (sym e))))
@@ -275,7 +275,7 @@ going_after sent ports w t going there end = record {
 
 -- The end
 
-honest_run : (memory : ℕ → ℕ) (ends : ℕ → End) (places : ℕ → Place) → CalmRuns ground memory ends places → HonestRuns ground memory ends places
+honest_run : (memory : ℕ → ℕ) (ends : ℕ → End) (places : ℕ → Place) → CalmRuns link_config memory ends places → HonestRuns link_config memory ends places
 honest_run _ _ _ (starts memory ends places none new closed) = honest.starts memory ends places none new closed
 honest_run _ _ _ (begins memory ends after_ends places after_places p call run below calm begun) =
     honest.begins memory ends after_ends places after_places p call (honest_run memory ends places run) below refl begun
@@ -287,7 +287,7 @@ pub delivers : (script : text.World) (w : World) (port : ℕ) → Going script.s
 delivers script w port going below =
     let link : Link = w.links port in
     let sound : Sound (given_to (frames_of port script.sent) (forward w.arrivals port)) link = going.links port below in
-    let all = deliver_lem ground link.memory (ends_in link) (places_in link) is_ground sound.runs in
+    let all = deliver_lem link_config link.memory (ends_in link) (places_in link) is_ground sound.runs in
     let station = (all.3 0 (omega arith)).2 in
     let bridge = (all.3 1 (omega arith)).2 in
     let arrived : arrived_at port w.arrivals ≡ (link.parties 1).end.delivered = going.arrived port below ∙ sound.told 1 (omega arith) in

@@ -1,26 +1,26 @@
 -- What a run keeps, turn by turn: of each link, and of all of them.
 use Rattle.std.specs.Prelude.{ℕ, ◌≡◌, ◌==◌, ◌<◌, if◌then◌else◌, Option, Some, None, List, ◌∷◌, ◌++◌, All}
 use Rattle.call_grammar.specs.Ends.{End}
-use Rattle.call_grammar.specs.Places.{Place, AtUsedIndex, AtUsedId, Filling, WritingLow, WritingHigh, WritingLength, WritingFlags, WritingEntry, WritingIndex}
-use Rattle.ends_pair.specs.Ground.{IsOffered}
+use Rattle.call_grammar.specs.Places.{Place, ReadingUsedIndex, ReadingUsedId, WritingFrameWord, WritingDescAddressLow, WritingDescAddressHigh, WritingDescLength, WritingDescFlags, WritingAvailEntry, WritingAvailIndex}
+use Rattle.link_invariant.specs.LinkConfig.{IsOffered}
 use Rattle.pair_sessions.specs.Once.{CalmRuns}
 use Rattle.bridge_text.specs.declared.scripts.Sent.{Sent}
 use Rattle.frame_bridge.specs.Forwarding.{forward}
-use Rattle.frame_bridge.specs.Links.{ground, Link}
+use Rattle.frame_bridge.specs.Links.{link_config, Link}
 use Rattle.frame_bridge.specs.Run.{World, frames_of}
 use Rattle.frame_bridge.specs.Output.{arrived_at}
 
 -- the frame of the open offer
 abbrev pub job_frame : Place → Option (List ℕ)
-job_frame (AtUsedIndex job freed) = Some job.frame
-job_frame (AtUsedId job freed more) = Some job.frame
-job_frame (Filling job at more) = Some job.frame
-job_frame (WritingLow job) = Some job.frame
-job_frame (WritingHigh job) = Some job.frame
-job_frame (WritingLength job) = Some job.frame
-job_frame (WritingFlags job) = Some job.frame
-job_frame (WritingEntry job) = Some job.frame
-job_frame (WritingIndex job) = Some job.frame
+job_frame (ReadingUsedIndex pending freed) = Some pending.frame
+job_frame (ReadingUsedId pending freed more) = Some pending.frame
+job_frame (WritingFrameWord pending at more) = Some pending.frame
+job_frame (WritingDescAddressLow pending) = Some pending.frame
+job_frame (WritingDescAddressHigh pending) = Some pending.frame
+job_frame (WritingDescLength pending) = Some pending.frame
+job_frame (WritingDescFlags pending) = Some pending.frame
+job_frame (WritingAvailEntry pending) = Some pending.frame
+job_frame (WritingAvailIndex pending) = Some pending.frame
 job_frame _ = None
 
 -- it is the first of the frames to come
@@ -36,11 +36,11 @@ places_in link p = (link.parties p).place
 -- A link whose ends have come here without stops and resets; whose frames, of which end p was given these, are accepted or still to come; and which has told
 -- all that it delivered
 pub record Sound (given : ℕ → List (List ℕ)) (link : Link) : Type 0 where
-  pub runs : CalmRuns ground link.memory (ends_in link) (places_in link)
+  pub runs : CalmRuns link_config link.memory (ends_in link) (places_in link)
   pub counted : (p : ℕ) → p < 2 → given p ≡ (link.parties p).end.accepted ++ (link.parties p).frames
   pub told : (p : ℕ) → p < 2 → (link.parties p).delivered ≡ (link.parties p).end.delivered
   pub heads : (p : ℕ) → p < 2 → HeadIs (link.parties p).place (link.parties p).frames
-  pub offered : (p : ℕ) → p < 2 → All (IsOffered ground) (given p)
+  pub offered : (p : ℕ) → p < 2 → All (IsOffered link_config) (given p)
 
 -- the station is given the frames that it sends, and the bridge's end those that are forwarded to its port
 abbrev pub given_to : (sent forwarded : List (List ℕ)) → ℕ → List (List ℕ)

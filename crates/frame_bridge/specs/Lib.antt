@@ -1,9 +1,9 @@
 pub mod Forwarding
-pub mod Standing
-pub mod Kept
+pub mod BridgeView
+pub mod Representation
 pub mod Laws
 pub mod Links
 pub mod Run
 pub mod Output
 pub mod Keeps
-pub mod Held
+pub mod Refinement

@@ -4,14 +4,14 @@ use Rattle.split_ring.specs.declared.steps.Access.{Access}
 use Rattle.split_ring.specs.declared.steps.Access.TheVariants as access
 use Rattle.call_grammar.specs.Steps.{Mark, Accept, Deliver}
 use Rattle.call_grammar.specs.Ends.{End, fresh, end_after}
-use Rattle.call_grammar.specs.Calls.{Who, Tick, Offer, Poll}
+use Rattle.call_grammar.specs.Calls.{EndConfig, Tick, Offer, Poll}
 use Rattle.call_grammar.specs.Places.{Place, Closed, first_place, access_at, marks_at, next_place, step_at, is_open}
 use Rattle.call_grammar.specs.Automatic.{Round, Anew, AfterOffer, AfterPoll, Choice, ChoosesTick, ChoosesOffer, ChoosesPoll, IsFinished, choice_of}
-use Rattle.ends_pair.specs.Ground.{Ground, who_of}
+use Rattle.link_invariant.specs.LinkConfig.{LinkConfig, config_of}
 
 -- A region of two peers: a State Table of 4,096 bytes, no common section, and sections of 16,384 bytes with a queue of version 1 for an MTU of 256. Doorbells have vector 1
-abbrev pub ground : Ground
-ground = record { first = 1024; words = 4096; sizes = record { version = 1; out = 16384; mtu = 256 }; vector = 1 }
+abbrev pub link_config : LinkConfig
+link_config = record { first = 1024; words = 4096; sizes = record { version = 1; out = 16384; mtu = 256 }; vector = 1 }
 
 -- how many deliveries each end expects: more than there can be, so none is ever finished
 abbrev pub expected : ℕ
@@ -20,29 +20,29 @@ expected = 18446744073709551615
 -- An end that chooses its calls
 
 -- where it stands, and its place in the open call; its frames that weren't accepted yet, and its round; and the frames that it delivered in the whole run
-pub record Party : Type 0 where
+pub record AutoEnd : Type 0 where
   pub end : End
   pub place : Place
   pub frames : List (List ℕ)
   pub round : Round
   pub delivered : List (List ℕ)
 
-abbrev pub starting : List (List ℕ) → Party
+abbrev pub starting : List (List ℕ) → AutoEnd
 starting frames = record { end = fresh; place = Closed; frames = frames; round = Anew; delivered = [] }
 
 -- what it chooses where no call is open
-abbrev pub choice : Party → Choice
+abbrev pub choice : AutoEnd → Choice
 choice party = choice_of party.end.handshake.phase party.round party.frames (length party.delivered) expected
 
-abbrev pub with_choice : Who → Party → Choice → Party
-with_choice who party ChoosesTick = record party { place = first_place who party.end Tick; round = Anew }
-with_choice who party (ChoosesOffer frame) = record party { place = first_place who party.end (Offer frame); round = AfterOffer }
-with_choice who party ChoosesPoll = record party { place = first_place who party.end Poll; round = AfterPoll }
-with_choice who party IsFinished = party
+abbrev pub with_choice : EndConfig → AutoEnd → Choice → AutoEnd
+with_choice config party ChoosesTick = record party { place = first_place config party.end Tick; round = Anew }
+with_choice config party (ChoosesOffer frame) = record party { place = first_place config party.end (Offer frame); round = AfterOffer }
+with_choice config party ChoosesPoll = record party { place = first_place config party.end Poll; round = AfterPoll }
+with_choice config party IsFinished = party
 
 -- the open call, or the one that it chooses
-abbrev pub opened : Who → Party → Party
-opened who party = if is_open party.place then party else with_choice who party (choice party)
+abbrev pub opened : EndConfig → AutoEnd → AutoEnd
+opened config party = if is_open party.place then party else with_choice config party (choice party)
 
 -- the frames to come after these marks: the first goes with each that is accepted
 abbrev pub left_after : List (List ℕ) → List Mark → List (List ℕ)
@@ -57,17 +57,17 @@ delivered_by (Deliver frame ∷ marks) = frame ∷ delivered_by marks
 delivered_by (_ ∷ marks) = delivered_by marks
 
 -- an end that was told of these marks
-abbrev pub counted : Party → List Mark → Party
+abbrev pub counted : AutoEnd → List Mark → AutoEnd
 counted party marks = record party { frames = left_after party.frames marks; delivered = party.delivered ++ delivered_by marks }
 
 -- the step of its open call that meets this value
-abbrev pub stepped : Who → ℕ → Party → Party
-stepped who value party = record {
-  end = end_after party.end (step_at who party.place value);
-  place = next_place who party.place value;
-  frames = left_after party.frames (marks_at who party.place value);
+abbrev pub stepped : EndConfig → ℕ → AutoEnd → AutoEnd
+stepped config value party = record {
+  end = end_after party.end (step_at config party.place value);
+  place = next_place config party.place value;
+  frames = left_after party.frames (marks_at config party.place value);
   round = party.round;
-  delivered = party.delivered ++ delivered_by (marks_at who party.place value);
+  delivered = party.delivered ++ delivered_by (marks_at config party.place value);
 }
 
 -- The link
@@ -85,30 +85,30 @@ words_after p memory _ = memory
 
 pub record Link : Type 0 where
   pub memory : ℕ → ℕ
-  pub parties : ℕ → Party
+  pub parties : ℕ → AutoEnd
 
-abbrev pub put_party : (ℕ → Party) → ℕ → Party → ℕ → Party
-put_party parties p party q = if q == p then party else parties q
+abbrev pub with_end : (ℕ → AutoEnd) → ℕ → AutoEnd → ℕ → AutoEnd
+with_end parties p party q = if q == p then party else parties q
 
-abbrev pub step_of_link : ℕ → Link → Party → Link
+abbrev pub step_of_link : ℕ → Link → AutoEnd → Link
 step_of_link p link party = record {
-  memory = words_after p link.memory (access_at (who_of ground p) party.place);
-  parties = put_party link.parties p (stepped (who_of ground p) (value_in link.memory (access_at (who_of ground p) party.place)) party);
+  memory = words_after p link.memory (access_at (config_of link_config p) party.place);
+  parties = with_end link.parties p (stepped (config_of link_config p) (value_in link.memory (access_at (config_of link_config p) party.place)) party);
 }
 
 -- the link after a turn of end p: the next step of its open call or of the one that it chooses, or nothing where it is finished
 abbrev pub turned : ℕ → Link → Link
 turned p link =
-    if is_open (opened (who_of ground p) (link.parties p)).place then step_of_link p link (opened (who_of ground p) (link.parties p)) else link
+    if is_open (opened (config_of link_config p) (link.parties p)).place then step_of_link p link (opened (config_of link_config p) (link.parties p)) else link
 
 -- the frames that this turn delivers
-abbrev pub told_by : ℕ → Link → List (List ℕ)
-told_by p link =
-    if is_open (opened (who_of ground p) (link.parties p)).place
-    then delivered_by (marks_at (who_of ground p) (opened (who_of ground p) (link.parties p)).place
-    (value_in link.memory (access_at (who_of ground p) (opened (who_of ground p) (link.parties p)).place)))
+abbrev pub observed_by : ℕ → Link → List (List ℕ)
+observed_by p link =
+    if is_open (opened (config_of link_config p) (link.parties p)).place
+    then delivered_by (marks_at (config_of link_config p) (opened (config_of link_config p) (link.parties p)).place
+    (value_in link.memory (access_at (config_of link_config p) (opened (config_of link_config p) (link.parties p)).place)))
     else []
 
 -- these frames come to those of the bridge's end
 abbrev pub with_copies : List (List ℕ) → Link → Link
-with_copies copies link = record link { parties = put_party link.parties 1 (record (link.parties 1) { frames = (link.parties 1).frames ++ copies }) }
+with_copies copies link = record link { parties = with_end link.parties 1 (record (link.parties 1) { frames = (link.parties 1).frames ++ copies }) }

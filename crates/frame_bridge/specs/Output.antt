@@ -2,15 +2,15 @@
 -- are known (profile).
 use Rattle.std.specs.Prelude.{ℕ, ◌≡◌, ◌-◌, ◌<◌, ◌==◌, List, [], ◌∷◌, ◌++◌, length, map, filter, codes}
 use Rattle.std.specs.List.{flat_map}
-use Rattle.line_text.specs.Forms.{Piece, Word, Number, Hex}
-use Rattle.line_text.specs.Rows.{Row, row, text_of}
-use Rattle.ends_pair.specs.Runs.{HonestRuns}
+use Rattle.line_format.specs.Forms.{Piece, Word, Number, Hex}
+use Rattle.line_format.specs.Rows.{Row, row, text_of}
+use Rattle.link_invariant.specs.Runs.{HonestRuns}
 use Rattle.bridge_text.specs.Spelling as text
 use Rattle.bridge_text.specs.Spelling.{IsSpelling}
 use Rattle.frame_bridge.specs.declared.output.Line.{Line}
 use Rattle.frame_bridge.specs.declared.output.Line.TheVariants.{Arrive, Port, Out, Left, Known, End}
 use Rattle.frame_bridge.specs.Forwarding.{Arrival, first_ports, forward, known_count}
-use Rattle.frame_bridge.specs.Links.{ground}
+use Rattle.frame_bridge.specs.Links.{link_config}
 use Rattle.frame_bridge.specs.Run.{World, frames_of, run_of}
 
 abbrev pub any_number : Piece
@@ -58,7 +58,7 @@ arrived_at port arrivals = map (λ a. a.frame) (filter (λ a. a.port == port) ar
 -- of each port: its ends are two honest ends of a link, over the words of its region; what arrived at it begins the frames that its station sends; and what its
 -- station delivered begins what was forwarded to it, and the rest is left
 pub record Delivers (script : text.World) (w : World) (port : ℕ) : Type 0 where
-  pub runs : HonestRuns ground (w.links port).memory (λ p. ((w.links port).parties p).end) (λ p. ((w.links port).parties p).place)
+  pub runs : HonestRuns link_config (w.links port).memory (λ p. ((w.links port).parties p).end) (λ p. ((w.links port).parties p).place)
   pub arrives : (rest : List (List ℕ)) × (frames_of port script.sent ≡ arrived_at port w.arrivals ++ rest)
   pub goes_out : (rest : List (List ℕ)) × (forward w.arrivals port ≡ outs w port ++ rest) × (left w port ≡ length rest)
 

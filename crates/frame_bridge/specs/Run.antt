@@ -4,8 +4,8 @@ use Rattle.std.specs.List.{flat_map}
 use Rattle.bridge_text.specs.declared.scripts.Sent.{Sent}
 use Rattle.bridge_text.specs.Spelling as text
 use Rattle.frame_bridge.specs.Forwarding.{Arrival, first_ports, forwarded_after}
-use Rattle.frame_bridge.specs.Standing.{arrival}
-use Rattle.frame_bridge.specs.Links.{Link, starting, turned, told_by, with_copies}
+use Rattle.frame_bridge.specs.BridgeView.{arrival}
+use Rattle.frame_bridge.specs.Links.{Link, starting, turned, observed_by, with_copies}
 
 -- the link of each port, and the arrivals so far
 pub record World : Type 0 where
@@ -50,7 +50,7 @@ started sent = record {
 
 -- what arrives on a turn: what the bridge's end delivers
 abbrev pub arriving : World → Turn → List Arrival
-arriving w t = if t.end == 1 then map (arrival t.port) (told_by 1 (w.links t.port)) else []
+arriving w t = if t.end == 1 then map (arrival t.port) (observed_by 1 (w.links t.port)) else []
 
 -- the world after a turn: the link goes on, and each frame that arrives is put to those of each port to which it goes
 abbrev pub world_after : World → Turn → World

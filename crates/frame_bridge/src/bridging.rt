@@ -1,7 +1,7 @@
 //! The run of a text, from its bytes to its output.
 ghost use Rattle.std.specs.Prelude.{◌≡◌, ℕ, List, ◌++◌, ◌∷◌, [], ◌-◌, ◌^◌, ◌<◌, ◌≤◌, length, IfOk, IfErr, OnOk, Some, slice_get};
 ghost use Rattle.std.specs.List.{flat_map};
-ghost use Rattle.line_text.specs.Rows.{text_of};
+ghost use Rattle.line_format.specs.Rows.{text_of};
 ghost use Rattle.bridge_text.specs.declared.faults.BridgeFault.TheVariants.{NoMemory as OutOfMemory};
 ghost use Rattle.bridge_text.specs.declared.scripts.Sent.{Sent as SentFrame};
 ghost use Rattle.bridge_text.specs.Answers.{Refuses};
@@ -11,10 +11,10 @@ ghost use Rattle.bridge_text.specs.Spelling.{IsSpelling, IsWorld, world_of};
 ghost use Rattle.section_map.specs.Geometry.{Shape};
 ghost use Rattle.frame_bridge.specs.declared.ports.Port.{Port as HeldPort};
 ghost use Rattle.frame_bridge.specs.Forwarding.{first_ports, forward};
-ghost use Rattle.frame_bridge.specs.Links.{ground};
+ghost use Rattle.frame_bridge.specs.Links.{link_config};
 ghost use Rattle.frame_bridge.specs.Run.{World, started, run_of};
 ghost use Rattle.frame_bridge.specs.Output.{pieces_of, port_rows, outs, IsBridged, IsOutput, output_of};
-ghost use Rattle.frame_bridge.specs.Held.{shape, PortStands, ArePorts, RunStands, IsThere};
+ghost use Rattle.frame_bridge.specs.Refinement.{shape, PortRefines, ArePorts, RunRefines, IsThere};
 
 use crate::learning::Bridge;
 use crate::output::{Line, put};
@@ -38,7 +38,7 @@ fn region() -> Geometry
 
 /// The queue of such a section, for an MTU of 256.
 fn section() -> Queue
-    ensures { result ≡ ground.sizes }
+    ensures { result ≡ link_config.sizes }
 {
     match Queue::of(16_384, 256) {
         Ok(queue) => queue,
@@ -49,7 +49,7 @@ fn section() -> Queue
 /// So many ports at their start, whose stations send nothing.
 fn ports_at_start(alloc: Global, count: u32) -> Result<Vec<Port>, NoMemory>
     ensures long { IfOk result (λ ports. length ports.items ≡ count) }
-    ensures each { IfOk result (λ ports. (k : ℕ) (port : HeldPort) → slice_get ports.items k ≡ Some port → PortStands ((started []).links k) [] port) }
+    ensures each { IfOk result (λ ports. (k : ℕ) (port : HeldPort) → slice_get ports.items k ≡ Some port → PortRefines ((started []).links k) [] port) }
 {
     let geometry = region();
     let queue = section();
@@ -64,7 +64,7 @@ impl Run {
     /// A run of so many ports at its start, whose stations send nothing.
     fn new(alloc: Global, ports: u32) -> Result<Run, NoMemory>
         requires { (2 ≤ ports) × (ports ≤ 8) }
-        ensures { IfOk result (RunStands ports (started [])) }
+        ensures { IfOk result (RunRefines ports (started [])) }
     {
         Ok(Run {
             bridge: Bridge::new(alloc, ports)?,
@@ -76,7 +76,7 @@ impl Run {
     /// Gives each station the frames that it sends.
     fn send(&mut self, sent: SentFrames) -> Result<(), NoMemory>
         requires { (k : ℕ) (s : SentFrame) → slice_get sent k ≡ Some s → s.port < length self.old.ports.items }
-        ensures { (ports : ℕ) → RunStands ports (started []) self.old → OnOk result (RunStands ports (started sent) self.new) }
+        ensures { (ports : ℕ) → RunRefines ports (started []) self.old → OnOk result (RunRefines ports (started sent) self.new) }
     {
         for one in sent.into_items() {
             let port = &mut self.ports[one.port as usize];
@@ -89,7 +89,7 @@ impl Run {
 /// Puts the lines of a port last: the frames that its station delivered, and how many forwarded ones are left.
 fn put_port(out: &mut Vec<u8>, number: u64, port: &Port) -> Result<(), NoMemory>
     requires { port.now.delivered ≤ port.now.forwarded }
-    ensures { (w : World) → PortStands (w.links number) (forward w.arrivals number) port.now → length (forward w.arrivals number) < 2 ^ 64 →
+    ensures { (w : World) → PortRefines (w.links number) (forward w.arrivals number) port.now → length (forward w.arrivals number) < 2 ^ 64 →
         length (outs w number) ≤ length (forward w.arrivals number) → OnOk result (out.new.items ≡ out.old.items ++ text_of pieces_of (port_rows w number)) }
 {
     put(out, Line::Port, &[number], &[])?;

@@ -1,7 +1,7 @@
 //! What a bridge learns of the frames that arrive, and the ports to which it forwards them.
 ghost use Rattle.std.specs.Prelude.{◌≡◌, ℕ, List, ◌+◌, ◌<◌, ◌≤◌, ◌++◌, ◌∷◌, [], length, take, drop, filter, IfOk, OnErr, OnOk};
 ghost use Rattle.frame_bridge.specs.Forwarding.{Arrival, is_group, source, destination, goes_to, port_of, known_count, ports_for, is_forwarded, first_ports};
-ghost use Rattle.frame_bridge.specs.Standing.{StandsAfter, arrival};
+ghost use Rattle.frame_bridge.specs.BridgeView.{RefinesArrivals, arrival};
 
 use arrayvec::ArrayVec;
 use ivs_base::NoMemory;
@@ -23,14 +23,14 @@ pub struct Bridge {
 }
 
 impl Model for Bridge {
-    ghost use Rattle.frame_bridge.specs.Standing.{View};
-    ghost use Rattle.frame_bridge.specs.Kept.{seen, IsKept};
+    ghost use Rattle.frame_bridge.specs.BridgeView.{View};
+    ghost use Rattle.frame_bridge.specs.Representation.{seen, IsWellFormed};
 
     ghost Value = { View };
 
     ghost view = { seen };
 
-    ghost invariant = { IsKept };
+    ghost invariant = { IsWellFormed };
 }
 
 /// Is it an address of a group? Bit 0 of its first byte says so.
@@ -55,7 +55,7 @@ impl Bridge {
     pub fn new(alloc: Global, ports: u32) -> Result<Bridge, NoMemory>
         requires { (2 ≤ ports) × (ports ≤ 8) }
         ensures ports { IfOk result (λ bridge. bridge.ports ≡ ports) }
-        ensures stands { IfOk result (λ bridge. StandsAfter bridge []) }
+        ensures refines { IfOk result (λ bridge. RefinesArrivals bridge []) }
     {
         Ok(Bridge {
             ports,
@@ -71,10 +71,10 @@ impl Bridge {
     pub fn arrive(&mut self, port: u32, frame: &[u8]) -> Result<ArrayVec<u32, 8>, NoMemory>
         requires port { port < self.old.ports }
         requires frame { 14 ≤ length frame.now }
-        ensures ports { (earlier : List Arrival) → StandsAfter self.old earlier →
+        ensures ports { (earlier : List Arrival) → RefinesArrivals self.old earlier →
             IfOk result (λ ports. ports.items ≡ ports_for self.old.ports earlier (arrival port frame.now)) }
-        ensures stands { (earlier : List Arrival) → StandsAfter self.old earlier →
-            OnOk result (StandsAfter self.new (earlier ++ arrival port frame.now ∷ [])) }
+        ensures refines { (earlier : List Arrival) → RefinesArrivals self.old earlier →
+            OnOk result (RefinesArrivals self.new (earlier ++ arrival port frame.now ∷ [])) }
         ensures same { self.new.ports ≡ self.old.ports }
         ensures unchanged { OnErr result (self.new ≡ self.old) }
     {
@@ -84,7 +84,7 @@ impl Bridge {
 
     /// How many addresses are known.
     pub fn known(&self) -> u32
-        ensures count { (arrivals : List Arrival) → StandsAfter self.now arrivals → result ≡ known_count arrivals }
+        ensures count { (arrivals : List Arrival) → RefinesArrivals self.now arrivals → result ≡ known_count arrivals }
         ensures most { result ≤ 1024 }
     {
         self.table.len() as u32
@@ -92,7 +92,7 @@ impl Bridge {
 
     /// The port of an address, or None where it isn't known.
     pub fn port_of(&self, address: &[u8; 6]) -> Option<u32>
-        ensures { (arrivals : List Arrival) → StandsAfter self.now arrivals → result ≡ port_of arrivals address.now }
+        ensures { (arrivals : List Arrival) → RefinesArrivals self.now arrivals → result ≡ port_of arrivals address.now }
     {
         self.table.get(address).copied()
     }
@@ -123,8 +123,8 @@ fn ports_of(count: u32, known: Option<u32>, from: u32) -> ArrayVec<u32, 8>
 impl Bridge {
     /// Learns that an address is at this port, where it may be learned.
     fn learn(&mut self, port: u32, address: &[u8; 6]) -> Result<(), NoMemory>
-        ensures stands { (earlier : List Arrival) (frame : List ℕ) → StandsAfter self.old earlier → source frame ≡ address.now →
-            OnOk result (StandsAfter self.new (earlier ++ arrival port frame ∷ [])) }
+        ensures refines { (earlier : List Arrival) (frame : List ℕ) → RefinesArrivals self.old earlier → source frame ≡ address.now →
+            OnOk result (RefinesArrivals self.new (earlier ++ arrival port frame ∷ [])) }
         ensures same { self.new.ports ≡ self.old.ports }
         ensures unchanged { OnErr result (self.new ≡ self.old) }
     {
@@ -139,7 +139,7 @@ impl Bridge {
 
     /// The ports to which a frame from this port to this address goes.
     fn forwards(&self, port: u32, address: &[u8; 6]) -> ArrayVec<u32, 8>
-        ensures { (arrivals : List Arrival) (frame : List ℕ) → StandsAfter self.now arrivals → destination frame ≡ address.now →
+        ensures { (arrivals : List Arrival) (frame : List ℕ) → RefinesArrivals self.now arrivals → destination frame ≡ address.now →
             result.items ≡ filter (is_forwarded arrivals (arrival port frame)) (first_ports self.now.ports) }
     {
         let known = if is_group(address) {

@@ -7,7 +7,7 @@
 //! - The definition keeps no map: it looks back over the list of arrivals, whether an address is learned, and at which port it is. The code
 //!   keeps a map, and its standing says that both agree of every address. It takes memory for nothing else, so without memory a bridge is
 //!   unchanged.
-//! - A port's run is that of two honest ends over memory (`HonestRuns` of `ends_pair`), and its laws are cited once a port. The definition
+//! - A port's run is that of two honest ends over memory (`HonestRuns` of `link_invariant`), and its laws are cited once a port. The definition
 //!   of the run is a function (`run_of`), and what holds of it is a record beside it (`Delivers`).
 //! - The counts of a port, forwarded and delivered, stop at the greatest number of 64 bits. That they are exact is proved at the run's end,
 //!   since a text has 10,000 frames at most.
@@ -15,11 +15,11 @@
 //!   one copy of a frame for each port to which it goes.
 #![tactic(auto)]
 
+mod auto_ends;
 mod bridging;
 mod laws;
 mod learning;
 mod output;
-mod parties;
 mod ports;
 mod run;
 

@@ -1,10 +1,10 @@
 //! The lines of an output, by a table of their forms.
 ghost use Rattle.std.specs.Prelude.{◌≡◌, ◌++◌, OnOk};
-ghost use Rattle.line_text.specs.Forms.{pieces};
-ghost use Rattle.line_text.specs.Rows.{row, line_of_row};
+ghost use Rattle.line_format.specs.Forms.{pieces};
+ghost use Rattle.line_format.specs.Rows.{row, line_of_row};
 ghost use Rattle.frame_bridge.specs.Output.{pieces_of};
 
-use line_text::{Slot, put_line};
+use line_format::{FieldKind, put_line};
 use std::alloc::AllocError;
 
 /// A form of a line of an output.
@@ -24,26 +24,26 @@ pub enum Line {
     End,
 }
 
-const ANY: Slot = Slot::Number(0, u64::MAX);
+const ANY: FieldKind = FieldKind::Number(0, u64::MAX);
 
 impl Line {
     /// What stands in the fields of the form.
-    pub fn slots(self) -> &'static [Slot]
+    pub fn slots(self) -> &'static [FieldKind]
         ensures { pieces result.now ≡ pieces_of self }
     {
         match self {
-            Line::Arrive => &[Slot::Word(b"arrive"), ANY, Slot::Hex],
-            Line::Port => &[Slot::Word(b"port"), ANY],
-            Line::Out => &[Slot::Word(b"out"), Slot::Hex],
-            Line::Left => &[Slot::Word(b"left"), ANY],
-            Line::Known => &[Slot::Word(b"known"), ANY],
-            Line::End => &[Slot::Word(b"end")],
+            Line::Arrive => &[FieldKind::Word(b"arrive"), ANY, FieldKind::Hex],
+            Line::Port => &[FieldKind::Word(b"port"), ANY],
+            Line::Out => &[FieldKind::Word(b"out"), FieldKind::Hex],
+            Line::Left => &[FieldKind::Word(b"left"), ANY],
+            Line::Known => &[FieldKind::Word(b"known"), ANY],
+            Line::End => &[FieldKind::Word(b"end")],
         }
     }
 }
 
 /// Puts the line of a form last.
-#[tactic(auto, unfolding(line_text::specs::Rows::line_of_row))]
+#[tactic(auto, unfolding(line_format::specs::Rows::line_of_row))]
 pub fn put(out: &mut Vec<u8>, line: Line, numbers: &[u64], bytes: &[u8]) -> Result<(), AllocError>
     ensures { OnOk result (out.new.items ≡ out.old.items ++ line_of_row pieces_of (row line numbers.now bytes.now)) }
 {

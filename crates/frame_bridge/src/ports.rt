@@ -1,13 +1,13 @@
 //! A port of a bridge: the link between its station and the bridge's end, and what it tells of it.
 ghost use Rattle.std.specs.Prelude.{◌≡◌, ℕ, List, ◌++◌, ◌∷◌, [], All, IfOk, OnOk};
-ghost use Rattle.ends_pair.specs.Ground.{IsOffered};
+ghost use Rattle.link_invariant.specs.LinkConfig.{IsOffered};
 ghost use Rattle.link_endpoint.specs.Engine.{delivered};
 ghost use Rattle.frame_bridge.specs.Links as links;
-ghost use Rattle.frame_bridge.specs.Links.{ground, turned, told_by};
-ghost use Rattle.frame_bridge.specs.Held.{shape, PortStands, start_link, with_copy, if_told};
+ghost use Rattle.frame_bridge.specs.Links.{link_config, turned, observed_by};
+ghost use Rattle.frame_bridge.specs.Refinement.{shape, PortRefines, start_link, with_copy, delivered_if};
 
+use crate::auto_ends::AutoEnd;
 use crate::output::{Line, put};
-use crate::parties::Party;
 use ivs_base::{Frame, NoMemory};
 use section_map::{Geometry, Region};
 use split_ring::Queue;
@@ -18,8 +18,8 @@ use std::alloc::Global;
 #[derive(Debug, Drop)]
 pub struct Port {
     pub region: Region,
-    pub station: Party,
-    pub own: Party,
+    pub station: AutoEnd,
+    pub own: AutoEnd,
     pub outs: Vec<u8>,
     pub delivered: u64,
     pub forwarded: u64,
@@ -29,13 +29,13 @@ impl Port {
     /// A port at its start, whose station sends nothing.
     pub fn new(alloc: Global, geometry: &Geometry, queue: &Queue) -> Result<Port, NoMemory>
         requires geometry { geometry.now ≡ shape }
-        requires queue { queue.now ≡ ground.sizes }
-        ensures { IfOk result (λ port. PortStands (start_link []) [] port) }
+        requires queue { queue.now ≡ link_config.sizes }
+        ensures { IfOk result (λ port. PortRefines (start_link []) [] port) }
     {
         Ok(Port {
             region: Region::new(alloc, geometry)?,
-            station: Party::new(alloc, 0, geometry, queue)?,
-            own: Party::new(alloc, 1, geometry, queue)?,
+            station: AutoEnd::new(alloc, 0, geometry, queue)?,
+            own: AutoEnd::new(alloc, 1, geometry, queue)?,
             outs: Vec::new(alloc),
             delivered: 0,
             forwarded: 0,
@@ -44,17 +44,17 @@ impl Port {
 
     /// Puts a frame after those that the station sends, before its first turn.
     pub fn send(&mut self, frame: Frame) -> Result<(), NoMemory>
-        ensures { (frames : List (List ℕ)) → PortStands (start_link frames) [] self.old →
-            OnOk result (PortStands (start_link (frames ++ frame ∷ [])) [] self.new) }
+        ensures { (frames : List (List ℕ)) → PortRefines (start_link frames) [] self.old →
+            OnOk result (PortRefines (start_link (frames ++ frame ∷ [])) [] self.new) }
     {
         self.station.auto.add(frame)
     }
 
     /// A turn of the station.
     pub fn station_turn(&mut self) -> Result<(), NoMemory>
-        requires { (link : links.Link) × (forwarded : List (List ℕ)) × PortStands link forwarded self.old × All (IsOffered ground) (link.parties 0).frames }
-        ensures { (link : links.Link) (forwarded : List (List ℕ)) → PortStands link forwarded self.old →
-            OnOk result (PortStands (turned 0 link) forwarded self.new) }
+        requires { (link : links.Link) × (forwarded : List (List ℕ)) × PortRefines link forwarded self.old × All (IsOffered link_config) (link.parties 0).frames }
+        ensures { (link : links.Link) (forwarded : List (List ℕ)) → PortRefines link forwarded self.old →
+            OnOk result (PortRefines (turned 0 link) forwarded self.new) }
     {
         if self.station.take_turn(&mut self.region, 0) {
             put(&mut self.outs, Line::Out, &[], self.station.end.delivered())?;
@@ -65,10 +65,10 @@ impl Port {
 
     /// A turn of the bridge's end. Does a frame arrive?
     pub fn own_turn(&mut self) -> bool
-        requires { (link : links.Link) × (forwarded : List (List ℕ)) × PortStands link forwarded self.old × All (IsOffered ground) (link.parties 1).frames }
-        ensures stands { (link : links.Link) (forwarded : List (List ℕ)) → PortStands link forwarded self.old → PortStands (turned 1 link) forwarded self.new }
-        ensures told { (link : links.Link) (forwarded : List (List ℕ)) → PortStands link forwarded self.old →
-            told_by 1 link ≡ if_told result (delivered self.new.own.end) }
+        requires { (link : links.Link) × (forwarded : List (List ℕ)) × PortRefines link forwarded self.old × All (IsOffered link_config) (link.parties 1).frames }
+        ensures refines { (link : links.Link) (forwarded : List (List ℕ)) → PortRefines link forwarded self.old → PortRefines (turned 1 link) forwarded self.new }
+        ensures told { (link : links.Link) (forwarded : List (List ℕ)) → PortRefines link forwarded self.old →
+            observed_by 1 link ≡ delivered_if result (delivered self.new.own.end) }
     {
         self.own.take_turn(&mut self.region, 1)
     }

@@ -6,7 +6,7 @@ ghost use Rattle.link_endpoint.specs.Engine.{delivered};
 ghost use Rattle.frame_bridge.specs.declared.ports.Port.{Port as HeldPort};
 ghost use Rattle.frame_bridge.specs.Forwarding.{first_ports};
 ghost use Rattle.frame_bridge.specs.Run.{World, turn, times, turns_of, schedule, ran, world_after};
-ghost use Rattle.frame_bridge.specs.Held.{RunStands, IsThere, with_arrival};
+ghost use Rattle.frame_bridge.specs.Refinement.{RunRefines, IsThere, with_arrival};
 
 use crate::learning::Bridge;
 use crate::output::{Line, put};
@@ -39,10 +39,10 @@ impl Run {
     /// The frame that the bridge's end of this port delivered last arrives: its line is written, and a copy of it goes to each port to which
     /// it is forwarded.
     fn arrive(&mut self, alloc: Global, from: usize) -> Result<(), NoMemory>
-        requires stands { (w : World) × (ports : ℕ) × RunStands ports w self.old × (from < ports) × (ports ≤ 8) }
+        requires refines { (w : World) × (ports : ℕ) × RunRefines ports w self.old × (from < ports) × (ports ≤ 8) }
         requires frame { (port : HeldPort) → slice_get self.old.ports.items from ≡ Some port → 14 ≤ length (delivered port.own.end) }
-        ensures { (w : World) (ports : ℕ) (port : HeldPort) → RunStands ports w self.old → slice_get self.old.ports.items from ≡ Some port →
-            OnOk result (RunStands ports (with_arrival w from (delivered port.own.end)) self.new) }
+        ensures { (w : World) (ports : ℕ) (port : HeldPort) → RunRefines ports w self.old → slice_get self.old.ports.items from ≡ Some port →
+            OnOk result (RunRefines ports (with_arrival w from (delivered port.own.end)) self.new) }
     {
         let frame = self.ports[from].own.end.delivered();
         put(&mut self.text, Line::Arrive, &[from as u64], frame)?;

@@ -6,12 +6,12 @@ use Rattle.std.specs.Prelude.{◌==◌, nat_lt, nat_le, ◌&&◌, ◌||◌, not}
 use Rattle.std.proofs.lemmas.Bool.Decides.{nat_tests}
 use Rattle.std.proofs.Math.Nat.{mod-add-mod}
 use Rattle.ivs_base.specs.Numbers.{up64}
-use Rattle.split_ring.specs.Layout.{Sizes, IsQueue, Slot, is_byte_ring, room_of, slot_of, limit_of, payload_of, place_of}
-use Rattle.split_ring.specs.Frames.{takes_of, start_after, ring_start, start_of, AreApart, is_apart_from, has_room}
+use Rattle.split_ring.specs.Layout.{Sizes, IsQueue, FrameSlot, is_byte_ring, data_area_len, slot_of, limit_of, data_area_start, offset_of}
+use Rattle.split_ring.specs.Frames.{footprint_of, start_after, ring_start, start_of, AreApart, is_apart_from, has_room}
 use Rattle.split_ring.proofs.Frames.{after_is, ring_inside, ring_told, few, apart_each, frames_lem}
 use Rattle.frame_slots.specs.declared.slots.Slot as slots
-use Rattle.frame_slots.specs.Turns.{Turn, fresh_turn, ring_bytes, are_free, has_room_in, next_start, slot_for, with_placed, second_start, with_freed}
-use Rattle.frame_slots.specs.Rings.{ring_end, GoStraight, PassEnd, RingStandsFor, StandsFor, TurnsStandForFrames}
+use Rattle.frame_slots.specs.Allocator.{Allocator, initial_allocator, ring_bytes, bytes_are_free, has_room_in, next_start, next_slot, with_placed, second_start, with_freed}
+use Rattle.frame_slots.specs.Refinement.{ring_end, AreContiguous, WrapsOnce, RingRefinesSession, RefinesSession, AllocatorRefinesSession}
 use Rattle.frame_slots.proofs.Fitting.{ring_fits, few_of}
 
 -- a frame starts after the end of the frame before it, or at 0
@@ -37,7 +37,7 @@ starts room length_of k = dite (dec_lt room (ring_end room length_of k + up64 (l
     ))
 
 -- where frames go straight, they lie between the first start and the last end
-climbs : (room : ℕ) (length_of : ℕ → ℕ) (m n k : ℕ) → GoStraight room length_of m n → m ≤ k → k < n →
+climbs : (room : ℕ) (length_of : ℕ → ℕ) (m n k : ℕ) → AreContiguous room length_of m n → m ≤ k → k < n →
     (ring_start room length_of m ≤ ring_start room length_of k) × (ring_start room length_of k + up64 (length_of k) ≤ ring_end room length_of n)
 unfolding ring_end
 climbs room length_of m zero k straight from below = absurd (omega arith)
@@ -61,7 +61,7 @@ SaysRoom room count head tail bytes =
     (count ≡ 0) ⊎ (((tail ≤ head) × (tail + bytes ≤ head)) ⊎ ((head < tail) × ((tail + bytes ≤ room) ⊎ (bytes ≤ head))))
 
 abbrev has_bytes : (room count head tail bytes : ℕ) → Bool
-has_bytes room count head tail bytes = count == 0 || are_free room head tail bytes
+has_bytes room count head tail bytes = count == 0 || bytes_are_free room head tail bytes
 
 test_of : (room count head tail bytes : ℕ) → SaysRoom room count head tail bytes → has_bytes room count head tail bytes ≡ true
 test_of room count head tail bytes (inl none) = grind (arith, nat_tests)
@@ -80,20 +80,20 @@ NextFree room length_of freed sent =
     (k : ℕ) → freed ≤ k → k < sent → AreApart (ring_start room length_of k) (up64 (length_of k)) (ring_start room length_of sent) (up64 (length_of sent))
 
 -- where the frames in flight have not passed the end, the first of them is below the tail
-straight_below : (t : Turn) (room : ℕ) (length_of : ℕ → ℕ) (freed sent : ℕ) → RingStandsFor t room length_of freed sent → GoStraight room length_of freed sent → freed < sent →
+straight_below : (t : Allocator) (room : ℕ) (length_of : ℕ → ℕ) (freed sent : ℕ) → RingRefinesSession t room length_of freed sent → AreContiguous room length_of freed sent → freed < sent →
     t.head < t.tail
 straight_below t room length_of freed sent h straight lt =
     let c = climbs room length_of freed sent freed straight (omega arith) lt in let up = c.1 in
     let head = h.head lt in let tail = h.tail in let some = h.some freed (omega arith) lt in omega arith
 
-free_of : (t : Turn) (room : ℕ) (length_of : ℕ → ℕ) (freed sent : ℕ) → freed ≤ sent → RingStandsFor t room length_of freed sent →
+free_of : (t : Allocator) (room : ℕ) (length_of : ℕ → ℕ) (freed sent : ℕ) → freed ≤ sent → RingRefinesSession t room length_of freed sent →
     SaysRoom room (sent - freed) t.head t.tail (up64 (length_of sent)) → NextFree room length_of freed sent
 free_of t room length_of freed sent order h says = by_run h.run
   where
     tail : t.tail ≡ ring_end room length_of sent
     tail = h.tail
 
-    straight_free : GoStraight room length_of freed sent → NextFree room length_of freed sent
+    straight_free : AreContiguous room length_of freed sent → NextFree room length_of freed sent
     straight_free straight k from below =
         let c = climbs room length_of freed sent k straight from below in let low = c.0 in let up = c.1 in
         let head = h.head (omega arith) in let above = straight_below t room length_of freed sent h straight (omega arith) in
@@ -105,33 +105,33 @@ free_of t room length_of freed sent order h says = by_run h.run
         says)
         (starts room length_of sent)
 
-    passed_free : PassEnd room length_of freed sent t → NextFree room length_of freed sent
+    passed_free : WrapsOnce room length_of freed sent t → NextFree room length_of freed sent
     passed_free r k from below =
         let after = r.after in let before = r.below in let under = r.before in let head = h.head (omega arith) in
         let fits = h.fits freed (omega arith) (omega arith) in
-        let first = climbs room length_of freed r.turn freed r.first (omega arith) after in
+        let first = climbs room length_of freed r.wrap freed r.first (omega arith) after in
         let ends : t.tail + up64 (length_of sent) ≤ t.head = ⊎_elim (λ none. absurd (omega arith)) (λ y. ⊎_elim (λ z. z.1) (λ z. absurd (let a = z.0 in omega arith)) y) says in
         let start : ring_start room length_of sent ≡ t.tail = ⊎_elim
         (λ x. x.1 ∙ sym tail)
         (λ x. absurd (let over = x.0 in let in_area = ring_inside room length_of freed fits in omega arith))
         (starts room length_of sent) in
-        dite (dec_lt k r.turn)
-        (λ lt. let c = climbs room length_of freed r.turn k r.first from lt in let low = c.0 in inr (omega arith))
-        (λ ge. let c = climbs room length_of r.turn sent k r.then (omega arith) below in let up = c.1 in inl (omega arith))
+        dite (dec_lt k r.wrap)
+        (λ lt. let c = climbs room length_of freed r.wrap k r.first from lt in let low = c.0 in inr (omega arith))
+        (λ ge. let c = climbs room length_of r.wrap sent k r.then (omega arith) below in let up = c.1 in inl (omega arith))
 
-    by_run : GoStraight room length_of freed sent ⊎ PassEnd room length_of freed sent t → NextFree room length_of freed sent
+    by_run : AreContiguous room length_of freed sent ⊎ WrapsOnce room length_of freed sent t → NextFree room length_of freed sent
     by_run (inl straight) = straight_free straight
     by_run (inr r) = passed_free r
 
 -- where the bytes are free, the test says so
-needs_test : (t : Turn) (room : ℕ) (length_of : ℕ → ℕ) (freed sent : ℕ) → freed ≤ sent → RingStandsFor t room length_of freed sent → 1 ≤ length_of sent →
+needs_test : (t : Allocator) (room : ℕ) (length_of : ℕ → ℕ) (freed sent : ℕ) → freed ≤ sent → RingRefinesSession t room length_of freed sent → 1 ≤ length_of sent →
     NextFree room length_of freed sent → SaysRoom room (sent - freed) t.head t.tail (up64 (length_of sent))
 needs_test t room length_of freed sent order h some free = dite (ℕ_discrete freed sent) (λ e. inl (omega arith)) (λ ne. inr (by_run (omega arith) h.run))
   where
     tail : t.tail ≡ ring_end room length_of sent
     tail = h.tail
 
-    by_run : freed < sent → GoStraight room length_of freed sent ⊎ PassEnd room length_of freed sent t →
+    by_run : freed < sent → AreContiguous room length_of freed sent ⊎ WrapsOnce room length_of freed sent t →
         ((t.tail ≤ t.head) × (t.tail + up64 (length_of sent) ≤ t.head)) ⊎ ((t.head < t.tail) × ((t.tail + up64 (length_of sent) ≤ room) ⊎ (up64 (length_of sent) ≤ t.head)))
     by_run lt (inl straight) =
         let above = straight_below t room length_of freed sent h straight lt in let head = h.head lt in let one = h.some freed (omega arith) lt in
@@ -148,14 +148,14 @@ needs_test t room length_of freed sent order h some free = dite (ℕ_discrete fr
           under,
           ⊎_elim
               (λ x. let start = x.1 in ⊎_elim (λ y. absurd (omega arith)) (λ y. omega arith) (free freed (omega arith) lt))
-              (λ x. let start = x.1 in let other = h.some r.turn (omega arith) before in let at_zero = r.at_zero in
-              ⊎_elim (λ y. absurd (omega arith)) (λ y. absurd (omega arith)) (free r.turn (omega arith) before))
+              (λ x. let start = x.1 in let other = h.some r.wrap (omega arith) before in let at_zero = r.at_zero in
+              ⊎_elim (λ y. absurd (omega arith)) (λ y. absurd (omega arith)) (free r.wrap (omega arith) before))
               (starts room length_of sent),
         )
 
 -- a straight run with one frame more
-straight_more : (room : ℕ) (length_of : ℕ → ℕ) (m n : ℕ) → GoStraight room length_of m n → (m < n → ring_start room length_of n ≡ ring_end room length_of n) →
-    GoStraight room length_of m (n + 1)
+straight_more : (room : ℕ) (length_of : ℕ → ℕ) (m n : ℕ) → AreContiguous room length_of m n → (m < n → ring_start room length_of n ≡ ring_end room length_of n) →
+    AreContiguous room length_of m (n + 1)
 straight_more room length_of m n straight last k from below = dite (ℕ_discrete k n)
     (λ e. subst (λ j. ring_start room length_of j ≡ ring_end room length_of j) (sym e) (last (omega arith)))
     (λ ne. straight k from (omega arith))
@@ -173,10 +173,10 @@ over_test : (a b : ℕ) → b < a → nat_le a b ≡ false
 over_test a b h = grind (arith, nat_tests)
 
 -- a frame is placed in a ring of bytes
-ring_places : (t n : Turn) (room : ℕ) (length_of : ℕ → ℕ) (freed sent bytes : ℕ) → bytes ≡ up64 (length_of sent) → freed ≤ sent → RingStandsFor t room length_of freed sent →
+ring_places : (t n : Allocator) (room : ℕ) (length_of : ℕ → ℕ) (freed sent bytes : ℕ) → bytes ≡ up64 (length_of sent) → freed ≤ sent → RingRefinesSession t room length_of freed sent →
     1 ≤ length_of sent → bytes ≤ room → SaysRoom room (sent - freed) t.head t.tail bytes →
     n.head ≡ cond (sent - freed == 0) (start_after room t.tail bytes) t.head → n.tail ≡ start_after room t.tail bytes + bytes →
-    n.left ≡ cond (nat_le (t.tail + bytes) room) t.left t.tail → RingStandsFor n room length_of freed (sent + 1)
+    n.left ≡ cond (nat_le (t.tail + bytes) room) t.left t.tail → RingRefinesSession n room length_of freed (sent + 1)
 ring_places t n room length_of freed sent bytes bytes_is order h some fits says head_is tail_is left_is = record {
   some = λ k from below. dite (ℕ_discrete k sent) (λ e. subst (λ j. 1 ≤ length_of j) (sym e) some) (λ ne. h.some k from (omega arith));
   fits = λ k from below. dite (ℕ_discrete k sent) (λ e. subst (λ j. up64 (length_of j) ≤ room) (sym e) (omega arith)) (λ ne. h.fits k from (omega arith));
@@ -205,7 +205,7 @@ ring_places t n room length_of freed sent bytes bytes_is order h some fits says 
     left_new : room < t.tail + bytes → n.left ≡ t.tail
     left_new lt = left_is ∙ ap (λ x. cond x t.left t.tail) (over_test (t.tail + bytes) room lt)
 
-    run : GoStraight room length_of freed sent ⊎ PassEnd room length_of freed sent t → GoStraight room length_of freed (sent + 1) ⊎ PassEnd room length_of freed (sent + 1) n
+    run : AreContiguous room length_of freed sent ⊎ WrapsOnce room length_of freed sent t → AreContiguous room length_of freed (sent + 1) ⊎ WrapsOnce room length_of freed (sent + 1) n
     run (inl straight) = dite (ℕ_discrete freed sent)
         (λ e. inl (straight_more room length_of freed sent straight (λ lt. absurd (omega arith))))
         (λ ne. ⊎_elim
@@ -214,7 +214,7 @@ ring_places t n room length_of freed sent bytes bytes_is order h some fits says 
         let over = x.0 in let none = x.1 in let old = h.head lt in
         let under : bytes ≤ t.head = ⊎_elim (λ none. absurd (omega arith)) (λ y. ⊎_elim (λ z. absurd (let a = z.0 in omega arith)) (λ z. ⊎_elim (λ w. absurd (omega arith)) (λ w. w) z.1) y) says in
         inr record {
-          turn = sent;
+          wrap = sent;
           after = lt;
           below = omega arith;
           first = straight;
@@ -230,11 +230,11 @@ ring_places t n room length_of freed sent bytes bytes_is order h some fits says 
         let in_area = ring_inside room length_of freed (h.fits freed (omega arith) lt) in
         let here : ring_start room length_of sent ≡ ring_end room length_of sent = ⊎_elim (λ x. x.1) (λ x. absurd (let over = x.0 in omega arith)) (starts room length_of sent) in
         inr record {
-          turn = r.turn;
+          wrap = r.wrap;
           after = after;
           below = omega arith;
           first = r.first;
-          then = straight_more room length_of r.turn sent r.then (λ _. here);
+          then = straight_more room length_of r.wrap sent r.then (λ _. here);
           at_zero = r.at_zero;
           left = left_kept (omega arith) ∙ r.left;
           before = let s = start in let h2 = head in let t2 = tail_is in omega arith;
@@ -248,8 +248,8 @@ both_true : (a b c d : ℕ) → b ≤ a → c ≡ d → (nat_le b a && (c == d))
 both_true a b c d le e = grind (arith, nat_tests)
 
 -- the oldest frame is freed in a ring of bytes
-ring_frees : (t n : Turn) (room : ℕ) (length_of : ℕ → ℕ) (freed sent bytes : ℕ) → bytes ≡ up64 (length_of freed) → RingStandsFor t room length_of freed sent → freed < sent →
-    n.head ≡ second_start t bytes → n.tail ≡ t.tail → n.left ≡ t.left → RingStandsFor n room length_of (freed + 1) sent
+ring_frees : (t n : Allocator) (room : ℕ) (length_of : ℕ → ℕ) (freed sent bytes : ℕ) → bytes ≡ up64 (length_of freed) → RingRefinesSession t room length_of freed sent → freed < sent →
+    n.head ≡ second_start t bytes → n.tail ≡ t.tail → n.left ≡ t.left → RingRefinesSession n room length_of (freed + 1) sent
 ring_frees t n room length_of freed sent bytes bytes_is h lt head_is tail_is left_is = by_run h.run
   where
     old : t.head ≡ ring_start room length_of freed
@@ -258,8 +258,8 @@ ring_frees t n room length_of freed sent bytes bytes_is h lt head_is tail_is lef
     onward : t.head + bytes ≡ ring_end room length_of (freed + 1)
     onward = let e = end_is room length_of freed in let o = old in omega arith
 
-    rest : (freed + 1 < sent → n.head ≡ ring_start room length_of (freed + 1)) → GoStraight room length_of (freed + 1) sent ⊎ PassEnd room length_of (freed + 1) sent n →
-        RingStandsFor n room length_of (freed + 1) sent
+    rest : (freed + 1 < sent → n.head ≡ ring_start room length_of (freed + 1)) → AreContiguous room length_of (freed + 1) sent ⊎ WrapsOnce room length_of (freed + 1) sent n →
+        RingRefinesSession n room length_of (freed + 1) sent
     rest is run = record {
       some = λ k from below. h.some k (omega arith) below;
       fits = λ k from below. h.fits k (omega arith) below;
@@ -271,20 +271,20 @@ ring_frees t n room length_of freed sent bytes bytes_is h lt head_is tail_is lef
     goes : Bool → ℕ
     goes passes = cond passes 0 (t.head + bytes)
 
-    by_run : GoStraight room length_of freed sent ⊎ PassEnd room length_of freed sent t → RingStandsFor n room length_of (freed + 1) sent
+    by_run : AreContiguous room length_of freed sent ⊎ WrapsOnce room length_of freed sent t → RingRefinesSession n room length_of (freed + 1) sent
     by_run (inl straight) =
         let now : n.head ≡ t.head + bytes = head_is ∙ ap goes (both_false t.head t.tail (t.head + bytes) t.left (inl (straight_below t room length_of freed sent h straight lt))) in
         rest (λ more. now ∙ (onward ∙ sym (straight (freed + 1) (omega arith) more))) (inl (λ k from below. straight k (omega arith) below))
-    by_run (inr r) = let after = r.after in let under = r.before in let left = r.left in dite (ℕ_discrete (freed + 1) r.turn)
+    by_run (inr r) = let after = r.after in let under = r.before in let left = r.left in dite (ℕ_discrete (freed + 1) r.wrap)
         (λ e. let now : n.head ≡ 0 = head_is ∙ ap goes (both_true t.head t.tail (t.head + bytes) t.left under (onward ∙ (ap (ring_end room length_of) e ∙ sym left))) in
         rest (λ more. now ∙ sym (ap (ring_start room length_of) e ∙ r.at_zero)) (inl (λ k from below. r.then k (omega arith) below)))
         (λ ne. let next : ring_start room length_of (freed + 1) ≡ ring_end room length_of (freed + 1) = r.first (freed + 1) (omega arith) (omega arith) in
-        let c = climbs room length_of freed r.turn (freed + 1) r.first (omega arith) (omega arith) in let up = c.1 in
+        let c = climbs room length_of freed r.wrap (freed + 1) r.first (omega arith) (omega arith) in let up = c.1 in
         let before = r.below in let some = h.some (freed + 1) (omega arith) (omega arith) in
         let on : t.head + bytes ≡ ring_end room length_of (freed + 1) = onward in
         let now : n.head ≡ t.head + bytes = head_is ∙ ap goes (both_false t.head t.tail (t.head + bytes) t.left (inr (λ same. omega arith))) in
         rest (λ more. now ∙ (onward ∙ sym next)) (inr record {
-          turn = r.turn;
+          wrap = r.wrap;
           after = omega arith;
           below = r.below;
           first = λ k from below. r.first k (omega arith) below;
@@ -302,8 +302,8 @@ end_told room length_of others (suc k) same =
     ap (λ a. a + up64 (length_of k)) start ∙ ap (λ l. ring_start room others k + up64 l) (same k (omega arith))
 
 -- the numbers stand for the frames, whatever lengths follow
-ring_told_of : (t : Turn) (room : ℕ) (length_of others : ℕ → ℕ) (freed sent : ℕ) → ((j : ℕ) → j < sent → length_of j ≡ others j) →
-    RingStandsFor t room length_of freed sent → RingStandsFor t room others freed sent
+ring_told_of : (t : Allocator) (room : ℕ) (length_of others : ℕ → ℕ) (freed sent : ℕ) → ((j : ℕ) → j < sent → length_of j ≡ others j) →
+    RingRefinesSession t room length_of freed sent → RingRefinesSession t room others freed sent
 ring_told_of t room length_of others freed sent same h = record {
   some = λ k from below. subst (λ l. 1 ≤ l) (same k below) (h.some k from below);
   fits = λ k from below. subst (λ l. up64 l ≤ room) (same k below) (h.fits k from below);
@@ -312,13 +312,13 @@ ring_told_of t room length_of others freed sent same h = record {
   run = ⊎_elim
       (λ straight. inl (goes freed sent (omega arith) straight))
       (λ r. let before = r.below in inr record {
-        turn = r.turn;
+        wrap = r.wrap;
         after = r.after;
         below = r.below;
-        first = goes freed r.turn (omega arith) r.first;
-        then = goes r.turn sent (omega arith) r.then;
-        at_zero = sym (start r.turn before) ∙ r.at_zero;
-        left = r.left ∙ ends r.turn (omega arith);
+        first = goes freed r.wrap (omega arith) r.first;
+        then = goes r.wrap sent (omega arith) r.then;
+        at_zero = sym (start r.wrap before) ∙ r.at_zero;
+        left = r.left ∙ ends r.wrap (omega arith);
         before = r.before;
       })
       h.run;
@@ -330,7 +330,7 @@ ring_told_of t room length_of others freed sent same h = record {
     ends : (k : ℕ) → k ≤ sent → ring_end room length_of k ≡ ring_end room others k
     ends k le = end_told room length_of others k (λ j lt. same j (omega arith))
 
-    goes : (a b : ℕ) → b ≤ sent → GoStraight room length_of a b → GoStraight room others a b
+    goes : (a b : ℕ) → b ≤ sent → AreContiguous room length_of a b → AreContiguous room others a b
     goes a b le straight k from below = sym (start k (omega arith)) ∙ (straight k from below ∙ ends k (omega arith))
 
 -- bytes of the area, and the same bytes of the section
@@ -348,16 +348,16 @@ same_test false true h g = g refl
 same_test false false h g = refl
 
 -- where a frame of a ring starts in the section
-ring_start_is : (q : Sizes) (length_of : ℕ → ℕ) (k : ℕ) → is_byte_ring q ≡ true → start_of q length_of k ≡ payload_of q + ring_start (room_of q) length_of k
+ring_start_is : (q : Sizes) (length_of : ℕ → ℕ) (k : ℕ) → is_byte_ring q ≡ true → start_of q length_of k ≡ data_area_start q + ring_start (data_area_len q) length_of k
 unfolding start_of
-ring_start_is q length_of k ring = ap (λ b. cond b (payload_of q + ring_start (room_of q) length_of k) (place_of q (Slot (k % limit_of q)))) ring
+ring_start_is q length_of k ring = ap (λ b. cond b (data_area_start q + ring_start (data_area_len q) length_of k) (offset_of q (FrameSlot (k % limit_of q)))) ring
 
-slot_start_is : (q : Sizes) (length_of : ℕ → ℕ) (k : ℕ) → is_byte_ring q ≡ false → start_of q length_of k ≡ place_of q (Slot (k % limit_of q))
+slot_start_is : (q : Sizes) (length_of : ℕ → ℕ) (k : ℕ) → is_byte_ring q ≡ false → start_of q length_of k ≡ offset_of q (FrameSlot (k % limit_of q))
 unfolding start_of
-slot_start_is q length_of k none = ap (λ b. cond b (payload_of q + ring_start (room_of q) length_of k) (place_of q (Slot (k % limit_of q)))) none
+slot_start_is q length_of k none = ap (λ b. cond b (data_area_start q + ring_start (data_area_len q) length_of k) (offset_of q (FrameSlot (k % limit_of q)))) none
 
-ring_takes : (q : Sizes) (bytes : ℕ) → is_byte_ring q ≡ true → takes_of q bytes ≡ up64 bytes
-unfolding takes_of
+ring_takes : (q : Sizes) (bytes : ℕ) → is_byte_ring q ≡ true → footprint_of q bytes ≡ up64 bytes
+unfolding footprint_of
 ring_takes q bytes ring = ap (λ b. cond b (up64 bytes) (slot_of q)) ring
 
 apart_as : (a m b n a1 m1 b1 n1 : ℕ) → a ≡ a1 → m ≡ m1 → b ≡ b1 → n ≡ n1 → AreApart a m b n → AreApart a1 m1 b1 n1
@@ -372,7 +372,7 @@ bytes_in_slots : (q : Sizes) (bytes : ℕ) → is_byte_ring q ≡ false → ring
 bytes_in_slots q bytes none = ap (λ b. cond b (up64 bytes) 0) none
 
 -- the test by the numbers says that few are in flight, and what it says of the ring
-room_of_test : (t : Turn) (bytes : ℕ) → has_room_in t bytes ≡ true → (t.in_flight < limit_of t.sizes) × (has_bytes (room_of t.sizes) t.in_flight t.head t.tail (ring_bytes t.sizes bytes) ≡ true)
+room_of_test : (t : Allocator) (bytes : ℕ) → has_room_in t bytes ≡ true → (t.in_flight < limit_of t.sizes) × (has_bytes (data_area_len t.sizes) t.in_flight t.head t.tail (ring_bytes t.sizes bytes) ≡ true)
 room_of_test t bytes room = (few_of t bytes room, and_second _ _ room)
   where
     false_is_true : (b : Bool) → false ≡ true → b ≡ true
@@ -382,14 +382,14 @@ room_of_test t bytes room = (few_of t bytes room, and_second _ _ room)
     and_second true b h = h
     and_second false b h = false_is_true b h
 
-test_of_room : (t : Turn) (bytes : ℕ) → t.in_flight < limit_of t.sizes → has_bytes (room_of t.sizes) t.in_flight t.head t.tail (ring_bytes t.sizes bytes) ≡ true → has_room_in t bytes ≡ true
-test_of_room t bytes lt h = ap (λ b. b && has_bytes (room_of t.sizes) t.in_flight t.head t.tail (ring_bytes t.sizes bytes)) less ∙ h
+test_of_room : (t : Allocator) (bytes : ℕ) → t.in_flight < limit_of t.sizes → has_bytes (data_area_len t.sizes) t.in_flight t.head t.tail (ring_bytes t.sizes bytes) ≡ true → has_room_in t bytes ≡ true
+test_of_room t bytes lt h = ap (λ b. b && has_bytes (data_area_len t.sizes) t.in_flight t.head t.tail (ring_bytes t.sizes bytes)) less ∙ h
   where
     less : nat_lt t.in_flight (limit_of t.sizes) ≡ true
     less = grind (arith, nat_tests)
 
 -- a session has room where few are in flight and the frame is apart from each of them
-room_of_session : (q : Sizes) (length_of : ℕ → ℕ) (freed sent : ℕ) → freed ≤ sent → is_byte_ring q ≡ true → sent < freed + limit_of q → NextFree (room_of q) length_of freed sent →
+room_of_session : (q : Sizes) (length_of : ℕ → ℕ) (freed sent : ℕ) → freed ≤ sent → is_byte_ring q ≡ true → sent < freed + limit_of q → NextFree (data_area_len q) length_of freed sent →
     has_room q length_of freed sent ≡ true
 unfolding has_room
 room_of_session q length_of freed sent order ring lt free =
@@ -407,11 +407,11 @@ room_of_session q length_of freed sent order ring lt free =
     each = apart_each q length_of sent freed (sent - freed) (λ k from below.
         apart_as _ _ _ _ _ _ _ _
         (sym (ring_start_is q length_of k ring)) (sym (ring_takes q (length_of k) ring)) (sym (ring_start_is q length_of sent ring)) (sym (ring_takes q (length_of sent) ring))
-        (moved (payload_of q) _ _ _ _ (free k from (omega arith))))
+        (moved (data_area_start q) _ _ _ _ (free k from (omega arith))))
 
-free_of_session : (q : Sizes) (length_of : ℕ → ℕ) (freed sent : ℕ) → IsQueue q → is_byte_ring q ≡ true → has_room q length_of freed sent ≡ true → NextFree (room_of q) length_of freed sent
+free_of_session : (q : Sizes) (length_of : ℕ → ℕ) (freed sent : ℕ) → IsQueue q → is_byte_ring q ≡ true → has_room q length_of freed sent ≡ true → NextFree (data_area_len q) length_of freed sent
 free_of_session q length_of freed sent is ring room k from below =
-    moved_back (payload_of q) _ _ _ _ (apart_as _ _ _ _ _ _ _ _
+    moved_back (data_area_start q) _ _ _ _ (apart_as _ _ _ _ _ _ _ _
     (ring_start_is q length_of k ring) (ring_takes q (length_of k) ring) (ring_start_is q length_of sent ring) (ring_takes q (length_of sent) ring)
     (frames_lem.apart q length_of freed sent k is room from below))
 
@@ -422,7 +422,7 @@ slots_say count room head tail bytes h t b = test_of room count head tail bytes 
 less_test : (a b : ℕ) → a < b → nat_lt a b ≡ true
 less_test a b lt = grind (arith, nat_tests)
 
-decides : (t : Turn) (length_of : ℕ → ℕ) (freed sent : ℕ) → IsQueue t.sizes → StandsFor t length_of freed sent → 14 ≤ length_of sent → length_of sent ≤ t.sizes.mtu + 18 →
+decides : (t : Allocator) (length_of : ℕ → ℕ) (freed sent : ℕ) → IsQueue t.sizes → RefinesSession t length_of freed sent → 14 ≤ length_of sent → length_of sent ≤ t.sizes.mtu + 18 →
     has_room_in t (length_of sent) ≡ has_room t.sizes length_of freed sent
 decides t length_of freed sent is h least most = pick (is_byte_ring t.sizes) refl
   where
@@ -436,21 +436,21 @@ decides t length_of freed sent is h least most = pick (is_byte_ring t.sizes) ref
     pick true ring = let bytes_is : bytes ≡ up64 (length_of sent) = bytes_in_ring t.sizes (length_of sent) ring in let count : sent - freed ≡ t.in_flight = omega (arith, all) in same_test _ _
         (λ test. let says = room_of_test t (length_of sent) test in let lt = says.0 in
         room_of_session t.sizes length_of freed sent (omega (arith, all)) ring (omega (arith, all, lt))
-        (free_of t (room_of t.sizes) length_of freed sent (omega (arith, all)) (h.ring ring)
-        (subst (λ n. SaysRoom (room_of t.sizes) n t.head t.tail (up64 (length_of sent))) (sym count)
-        (says_of (room_of t.sizes) t.in_flight t.head t.tail (up64 (length_of sent)) (subst (λ b. has_bytes (room_of t.sizes) t.in_flight t.head t.tail b ≡ true) bytes_is says.1)))))
+        (free_of t (data_area_len t.sizes) length_of freed sent (omega (arith, all)) (h.ring ring)
+        (subst (λ n. SaysRoom (data_area_len t.sizes) n t.head t.tail (up64 (length_of sent))) (sym count)
+        (says_of (data_area_len t.sizes) t.in_flight t.head t.tail (up64 (length_of sent)) (subst (λ b. has_bytes (data_area_len t.sizes) t.in_flight t.head t.tail b ≡ true) bytes_is says.1)))))
         (λ room. let lt = few t.sizes length_of freed sent room in
         test_of_room t (length_of sent) (omega (arith, all, lt))
-        (subst (λ b. has_bytes (room_of t.sizes) t.in_flight t.head t.tail b ≡ true) (sym bytes_is) (test_of (room_of t.sizes) t.in_flight t.head t.tail (up64 (length_of sent))
-        (subst (λ n. SaysRoom (room_of t.sizes) n t.head t.tail (up64 (length_of sent))) count
-        (needs_test t (room_of t.sizes) length_of freed sent (omega (arith, all)) (h.ring ring) (omega (arith, least)) (free_of_session t.sizes length_of freed sent is ring room))))))
+        (subst (λ b. has_bytes (data_area_len t.sizes) t.in_flight t.head t.tail b ≡ true) (sym bytes_is) (test_of (data_area_len t.sizes) t.in_flight t.head t.tail (up64 (length_of sent))
+        (subst (λ n. SaysRoom (data_area_len t.sizes) n t.head t.tail (up64 (length_of sent))) count
+        (needs_test t (data_area_len t.sizes) length_of freed sent (omega (arith, all)) (h.ring ring) (omega (arith, least)) (free_of_session t.sizes length_of freed sent is ring room))))))
     pick false none = let zero = h.slots none in same_test _ _
         (λ test. let lt = (room_of_test t (length_of sent) test).0 in frames_lem.slots t.sizes length_of freed sent none ∙ less_test sent (freed + limit_of t.sizes) (omega (arith, all, lt)))
         (λ room. let lt = few t.sizes length_of freed sent room in
-        test_of_room t (length_of sent) (omega (arith, all, lt)) (slots_say t.in_flight (room_of t.sizes) t.head t.tail bytes zero.0 zero.1 (bytes_in_slots t.sizes (length_of sent) none)))
+        test_of_room t (length_of sent) (omega (arith, all, lt)) (slots_say t.in_flight (data_area_len t.sizes) t.head t.tail bytes zero.0 zero.1 (bytes_in_slots t.sizes (length_of sent) none)))
 
-places : (t : Turn) (length_of : ℕ → ℕ) (freed sent : ℕ) → IsQueue t.sizes → StandsFor t length_of freed sent → 14 ≤ length_of sent → length_of sent ≤ t.sizes.mtu + 18 →
-    has_room_in t (length_of sent) ≡ true → slot_for t (length_of sent) ≡ record { descriptor = sent % limit_of t.sizes; address = start_of t.sizes length_of sent }
+places : (t : Allocator) (length_of : ℕ → ℕ) (freed sent : ℕ) → IsQueue t.sizes → RefinesSession t length_of freed sent → 14 ≤ length_of sent → length_of sent ≤ t.sizes.mtu + 18 →
+    has_room_in t (length_of sent) ≡ true → next_slot t (length_of sent) ≡ record { descriptor = sent % limit_of t.sizes; address = start_of t.sizes length_of sent }
 places t length_of freed sent is h least most room =
     ap (λ n. let s : slots.Slot = record { descriptor = n; address = address } in s) h.next ∙
     ap (λ a. let s : slots.Slot = record { descriptor = sent % limit_of t.sizes; address = a } in s) (pick (is_byte_ring t.sizes) refl)
@@ -459,19 +459,19 @@ places t length_of freed sent is h least most room =
     bytes = ring_bytes t.sizes (length_of sent)
 
     address : ℕ
-    address = cond (is_byte_ring t.sizes) (payload_of t.sizes + next_start t (length_of sent)) (place_of t.sizes (Slot t.next))
+    address = cond (is_byte_ring t.sizes) (data_area_start t.sizes + next_start t (length_of sent)) (offset_of t.sizes (FrameSlot t.next))
 
     pick : (b : Bool) → is_byte_ring t.sizes ≡ b → address ≡ start_of t.sizes length_of sent
     pick true ring =
         let r = h.ring ring in
-        let room = room_of t.sizes in
+        let room = data_area_len t.sizes in
         let start : start_after room t.tail bytes ≡ ring_start room length_of sent =
         ap (start_after room t.tail) (bytes_in_ring t.sizes (length_of sent) ring) ∙ (ap (λ e. start_after room e (up64 (length_of sent))) r.tail ∙ sym (start_is room length_of sent)) in
-        ap (λ b. cond b (payload_of t.sizes + next_start t (length_of sent)) (place_of t.sizes (Slot t.next))) ring ∙
-        (ap (λ s. payload_of t.sizes + s) start ∙ sym (ring_start_is t.sizes length_of sent ring))
+        ap (λ b. cond b (data_area_start t.sizes + next_start t (length_of sent)) (offset_of t.sizes (FrameSlot t.next))) ring ∙
+        (ap (λ s. data_area_start t.sizes + s) start ∙ sym (ring_start_is t.sizes length_of sent ring))
     pick false none =
-        ap (λ b. cond b (payload_of t.sizes + next_start t (length_of sent)) (place_of t.sizes (Slot t.next))) none ∙
-        (ap (λ i. place_of t.sizes (Slot i)) h.next ∙ sym (slot_start_is t.sizes length_of sent none))
+        ap (λ b. cond b (data_area_start t.sizes + next_start t (length_of sent)) (offset_of t.sizes (FrameSlot t.next))) none ∙
+        (ap (λ i. offset_of t.sizes (FrameSlot i)) h.next ∙ sym (slot_start_is t.sizes length_of sent none))
 
 -- with slots the numbers of the ring stay 0
 slots_stay : (room ended bytes : ℕ) → ended ≡ 0 → bytes ≡ 0 → start_after room ended bytes ≡ 0
@@ -481,21 +481,21 @@ both : (b : Bool) (x y : ℕ) → x ≡ 0 → y ≡ 0 → cond b x y ≡ 0
 both true x y h g = h
 both false x y h g = g
 
-goes_on : (t : Turn) (length_of : ℕ → ℕ) (freed sent : ℕ) → IsQueue t.sizes → StandsFor t length_of freed sent → 14 ≤ length_of sent → length_of sent ≤ t.sizes.mtu + 18 →
-    has_room_in t (length_of sent) ≡ true → StandsFor (with_placed t (length_of sent)) length_of freed (sent + 1)
+goes_on : (t : Allocator) (length_of : ℕ → ℕ) (freed sent : ℕ) → IsQueue t.sizes → RefinesSession t length_of freed sent → 14 ≤ length_of sent → length_of sent ≤ t.sizes.mtu + 18 →
+    has_room_in t (length_of sent) ≡ true → RefinesSession (with_placed t (length_of sent)) length_of freed (sent + 1)
 goes_on t length_of freed sent is h least most room = record {
   next = ap (λ n. (n + 1) % limit_of t.sizes) h.next ∙ mod-add-mod sent (limit_of t.sizes) 1;
   in_flight = omega (arith, all);
   most = omega (arith, lt);
-  ring = λ ring. let bytes_is = bytes_in_ring t.sizes (length_of sent) ring in ring_places t (with_placed t (length_of sent)) (room_of t.sizes) length_of freed sent bytes bytes_is
+  ring = λ ring. let bytes_is = bytes_in_ring t.sizes (length_of sent) ring in ring_places t (with_placed t (length_of sent)) (data_area_len t.sizes) length_of freed sent bytes bytes_is
       (omega (arith, all)) (h.ring ring) (omega (arith, least)) (ring_fits t.sizes (length_of sent) is most)
-      (subst (λ n. SaysRoom (room_of t.sizes) n t.head t.tail bytes) (sym count) (says_of (room_of t.sizes) t.in_flight t.head t.tail bytes says.1))
-      (ap (λ n. cond (n == 0) (start_after (room_of t.sizes) t.tail bytes) t.head) (sym count)) refl refl;
+      (subst (λ n. SaysRoom (data_area_len t.sizes) n t.head t.tail bytes) (sym count) (says_of (data_area_len t.sizes) t.in_flight t.head t.tail bytes says.1))
+      (ap (λ n. cond (n == 0) (start_after (data_area_len t.sizes) t.tail bytes) t.head) (sym count)) refl refl;
   slots = λ none. let zero = h.slots none in let no_bytes = bytes_in_slots t.sizes (length_of sent) none in
-      let start = slots_stay (room_of t.sizes) t.tail bytes zero.1 no_bytes in (
+      let start = slots_stay (data_area_len t.sizes) t.tail bytes zero.1 no_bytes in (
         both (t.in_flight == 0) (next_start t (length_of sent)) t.head start zero.0,
         omega (arith, start, no_bytes),
-        both (nat_le (t.tail + bytes) (room_of t.sizes)) t.left t.tail zero.2 zero.1,
+        both (nat_le (t.tail + bytes) (data_area_len t.sizes)) t.left t.tail zero.2 zero.1,
       );
 }
   where
@@ -505,7 +505,7 @@ goes_on t length_of freed sent is h least most room = record {
     bytes : ℕ
     bytes = ring_bytes t.sizes (length_of sent)
 
-    says : (t.in_flight < limit_of t.sizes) × (has_bytes (room_of t.sizes) t.in_flight t.head t.tail bytes ≡ true)
+    says : (t.in_flight < limit_of t.sizes) × (has_bytes (data_area_len t.sizes) t.in_flight t.head t.tail bytes ≡ true)
     says = room_of_test t (length_of sent) room
 
     lt : t.in_flight < limit_of t.sizes
@@ -514,12 +514,12 @@ goes_on t length_of freed sent is h least most room = record {
     count : sent - freed ≡ t.in_flight
     count = omega (arith, all)
 
-frees : (t : Turn) (length_of : ℕ → ℕ) (freed sent : ℕ) → StandsFor t length_of freed sent → freed < sent → StandsFor (with_freed t (length_of freed)) length_of (freed + 1) sent
+frees : (t : Allocator) (length_of : ℕ → ℕ) (freed sent : ℕ) → RefinesSession t length_of freed sent → freed < sent → RefinesSession (with_freed t (length_of freed)) length_of (freed + 1) sent
 frees t length_of freed sent h some = record {
   next = h.next;
   in_flight = omega (arith, all, some);
   most = let most = h.most in omega arith;
-  ring = λ ring. ring_frees t (with_freed t (length_of freed)) (room_of t.sizes) length_of freed sent bytes (bytes_in_ring t.sizes (length_of freed) ring) (h.ring ring) some refl refl refl;
+  ring = λ ring. ring_frees t (with_freed t (length_of freed)) (data_area_len t.sizes) length_of freed sent bytes (bytes_in_ring t.sizes (length_of freed) ring) (h.ring ring) some refl refl refl;
   slots = λ none. let zero = h.slots none in let no_bytes = bytes_in_slots t.sizes (length_of freed) none in
       (both (nat_le t.tail t.head && (t.head + bytes == t.left)) 0 (t.head + bytes) refl (let head = zero.0 in omega (arith, head, no_bytes)), zero.1, zero.2);
 }
@@ -530,7 +530,7 @@ frees t length_of freed sent h some = record {
     bytes : ℕ
     bytes = ring_bytes t.sizes (length_of freed)
 
-begins : (q : Sizes) (length_of : ℕ → ℕ) → StandsFor (fresh_turn q) length_of 0 0
+begins : (q : Sizes) (length_of : ℕ → ℕ) → RefinesSession (initial_allocator q) length_of 0 0
 unfolding ring_end
 begins q length_of = record {
   next = sym (zero_mod (limit_of q));
@@ -549,14 +549,14 @@ begins q length_of = record {
     zero_mod : (c : ℕ) → 0 % c ≡ 0
     zero_mod c = grind arith
 
-told : (t : Turn) (length_of others : ℕ → ℕ) (freed sent : ℕ) → ((j : ℕ) → j < sent → length_of j ≡ others j) → StandsFor t length_of freed sent → StandsFor t others freed sent
+told : (t : Allocator) (length_of others : ℕ → ℕ) (freed sent : ℕ) → ((j : ℕ) → j < sent → length_of j ≡ others j) → RefinesSession t length_of freed sent → RefinesSession t others freed sent
 told t length_of others freed sent same h = record {
   next = h.next;
   in_flight = h.in_flight;
   most = h.most;
-  ring = λ ring. ring_told_of t (room_of t.sizes) length_of others freed sent same (h.ring ring);
+  ring = λ ring. ring_told_of t (data_area_len t.sizes) length_of others freed sent same (h.ring ring);
   slots = h.slots;
 }
 
-pub turns_lem : TurnsStandForFrames
-turns_lem = record { starts = begins; told = told; decides = decides; places = places; goes_on = goes_on; frees = frees }
+pub turns_lem : AllocatorRefinesSession
+turns_lem = record { starts = begins; by_prefix = told; decides = decides; places = places; goes_on = goes_on; frees = frees }

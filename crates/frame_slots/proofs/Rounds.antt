@@ -3,7 +3,7 @@ use Rattle.std.proofs.Common.{◌≡◌, ◌≢◌, ℕ, ◌+◌, ◌-◌, ◌%�
 use Rattle.std.proofs.Math.Nat.{mod-eq_of_lt, add-mod_right, mod_self, sub-zero}
 use Rattle.std.proofs.lemmas.Bool.{cases_lt}
 use Rattle.split_ring.specs.Layout.{limit_of}
-use Rattle.frame_slots.specs.Turns.{Turn, IsTurn, IsInFlight, oldest_of, with_placed, with_freed, FlightGoesRound}
+use Rattle.frame_slots.specs.Allocator.{Allocator, IsAllocator, IsInFlight, oldest_of, with_placed, with_freed, DescriptorsAreReusedInOrder}
 
 -- so many turns before the next of c descriptors
 abbrev back : (next c turns : ℕ) → ℕ
@@ -47,7 +47,7 @@ back_apart next c fewer more in_range less within some same =
     ]
 
 -- the placed descriptor, or one that was in flight
-joins : (t : Turn) (bytes descriptor : ℕ) → IsTurn t → t.in_flight < limit_of t.sizes → IsInFlight (with_placed t bytes) descriptor → IsInFlight t descriptor ⊎ (descriptor ≡ t.next)
+joins : (t : Allocator) (bytes descriptor : ℕ) → IsAllocator t → t.in_flight < limit_of t.sizes → IsInFlight (with_placed t bytes) descriptor → IsInFlight t descriptor ⊎ (descriptor ≡ t.next)
 joins t bytes descriptor is room (turns, some, within, same) =
     let c = limit_of t.sizes in
     elim (cases_lt 1 turns) [
@@ -59,18 +59,18 @@ joins t bytes descriptor is room (turns, some, within, same) =
           inr (same ∙ (ap (back ((t.next + 1) % c) c) just_one ∙ (back_on t.next c 0 is.next (omega arith) ∙ (back_near t.next c 0 is.next (omega arith) ∙ sub-zero t.next))))
     ]
 
-joined : (t : Turn) (bytes descriptor : ℕ) → IsTurn t → t.in_flight < limit_of t.sizes → IsInFlight t descriptor ⊎ (descriptor ≡ t.next) → IsInFlight (with_placed t bytes) descriptor
+joined : (t : Allocator) (bytes descriptor : ℕ) → IsAllocator t → t.in_flight < limit_of t.sizes → IsInFlight t descriptor ⊎ (descriptor ≡ t.next) → IsInFlight (with_placed t bytes) descriptor
 joined t bytes descriptor is room (inl (turns, some, within, same)) =
     (turns + 1, omega arith, omega arith, same ∙ sym (back_on t.next (limit_of t.sizes) turns is.next (omega arith)))
 joined t bytes descriptor is room (inr same) =
     let c = limit_of t.sizes in
     (0 + 1, omega arith, omega arith, same ∙ sym (back_on t.next c 0 is.next (omega arith) ∙ (back_near t.next c 0 is.next (omega arith) ∙ sub-zero t.next)))
 
-leaves : (t : Turn) (bytes descriptor : ℕ) → IsTurn t → 0 < t.in_flight → IsInFlight (with_freed t bytes) descriptor → IsInFlight t descriptor × (descriptor ≢ oldest_of t)
+leaves : (t : Allocator) (bytes descriptor : ℕ) → IsAllocator t → 0 < t.in_flight → IsInFlight (with_freed t bytes) descriptor → IsInFlight t descriptor × (descriptor ≢ oldest_of t)
 leaves t bytes descriptor is some_there (turns, some, within, same) =
     ((turns, some, omega arith, same), λ oldest. back_apart t.next (limit_of t.sizes) turns t.in_flight is.next (omega arith) is.in_flight some (sym same ∙ oldest))
 
-stays : (t : Turn) (bytes descriptor : ℕ) → IsTurn t → 0 < t.in_flight → IsInFlight t descriptor × (descriptor ≢ oldest_of t) → IsInFlight (with_freed t bytes) descriptor
+stays : (t : Allocator) (bytes descriptor : ℕ) → IsAllocator t → 0 < t.in_flight → IsInFlight t descriptor × (descriptor ≢ oldest_of t) → IsInFlight (with_freed t bytes) descriptor
 stays t bytes descriptor is some_there ((turns, some, within, same), not_oldest) =
     elim (cases_lt turns t.in_flight) [
       | inl fewer ↦ (turns, some, omega arith, same)
@@ -79,14 +79,14 @@ stays t bytes descriptor is some_there ((turns, some, within, same), not_oldest)
           absurd (not_oldest (same ∙ ap (back t.next (limit_of t.sizes)) at_oldest))
     ]
 
-pub goes_round : FlightGoesRound
+pub goes_round : DescriptorsAreReusedInOrder
 goes_round = record {
   placed = λ t bytes descriptor is room. (joins t bytes descriptor is room, joined t bytes descriptor is room);
   freed = λ t bytes descriptor is some_there. (leaves t bytes descriptor is some_there, stays t bytes descriptor is some_there);
 }
 
 -- the next descriptor isn't in flight where fewer are than may be
-pub next_alone : (t : Turn) → IsTurn t → t.in_flight < limit_of t.sizes → ¬ IsInFlight t t.next
+pub next_alone : (t : Allocator) → IsAllocator t → t.in_flight < limit_of t.sizes → ¬ IsInFlight t t.next
 next_alone t is few (turns, some, within, same) =
     elim (cases_lt t.next turns) [
       | inl far ↦ omega (arith, same, back_far t.next (limit_of t.sizes) turns far (omega arith) is.next)

@@ -1,2 +1,2 @@
-pub mod Rings
-pub mod Turns
+pub mod Refinement
+pub mod Allocator

@@ -11,11 +11,13 @@
 //!   of the area (`left`). With frames in flight the run has passed the end exactly where `tail <= head`, so no flag is kept. With slots a
 //!   frame takes no byte of the ring (`ring_bytes`), the three stay 0, and the same test looks at the count alone.
 //! - What the numbers stand for is said of a session: the lengths of its frames by their numbers, and how many were freed and placed
-//!   (`StandsFor`). `turns_stand_for_frames` ties them to `has_room` and `start_of` of `split_ring`, in each version in the same words.
+//!   (`StandsFor`). `allocator_refines_session` ties them to `has_room` and `start_of` of `split_ring`, in each version in the same words.
 //! - `free` is handed the length of the oldest frame in flight. Which one that is a `Slots` doesn't know: it is asked that there is a
 //!   session that it stands for in which that frame has this length (`IsOldest`).
 #![tactic(auto)]
 
 mod slots;
 
-pub use slots::{Place, Slot, Slots, flight_goes_round, slots_are_apart, turns_stand_for_frames};
+pub use slots::{
+    Place, Slot, Slots, allocator_refines_session, descriptors_are_reused_in_order, slots_are_apart,
+};

@@ -1,10 +1,10 @@
 //! Which descriptor a frame gets, and where it stands.
 ghost use Rattle.std.specs.Prelude.{◌≡◌, ◌+◌, ◌<◌, ◌≤◌, IfSome, MatchOption};
 ghost use Rattle.std.specs.Prelude.{◌^◌, true, false};
-ghost use Rattle.split_ring.specs.Layout.{limit_of, room_of};
+ghost use Rattle.split_ring.specs.Layout.{limit_of, data_area_len};
 ghost use Rattle.split_ring.specs.Frames.{start_after};
-ghost use Rattle.frame_slots.specs.Turns.{fresh_turn, IsTurn, IsInFlight, oldest_of, ring_bytes, are_free, has_room_in, slot_for, with_placed, with_freed, SlotsAreApart, FlightGoesRound};
-ghost use Rattle.frame_slots.specs.Rings.{IsOldest, TurnsStandForFrames};
+ghost use Rattle.frame_slots.specs.Allocator.{initial_allocator, IsAllocator, IsInFlight, oldest_of, ring_bytes, bytes_are_free, has_room_in, next_slot, with_placed, with_freed, SlotsAreApart, DescriptorsAreReusedInOrder};
+ghost use Rattle.frame_slots.specs.Refinement.{IsOldest, AllocatorRefinesSession};
 
 use ivs_base::up64;
 use split_ring::{Queue, queues_are_laid_out};
@@ -35,13 +35,13 @@ pub struct Slots {
 }
 
 impl Model for Slots {
-    ghost use Rattle.frame_slots.specs.Turns.{Turn, IsTurn};
+    ghost use Rattle.frame_slots.specs.Allocator.{Allocator, IsAllocator};
 
-    ghost Value = { Turn };
+    ghost Value = { Allocator };
 
     ghost view = { λ s. record { sizes = s.queue; next = s.next; in_flight = s.in_flight; head = s.head; tail = s.tail; left = s.left } };
 
-    ghost invariant = { λ s. IsTurn (record { sizes = s.queue; next = s.next; in_flight = s.in_flight; head = s.head; tail = s.tail; left = s.left }) };
+    ghost invariant = { λ s. IsAllocator (record { sizes = s.queue; next = s.next; in_flight = s.in_flight; head = s.head; tail = s.tail; left = s.left }) };
 
     ghost inverse = { λ t. record { queue = t.sizes; next = t.next; in_flight = t.in_flight; head = t.head; tail = t.tail; left = t.left } };
 }
@@ -49,7 +49,7 @@ impl Model for Slots {
 impl Slots {
     /// The slots of a section of this queue: no frame is in flight.
     pub fn new(queue: &Queue) -> Slots
-        ensures { result ≡ fresh_turn queue.now }
+        ensures { result ≡ initial_allocator queue.now }
     {
         prove!(queue.limit() > 0);
         Slots {
@@ -68,7 +68,7 @@ impl Slots {
         requires least { 14 ≤ len }
         requires most { len ≤ self.old.sizes.mtu + 18 }
         ensures taken { MatchOption result ((has_room_in self.old len ≡ false) × (self.new ≡ self.old))
-            (λ slot. (has_room_in self.old len ≡ true) × (slot ≡ slot_for self.old len) × (self.new ≡ with_placed self.old len)) }
+            (λ slot. (has_room_in self.old len ≡ true) × (slot ≡ next_slot self.old len) × (self.new ≡ with_placed self.old len)) }
         ensures known { IfSome result (λ slot. slot.descriptor < limit_of self.old.sizes) }
         ensures alone { IfSome result (λ slot. ¬ IsInFlight self.old slot.descriptor) }
         ensures room { IfSome result (λ slot. slot.address + len ≤ self.old.sizes.out) }
@@ -108,14 +108,14 @@ impl Slots {
     /// How many frames are in flight.
     pub fn in_flight(&self) -> u32
         ensures count { result ≡ self.now.in_flight }
-        ensures bounds { IsTurn self.now }
+        ensures bounds { IsAllocator self.now }
     {
         self.in_flight
     }
 
     /// Begins anew: no frame is in flight.
     pub fn reset(&mut self)
-        ensures { self.new ≡ fresh_turn self.old.sizes }
+        ensures { self.new ≡ initial_allocator self.old.sizes }
     {
         self.next = 0;
         self.in_flight = 0;
@@ -128,7 +128,7 @@ impl Slots {
     fn has_room(&self, len: u32) -> bool
         requires { len ≤ self.now.sizes.mtu + 18 }
         ensures value { result ≡ has_room_in self.now len }
-        ensures bounds { IsTurn self.now }
+        ensures bounds { IsAllocator self.now }
     {
         let room = self.queue.room();
         let bytes = ring_bytes(&self.queue, len);
@@ -139,7 +139,7 @@ impl Slots {
     /// Where it would be put.
     fn slot_for(&self, len: u32) -> Slot
         requires { len ≤ self.now.sizes.mtu + 18 }
-        ensures value { result ≡ slot_for self.now len }
+        ensures value { result ≡ next_slot self.now len }
         ensures room { result.address + len ≤ self.now.sizes.out }
     {
         let descriptor = self.next;
@@ -183,9 +183,9 @@ impl Slots {
 
 /// The bytes of the ring that a frame of `len` bytes takes: none where there are slots.
 fn ring_bytes(queue: &Queue, len: u32) -> u32
-    requires { ring_bytes queue.now len ≤ room_of queue.now }
+    requires { ring_bytes queue.now len ≤ data_area_len queue.now }
     ensures value { result ≡ ring_bytes queue.now len }
-    ensures fits { result ≤ room_of queue.now }
+    ensures fits { result ≤ data_area_len queue.now }
 {
     prove!(queue.room() < 16_777_216);
     if queue.is_byte_ring() {
@@ -206,7 +206,7 @@ fn start_after(room: u32, ended: u32, bytes: u32) -> u32
 /// Are so many bytes of the ring free after the newest frame, where some are in flight?
 fn are_free(room: u32, head: u32, tail: u32, bytes: u32) -> bool
     requires { tail + bytes < 2 ^ 32 }
-    ensures { result ≡ are_free room head tail bytes }
+    ensures { result ≡ bytes_are_free room head tail bytes }
 {
     if tail <= head {
         tail + bytes <= head
@@ -221,11 +221,11 @@ pub fn slots_are_apart()
 {}
 
 /// Law: a placed descriptor joins those in flight, and the oldest one leaves them when it is freed.
-pub fn flight_goes_round()
-    ensures { FlightGoesRound }
+pub fn descriptors_are_reused_in_order()
+    ensures { DescriptorsAreReusedInOrder }
 {}
 
 /// Law: the numbers of a turn stand for the frames of a session: they say which frame has room and where it stands.
-pub fn turns_stand_for_frames()
-    ensures { TurnsStandForFrames }
+pub fn allocator_refines_session()
+    ensures { AllocatorRefinesSession }
 {}

@@ -9,46 +9,46 @@ use Rattle.std.proofs.lemmas.List.{reverse-reverse}
 use Rattle.scenario_text.specs.Scenario.{World, IsWorld, is_link}
 use Rattle.call_grammar.specs.Ends.{End, after_reset}
 use Rattle.call_grammar.specs.Places.{Place, Closed, remaining}
-use Rattle.link_machine.specs.LinkMachine.{fresh_side}
+use Rattle.link_machine.specs.LinkMachine.{initial_side}
 use Rattle.call_grammar.proofs.OfferLists.{decide}
 use Rattle.call_grammar.proofs.Reaching.{reaching}
-use Rattle.ends_pair.specs.Ground as pair
-use Rattle.ends_pair.specs.Steps.{OnlyComes}
-use Rattle.ends_pair.specs.Sides.{SideIs}
-use Rattle.ends_pair.proofs.WholeKept.{whole_kept}
-use Rattle.ends_pair.proofs.RowsKept.{follow_lem}
+use Rattle.link_invariant.specs.LinkConfig as pair
+use Rattle.link_invariant.specs.Steps.{OnlyEndChanges}
+use Rattle.link_invariant.specs.Sides.{SideIs}
+use Rattle.link_invariant.proofs.WholeKept.{whole_kept}
+use Rattle.link_invariant.proofs.RowsKept.{follow_lem}
 use Rattle.lawful_history.specs.declared.line.Line.{Line}
 use Rattle.lawful_history.specs.declared.line.Line.TheVariants as line
-use Rattle.lawful_history.specs.Schedule.{Event, Asked, Automated, Stormed, Turned, Acted, WasReset, Reached, Loses, Repeated, event_peer, schedule}
-use Rattle.lawful_history.specs.Sides.{who_of}
-use Rattle.lawful_history.specs.Peers.{Peer, Driver, Waits, Chooses, Storms, at_start, asked_by}
+use Rattle.lawful_history.specs.Schedule.{Event, CallQueued, AutoStarted, StormStarted, TurnTaken, RegionAccessed, DeviceReset, DeviceAccessed, InterruptDropped, InterruptRepeated, event_peer, schedule}
+use Rattle.lawful_history.specs.Sides.{config_of}
+use Rattle.lawful_history.specs.Peers.{Peer, Driver, Waits, Chooses, Storms, at_start, with_call_by}
 use Rattle.call_grammar.specs.Calls.{Call, Tick, Stop, Offer, Poll}
 use Rattle.lawful_history.specs.Device.{device_lines, step_interrupts}
-use Rattle.lawful_history.specs.History.{Moment, peer_at, step_of_event, peer_after, happens, run, beginning, history}
+use Rattle.lawful_history.specs.History.{HistoryState, peer_at, step_of_event, peer_after, after_event, run, initial_state, history}
 use Rattle.lawful_history.specs.Lawful.{IsLawful}
-use Rattle.lawful_history.proofs.There.{IsThere, there_below, all_there}
+use Rattle.lawful_history.proofs.There.{IsPermittedEvent, there_below, all_there}
 use Rattle.lawful_history.proofs.Unique.{one_history_lem}
 use Rattle.lawful_history.proofs.Exists.{Good, good_on, good_at_first, has_sections, opened_fits, peer_same, peer_other, at_beginning, stays_on, history_lem}
 use Rattle.history_laws.specs.Rows.{EachLine, KeepsRows, HistoriesRunTheMachine}
-use Rattle.history_laws.proofs.Proper.{ground_of, IsProper, all_proper}
+use Rattle.history_laws.proofs.Proper.{link_config_of, IsProper, all_proper}
 use Rattle.history_laws.proofs.Stands.{Fine, Stands, ends_alike, device_quiet, Settled, step_quiet, step_brings}
 use Rattle.history_laws.proofs.OwnSteps.{own_reset_stands}
 use Rattle.history_laws.proofs.Armed.{ArmedIs}
-use Rattle.ends_pair.specs.Fields.{AvailEvent}
-use Rattle.ends_pair.specs.Ground.{fields}
+use Rattle.link_invariant.specs.Fields.{AvailEvent}
+use Rattle.link_invariant.specs.LinkConfig.{fields}
 use Rattle.history_laws.proofs.Suits.{Suits, event_suits, starts_suit}
 use Rattle.history_laws.proofs.Turns.{Came, placed, placed_here, placed_beside, turn_stands}
 use Rattle.history_laws.proofs.Others.{after_first, quiet_stands, other_turn_stands, acted_stands, other_reset_stands}
 
-abbrev pub ends_of : Moment → ℕ → End
+abbrev pub ends_of : HistoryState → ℕ → End
 ends_of moment p = (peer_at moment p).end
 
 -- what is known of a moment
-pub record Ran (world : World) (moment : Moment) : Type 0 where
+pub record Ran (world : World) (moment : HistoryState) : Type 0 where
   pub good : Good world moment
   pub places : ℕ → Place
-  pub stands : Stands world moment.past (ends_of moment) places
-  pub left : (p : ℕ) → p < 2 → is_link world p ≡ true → remaining (pair.who_of (ground_of world) p) (places p) ≡ (peer_at moment p).left
+  pub refines : Stands world moment.past (ends_of moment) places
+  pub left : (p : ℕ) → p < 2 → is_link world p ≡ true → remaining (pair.config_of (link_config_of world) p) (places p) ≡ (peer_at moment p).left
   pub suits : (p : ℕ) → Suits world (is_link world p) (peer_at moment p)
 
 link_below : (p : ℕ) (flag : Bool) → (nat_lt p 2 && flag) ≡ true → p < 2
@@ -59,59 +59,59 @@ two_links world p is = link_below p _ is
 
 -- What an event leaves: the peers suit, and the ends stand
 
-module _ (world : World) (moment : Moment) (event : Event) (is : IsWorld world) (there : IsThere world event) (proper : IsProper world event) (ran : Ran world moment) where
+module _ (world : World) (moment : HistoryState) (event : Event) (is : IsWorld world) (there : IsPermittedEvent world event) (proper : IsProper world event) (ran : Ran world moment) where
   below : event_peer event < length moment.peers
   below = let few = there_below world event there in let count = ran.good.count in omega arith
 
-  good_after : Good world (happens world moment event)
+  good_after : Good world (after_event world moment event)
   good_after = good_on reaching world moment event is there ran.good
 
-  suits_after : (q : ℕ) → Suits world (is_link world q) (peer_at (happens world moment event) q)
+  suits_after : (q : ℕ) → Suits world (is_link world q) (peer_at (after_event world moment event) q)
   suits_after q = stays_on (λ k x. Suits world (is_link world k) x) world moment event below (event_suits world (peer_at moment (event_peer event)) moment.past event proper (ran.suits (event_peer event))) q (event_peer event == q) refl (ran.suits q)
 
-  end_here : (peer_at (happens world moment event) (event_peer event)).end ≡ (peer_after world moment event).end
+  end_here : (peer_at (after_event world moment event) (event_peer event)).end ≡ (peer_after world moment event).end
   end_here = ap (λ (x : Peer). x.end) (peer_same world moment event below)
 
-  end_beside : (q : ℕ) → q ≢ event_peer event → (peer_at (happens world moment event) q).end ≡ (peer_at moment q).end
+  end_beside : (q : ℕ) → q ≢ event_peer event → (peer_at (after_event world moment event) q).end ≡ (peer_at moment q).end
   end_beside q ne = ap (λ (x : Peer). x.end) (peer_other world moment event q ne)
 
-  left_here : (places : ℕ → Place) → remaining (pair.who_of (ground_of world) (event_peer event)) (places (event_peer event)) ≡ (peer_after world moment event).left → (q : ℕ) → q ≡ event_peer event →
-      remaining (pair.who_of (ground_of world) q) (places q) ≡ (peer_at (happens world moment event) q).left
-  left_here places at q e = subst (λ (k : ℕ). remaining (pair.who_of (ground_of world) k) (places k) ≡ (peer_at (happens world moment event) k).left) (sym e) (at ∙ ap (λ (x : Peer). x.left) (sym (peer_same world moment event below)))
+  left_here : (places : ℕ → Place) → remaining (pair.config_of (link_config_of world) (event_peer event)) (places (event_peer event)) ≡ (peer_after world moment event).left → (q : ℕ) → q ≡ event_peer event →
+      remaining (pair.config_of (link_config_of world) q) (places q) ≡ (peer_at (after_event world moment event) q).left
+  left_here places at q e = subst (λ (k : ℕ). remaining (pair.config_of (link_config_of world) k) (places k) ≡ (peer_at (after_event world moment event) k).left) (sym e) (at ∙ ap (λ (x : Peer). x.left) (sym (peer_same world moment event below)))
 
-  left_beside : (places : ℕ → Place) (q : ℕ) → q ≢ event_peer event → places q ≡ ran.places q → q < 2 → is_link world q ≡ true → remaining (pair.who_of (ground_of world) q) (places q) ≡ (peer_at (happens world moment event) q).left
-  left_beside places q ne same below' honest = ap (remaining (pair.who_of (ground_of world) q)) same ∙ (ran.left q below' honest ∙ ap (λ (x : Peer). x.left) (sym (peer_other world moment event q ne)))
+  left_beside : (places : ℕ → Place) (q : ℕ) → q ≢ event_peer event → places q ≡ ran.places q → q < 2 → is_link world q ≡ true → remaining (pair.config_of (link_config_of world) q) (places q) ≡ (peer_at (after_event world moment event) q).left
+  left_beside places q ne same below' honest = ap (remaining (pair.config_of (link_config_of world) q)) same ∙ (ran.left q below' honest ∙ ap (λ (x : Peer). x.left) (sym (peer_other world moment event q ne)))
 
   -- the peer of the event came to another place
-  came_ran : Came world (happens world moment event).past (ends_of (happens world moment event)) ran.places (event_peer event) (peer_after world moment event).left → Ran world (happens world moment event)
+  came_ran : Came world (after_event world moment event).past (ends_of (after_event world moment event)) ran.places (event_peer event) (peer_after world moment event).left → Ran world (after_event world moment event)
   came_ran c = record {
     good = good_after;
     places = c.after_places;
-    stands = c.stands;
-    left = λ q below' honest. dite (ℕ_discrete q (event_peer event)) (λ e. left_here c.after_places c.here q e) (λ ne. left_beside c.after_places q ne (c.beside q ne) below' honest);
+    refines = c.refines;
+    left = λ q below' honest. dite (ℕ_discrete q (event_peer event)) (λ e. left_here c.after_places c.here q e) (λ ne. left_beside c.after_places q ne (c.neighbour_word q ne) below' honest);
     suits = suits_after;
   }
 
   -- or it stays, if it is an honest link peer
   stays_ran : (is_link world (event_peer event) ≡ true → ((peer_after world moment event).end ≡ (peer_at moment (event_peer event)).end) × ((peer_after world moment event).left ≡ (peer_at moment (event_peer event)).left)) →
-      Stands world (happens world moment event).past (ends_of moment) ran.places → Ran world (happens world moment event)
+      Stands world (after_event world moment event).past (ends_of moment) ran.places → Ran world (after_event world moment event)
   stays_ran still s = record {
     good = good_after;
     places = ran.places;
-    stands = ends_alike world (happens world moment event).past (ends_of moment) (ends_of (happens world moment event)) ran.places (λ q below' honest. dite (ℕ_discrete q (event_peer event)) (λ e. end_still q e honest) (λ ne. end_beside q ne)) s;
+    refines = ends_alike world (after_event world moment event).past (ends_of moment) (ends_of (after_event world moment event)) ran.places (λ q below' honest. dite (ℕ_discrete q (event_peer event)) (λ e. end_still q e honest) (λ ne. end_beside q ne)) s;
     left = λ q below' honest. dite (ℕ_discrete q (event_peer event)) (λ e. left_still q e below' honest) (λ ne. left_beside ran.places q ne refl below' honest);
     suits = suits_after;
   }
     where
-      end_still : (q : ℕ) → q ≡ event_peer event → is_link world q ≡ true → ends_of (happens world moment event) q ≡ ends_of moment q
-      end_still q e honest = subst (λ (k : ℕ). ends_of (happens world moment event) k ≡ ends_of moment k) (sym e) (end_here ∙ (still (ap (is_link world) (sym e) ∙ honest)).0)
+      end_still : (q : ℕ) → q ≡ event_peer event → is_link world q ≡ true → ends_of (after_event world moment event) q ≡ ends_of moment q
+      end_still q e honest = subst (λ (k : ℕ). ends_of (after_event world moment event) k ≡ ends_of moment k) (sym e) (end_here ∙ (still (ap (is_link world) (sym e) ∙ honest)).0)
 
-      left_still : (q : ℕ) → q ≡ event_peer event → q < 2 → is_link world q ≡ true → remaining (pair.who_of (ground_of world) q) (ran.places q) ≡ (peer_at (happens world moment event) q).left
+      left_still : (q : ℕ) → q ≡ event_peer event → q < 2 → is_link world q ≡ true → remaining (pair.config_of (link_config_of world) q) (ran.places q) ≡ (peer_at (after_event world moment event) q).left
       left_still q e below' honest =
           let honest_p : is_link world (event_peer event) ≡ true = ap (is_link world) (sym e) ∙ honest in
           left_here ran.places (ran.left (event_peer event) (two_links world (event_peer event) honest_p) honest_p ∙ sym (still honest_p).1) q e
 
-asked_still : (peer : Peer) (driver : Driver) (call : Call) → ((asked_by peer driver call).end ≡ peer.end) × ((asked_by peer driver call).left ≡ peer.left)
+asked_still : (peer : Peer) (driver : Driver) (call : Call) → ((with_call_by peer driver call).end ≡ peer.end) × ((with_call_by peer driver call).left ≡ peer.left)
 asked_still peer (Chooses auto) (Offer frame) = (refl, refl)
 asked_still peer (Chooses auto) Tick = (refl, refl)
 asked_still peer (Chooses auto) Stop = (refl, refl)
@@ -129,82 +129,82 @@ not_honest : {A : Type 0} → (b : Bool) → b ≡ false → b ≡ true → A
 not_honest b is_none is_one = let f : false ≡ true = sym is_none ∙ is_one in absurd (cc)
 
 -- a turn
-turned_ran : (world : World) (moment : Moment) (p : ℕ) → IsWorld world → IsThere world (Turned p) → (ran : Ran world moment) → (is_link world p ≡ true) ⊎ (is_link world p ≡ false) → Ran world (happens world moment (Turned p))
+turned_ran : (world : World) (moment : HistoryState) (p : ℕ) → IsWorld world → IsPermittedEvent world (TurnTaken p) → (ran : Ran world moment) → (is_link world p ≡ true) ⊎ (is_link world p ≡ false) → Ran world (after_event world moment (TurnTaken p))
 turned_ran world moment p is there ran (inl honest) =
-    let event = Turned p in
+    let event = TurnTaken p in
     let peer = peer_at moment p in
     let device = step_interrupts world moment.past moment.losses p in
-    let stays = (opened_fits reaching (who_of world p) peer (has_sections world p is) (ran.good.fits p)).stays in
+    let stays = (opened_fits reaching (config_of world p) peer (has_sections world p is) (ran.good.fits p)).stays in
     let two = two_links world p honest in
     came_ran world moment event is there tt ran
-    (turn_stands world moment.past device (ends_of moment) (ends_of (happens world moment event)) ran.places p peer is two honest (step_quiet world moment.past moment.losses p) (step_brings world moment.past moment.losses p) stays (ran.left p two honest) refl
-    (subst (λ (b : Bool). Suits world b peer) honest (ran.suits p)) (end_here world moment event is there tt ran) (end_beside world moment event is there tt ran) ran.stands)
+    (turn_stands world moment.past device (ends_of moment) (ends_of (after_event world moment event)) ran.places p peer is two honest (step_quiet world moment.past moment.losses p) (step_brings world moment.past moment.losses p) stays (ran.left p two honest) refl
+    (subst (λ (b : Bool). Suits world b peer) honest (ran.suits p)) (end_here world moment event is there tt ran) (end_beside world moment event is there tt ran) ran.refines)
 turned_ran world moment p is there ran (inr no_link) =
-    let event = Turned p in
+    let event = TurnTaken p in
     let device = device_lines world moment.past moment.losses event (step_of_event world moment event) in
     stays_ran world moment event is there tt ran (not_honest (is_link world p) no_link)
     (other_turn_stands world moment.past device (ends_of moment) ran.places p (peer_at moment p) is (there_below world event there) no_link (device_quiet world moment.past moment.losses event (step_of_event world moment event)) (ran.suits p)
-    (good_after world moment event is there tt ran).law ran.stands)
+    (good_after world moment event is there tt ran).law ran.refines)
 
 -- a device reset
-reset_ran : (world : World) (moment : Moment) (p : ℕ) → IsWorld world → IsThere world (WasReset p) → (ran : Ran world moment) → (is_link world p ≡ true) ⊎ (is_link world p ≡ false) → Ran world (happens world moment (WasReset p))
+reset_ran : (world : World) (moment : HistoryState) (p : ℕ) → IsWorld world → IsPermittedEvent world (DeviceReset p) → (ran : Ran world moment) → (is_link world p ≡ true) ⊎ (is_link world p ≡ false) → Ran world (after_event world moment (DeviceReset p))
 reset_ran world moment p is there ran (inl honest) =
-    let event = WasReset p in
+    let event = DeviceReset p in
     let device = device_lines world moment.past moment.losses event (step_of_event world moment event) in
-    let after_ends = ends_of (happens world moment event) in
+    let after_ends = ends_of (after_event world moment event) in
     let two = two_links world p honest in
     let places = placed ran.places p Closed in
-    let only : OnlyComes (ends_of moment) after_ends ran.places places p (after_reset (ends_of moment p)) Closed =
+    let only : OnlyEndChanges (ends_of moment) after_ends ran.places places p (after_reset (ends_of moment p)) Closed =
     record { end_is = end_here world moment event is there tt ran; place_is = placed_here ran.places p Closed; ends_stay = end_beside world moment event is there tt ran; places_stay = λ q ne. placed_beside ran.places p q Closed ne } in
     came_ran world moment event is there tt ran record {
       after_places = places;
-      stands = after_first world (line.Reset p) device moment.past after_ends places (device_quiet world moment.past moment.losses event (step_of_event world moment event)) (own_reset_stands world moment.past (ends_of moment) after_ends ran.places places p is two honest only ran.stands);
-      here = ap (remaining (pair.who_of (ground_of world) p)) (placed_here ran.places p Closed);
-      beside = λ q ne. placed_beside ran.places p q Closed ne;
+      refines = after_first world (line.Reset p) device moment.past after_ends places (device_quiet world moment.past moment.losses event (step_of_event world moment event)) (own_reset_stands world moment.past (ends_of moment) after_ends ran.places places p is two honest only ran.refines);
+      here = ap (remaining (pair.config_of (link_config_of world) p)) (placed_here ran.places p Closed);
+      neighbour_word = λ q ne. placed_beside ran.places p q Closed ne;
     }
 reset_ran world moment p is there ran (inr no_link) =
-    let event = WasReset p in
+    let event = DeviceReset p in
     let device = device_lines world moment.past moment.losses event (step_of_event world moment event) in
     stays_ran world moment event is there tt ran (not_honest (is_link world p) no_link)
-    (other_reset_stands world moment.past device (ends_of moment) ran.places p is (there_below world event there) no_link (device_quiet world moment.past moment.losses event (step_of_event world moment event)) ran.stands)
+    (other_reset_stands world moment.past device (ends_of moment) ran.places p is (there_below world event there) no_link (device_quiet world moment.past moment.losses event (step_of_event world moment event)) ran.refines)
 
 -- an event without a step
-plain_stands : (world : World) (moment : Moment) (event : Event) (places : ℕ → Place) → Stands world moment.past (ends_of moment) places →
+plain_stands : (world : World) (moment : HistoryState) (event : Event) (places : ℕ → Place) → Stands world moment.past (ends_of moment) places →
     Stands world (reverse (device_lines world moment.past moment.losses event (step_of_event world moment event)) ++ moment.past) (ends_of moment) places
 plain_stands world moment event places s = quiet_stands world (device_lines world moment.past moment.losses event (step_of_event world moment event)) moment.past (ends_of moment) places (device_quiet world moment.past moment.losses event (step_of_event world moment event)) s
 
-pub ran_on : (world : World) (moment : Moment) (event : Event) → IsWorld world → IsThere world event → IsProper world event → Ran world moment → Ran world (happens world moment event)
-ran_on world moment (Asked p call) is there proper ran = stays_ran world moment (Asked p call) is there proper ran (λ _. asked_still (peer_at moment p) (peer_at moment p).driver call) (plain_stands world moment (Asked p call) ran.places ran.stands)
-ran_on world moment (Automated p expected) is there proper ran = stays_ran world moment (Automated p expected) is there proper ran (λ _. (refl, refl)) (plain_stands world moment (Automated p expected) ran.places ran.stands)
-ran_on world moment (Stormed p seed) is there proper ran = stays_ran world moment (Stormed p seed) is there proper ran (λ _. (refl, refl)) (plain_stands world moment (Stormed p seed) ran.places ran.stands)
-ran_on world moment (Turned p) is there proper ran = turned_ran world moment p is there ran (decide (is_link world p))
-ran_on world moment (Acted p a) is there proper ran =
-    let event = Acted p a in
+pub ran_on : (world : World) (moment : HistoryState) (event : Event) → IsWorld world → IsPermittedEvent world event → IsProper world event → Ran world moment → Ran world (after_event world moment event)
+ran_on world moment (CallQueued p call) is there proper ran = stays_ran world moment (CallQueued p call) is there proper ran (λ _. asked_still (peer_at moment p) (peer_at moment p).driver call) (plain_stands world moment (CallQueued p call) ran.places ran.refines)
+ran_on world moment (AutoStarted p expected) is there proper ran = stays_ran world moment (AutoStarted p expected) is there proper ran (λ _. (refl, refl)) (plain_stands world moment (AutoStarted p expected) ran.places ran.refines)
+ran_on world moment (StormStarted p seed) is there proper ran = stays_ran world moment (StormStarted p seed) is there proper ran (λ _. (refl, refl)) (plain_stands world moment (StormStarted p seed) ran.places ran.refines)
+ran_on world moment (TurnTaken p) is there proper ran = turned_ran world moment p is there ran (decide (is_link world p))
+ran_on world moment (RegionAccessed p a) is there proper ran =
+    let event = RegionAccessed p a in
     let device = device_lines world moment.past moment.losses event (step_of_event world moment event) in
     stays_ran world moment event is there proper ran (λ _. (refl, refl))
-    (acted_stands world moment.past device (ends_of moment) ran.places p a is (there_below world event there) proper (device_quiet world moment.past moment.losses event (step_of_event world moment event)) (good_after world moment event is there proper ran).law ran.stands)
-ran_on world moment (WasReset p) is there proper ran = reset_ran world moment p is there ran (decide (is_link world p))
-ran_on world moment (Reached p a) is there proper ran = stays_ran world moment (Reached p a) is there proper ran (λ _. (refl, refl)) (plain_stands world moment (Reached p a) ran.places ran.stands)
-ran_on world moment (Loses p) is there proper ran = stays_ran world moment (Loses p) is there proper ran (λ _. (refl, refl)) (plain_stands world moment (Loses p) ran.places ran.stands)
-ran_on world moment (Repeated p vector) is there proper ran = stays_ran world moment (Repeated p vector) is there proper ran (λ _. (refl, refl)) (plain_stands world moment (Repeated p vector) ran.places ran.stands)
+    (acted_stands world moment.past device (ends_of moment) ran.places p a is (there_below world event there) proper (device_quiet world moment.past moment.losses event (step_of_event world moment event)) (good_after world moment event is there proper ran).law ran.refines)
+ran_on world moment (DeviceReset p) is there proper ran = reset_ran world moment p is there ran (decide (is_link world p))
+ran_on world moment (DeviceAccessed p a) is there proper ran = stays_ran world moment (DeviceAccessed p a) is there proper ran (λ _. (refl, refl)) (plain_stands world moment (DeviceAccessed p a) ran.places ran.refines)
+ran_on world moment (InterruptDropped p) is there proper ran = stays_ran world moment (InterruptDropped p) is there proper ran (λ _. (refl, refl)) (plain_stands world moment (InterruptDropped p) ran.places ran.refines)
+ran_on world moment (InterruptRepeated p vector) is there proper ran = stays_ran world moment (InterruptRepeated p vector) is there proper ran (λ _. (refl, refl)) (plain_stands world moment (InterruptRepeated p vector) ran.places ran.refines)
 
 -- Along all events
 
-pub run_ran : (world : World) (events : List Event) (moment : Moment) → IsWorld world → AllByRecursion (IsThere world) events → AllByRecursion (IsProper world) events → Ran world moment → Ran world (run world events moment)
+pub run_ran : (world : World) (events : List Event) (moment : HistoryState) → IsWorld world → AllByRecursion (IsPermittedEvent world) events → AllByRecursion (IsProper world) events → Ran world moment → Ran world (run world events moment)
 run_ran world [] moment is there proper ran = ran
-run_ran world (event ∷ events) moment is there proper ran = run_ran world events (happens world moment event) is there.1 proper.1 (ran_on world moment event is there.0 proper.0 ran)
+run_ran world (event ∷ events) moment is there proper ran = run_ran world events (after_event world moment event) is there.1 proper.1 (ran_on world moment event is there.0 proper.0 ran)
 
-pub ran_at_first : (world : World) → Ran world (beginning world)
+pub ran_at_first : (world : World) → Ran world (initial_state world)
 ran_at_first world = record {
   good = good_at_first world;
   places = λ p. Closed;
-  stands = record {
-    holds = whole_kept.starts (ground_of world) (is_link world) (λ at. 0) (ends_of (beginning world)) (λ p. Closed) (λ w. refl) (λ p. ap (λ (x : Peer). x.end) (start p)) (λ p. refl);
-    sides = λ p below honest. subst (λ (x : Peer). SideIs x.end Closed fresh_side) (sym (start p)) follow_lem.starts;
+  refines = record {
+    holds = whole_kept.starts (link_config_of world) (is_link world) (λ at. 0) (ends_of (initial_state world)) (λ p. Closed) (λ w. refl) (λ p. ap (λ (x : Peer). x.end) (start p)) (λ p. refl);
+    sides = λ p below honest. subst (λ (x : Peer). SideIs x.end Closed initial_side) (sym (start p)) follow_lem.starts;
     states = λ p below. refl;
     reads = λ p below honest. refl;
     unrung = λ p below honest. λ unrung. unrung;
-    armed = λ has p below honest. subst (λ (x : Peer). ArmedIs (fields (ground_of world) (λ at. 0) p AvailEvent) x.end Closed) (sym (start p)) (λ ready. cc, λ run none. cc);
+    armed = λ has p below honest. subst (λ (x : Peer). ArmedIs (fields (link_config_of world) (λ at. 0) p AvailEvent) x.end Closed) (sym (start p)) (λ ready. cc, λ run none. cc);
     settled = tt;
     fine = tt;
   };
@@ -212,21 +212,21 @@ ran_at_first world = record {
   suits = λ p. subst (λ (x : Peer). Suits world (is_link world p) x) (sym (start p)) (starts_suit world (is_link world p));
 }
   where
-    start : (p : ℕ) → peer_at (beginning world) p ≡ at_start
+    start : (p : ℕ) → peer_at (initial_state world) p ≡ at_start
     start p = at_beginning world p (nat_lt p world.geometry.peers) refl
 
-pub history_ran : (world : World) → IsWorld world → Ran world (run world (schedule world.acts) (beginning world))
-history_ran world is = run_ran world (schedule world.acts) (beginning world) is (all_there world is) (all_proper world is) (ran_at_first world)
+pub history_ran : (world : World) → IsWorld world → Ran world (run world (schedule world.acts) (initial_state world))
+history_ran world is = run_ran world (schedule world.acts) (initial_state world) is (all_there world is) (all_proper world is) (ran_at_first world)
 
 -- what holds of the lines of the computed history holds of every lawful one
-pub lawful_past : (world : World) (lines : List Line) → IsWorld world → IsLawful world lines → reverse lines ≡ (run world (schedule world.acts) (beginning world)).past
-lawful_past world lines is lawful = ap reverse (one_history_lem world lines (history world) lawful (history_lem reaching world is)) ∙ reverse-reverse (run world (schedule world.acts) (beginning world)).past
+pub lawful_past : (world : World) (lines : List Line) → IsWorld world → IsLawful world lines → reverse lines ≡ (run world (schedule world.acts) (initial_state world)).past
+lawful_past world lines is lawful = ap reverse (one_history_lem world lines (history world) lawful (history_lem reaching world is)) ∙ reverse-reverse (run world (schedule world.acts) (initial_state world)).past
 
 pub all_fine : (world : World) (lines : List Line) → IsWorld world → IsLawful world lines → EachLine (Fine world) (reverse lines)
-all_fine world lines is lawful = subst (λ (past : List Line). EachLine (Fine world) past) (sym (lawful_past world lines is lawful)) (history_ran world is).stands.fine
+all_fine world lines is lawful = subst (λ (past : List Line). EachLine (Fine world) past) (sym (lawful_past world lines is lawful)) (history_ran world is).refines.fine
 
 pub all_settled : (world : World) (lines : List Line) → IsWorld world → IsLawful world lines → Settled world (reverse lines)
-all_settled world lines is lawful = subst (λ (past : List Line). Settled world past) (sym (lawful_past world lines is lawful)) (history_ran world is).stands.settled
+all_settled world lines is lawful = subst (λ (past : List Line). Settled world past) (sym (lawful_past world lines is lawful)) (history_ran world is).refines.settled
 
 rows_of : (world : World) (past : List Line) → EachLine (Fine world) past → KeepsRows world past
 rows_of world [] fine = tt

@@ -8,23 +8,23 @@ use Rattle.std.proofs.lemmas.Nat.{mod_below}
 use Rattle.split_ring.specs.declared.ranges.FieldName.{FieldName}
 use Rattle.split_ring.specs.declared.ranges.FieldName.TheVariants as field_name
 use Rattle.split_ring.specs.declared.steps.Access.TheVariants as access
-use Rattle.split_ring.specs.Layout.{size_of, limit_of, payload_of, word_place, Address, Length, Flags, AvailableIndex, Entry, UsedIndex, Id, AvailableEvent}
+use Rattle.split_ring.specs.Layout.{size_of, limit_of, data_area_start, word_offset, DescAddress, DescLength, DescFlags, AvailIndex, AvailEntry, UsedIndex, UsedId, AvailEvent}
 use Rattle.split_ring.specs.Spelling.{low_half, high_half, entry_half}
 use Rattle.split_ring.specs.Ranges.{IsAvailIndex, IsAvailEntry, IsDescAddress, IsDescLength, IsDescFlags, IsUsedIndex, IsUsedId}
 use Rattle.call_grammar.specs.Steps.{Mark}
 use Rattle.call_grammar.specs.Ends.{End}
 use Rattle.call_grammar.specs.Words.{address_of}
-use Rattle.call_grammar.specs.Calls.{Who}
-use Rattle.call_grammar.specs.Offers.{Job, descriptor_of, entry_of, refusal, returned_by, reclaim_marks, full_marks}
+use Rattle.call_grammar.specs.Calls.{EndConfig}
+use Rattle.call_grammar.specs.Offers.{PendingOffer, descriptor_of, avail_entry_of, refusal, returned_by, reclaim_marks, full_marks}
 use Rattle.call_grammar.specs.Polls.{Item, item_entry, item_address, is_entry, is_address, is_length, published_by, look_marks}
-use Rattle.call_grammar.specs.Places.{Place, Closed, AtState, Clearing, Setting, Refusing, Downed, AtUsedIndex, AtUsedId, Filling, WritingLow, WritingHigh, WritingLength, WritingFlags, WritingEntry, WritingIndex, AtEvent, RingingOffer, AtAvailIndex, Arming, AtEntry, AtLow, AtHigh, AtLength, AtFlags, AtWord, GivingId, GivingLength, GivingIndex, RingingPoll, access_at, marks_at}
+use Rattle.call_grammar.specs.Places.{Place, Closed, ReadingOtherState, Clearing, WritingState, Refusing, NotInRun, ReadingUsedIndex, ReadingUsedId, WritingFrameWord, WritingDescAddressLow, WritingDescAddressHigh, WritingDescLength, WritingDescFlags, WritingAvailEntry, WritingAvailIndex, ReadingAvailEvent, RingingOffer, ReadingAvailIndex, WritingAvailEvent, ReadingAvailEntry, ReadingDescAddressLow, ReadingDescAddressHigh, ReadingDescLength, ReadingDescFlags, ReadingFrameWord, WritingUsedId, WritingUsedLength, WritingUsedIndex, RingingPoll, access_at, marks_at}
 use Rattle.link_machine.specs.LinkMachine.{Side}
 use Rattle.call_grammar.proofs.OfferLists.{no}
 use Rattle.call_grammar.proofs.PollLists.{entry_fails, address_fails, length_fails}
-use Rattle.ends_pair.specs.Ground.{Ground, IsGround, who_of}
-use Rattle.ends_pair.specs.Alone.{Alone}
-use Rattle.ends_pair.specs.Sides.{SideIs}
-use Rattle.ends_pair.proofs.Fields.{numbers, ring_apart}
+use Rattle.link_invariant.specs.LinkConfig.{LinkConfig, IsLinkConfig, config_of}
+use Rattle.link_invariant.specs.EndInvariant.{EndInvariant}
+use Rattle.link_invariant.specs.Sides.{SideIs}
+use Rattle.link_invariant.proofs.Fields.{numbers, ring_apart}
 use Rattle.history_laws.specs.Reads.{Got, got, entry_read, low_read, high_read, length_read, flags_read, IsReadBeyond}
 use Rattle.history_laws.proofs.ReadPlaces.{ReadsAre}
 use Rattle.history_laws.proofs.MarkFacts.{accepted_number, delivered_number}
@@ -44,23 +44,23 @@ snoc_inj (a ∷ xs) (b ∷ ys) x y e =
     (ap (λ (l : List Got). a ∷ l) rest.0 ∙ ap (λ (g : Got). g ∷ ys) heads, rest.1)
 
 -- what is known of a read of this word, where these reads came before, that is out of the range of this field
-Last : Who → Side → List Got → (word value : ℕ) → FieldName → ℕ → Type 0
-Last who side reads word value field_name.AvailIndex refused = (word ≡ who.theirs + word_place who.sizes AvailableIndex) × (refused ≡ high_half value) × (¬ IsAvailIndex who.sizes (length side.delivered % 65536) refused)
-Last who side reads word value field_name.AvailEntry refused =
-    (word ≡ who.theirs + word_place who.sizes (Entry (entry_of who (length side.delivered)))) × (refused ≡ entry_half (entry_of who (length side.delivered)) value) × (¬ IsAvailEntry who.sizes refused)
-Last who side reads word value field_name.DescAddress refused =
-    (read : Item) × (reads ≡ entry_read who (length side.delivered) read ∷ low_read who (length side.delivered) read ∷ []) × IsAvailEntry who.sizes (item_entry who (length side.delivered) read) ×
-    (word ≡ who.theirs + word_place who.sizes (Address (item_entry who (length side.delivered) read)) + 1) × (refused ≡ address_of read.low value) × (¬ IsDescAddress who.sizes refused)
-Last who side reads word value field_name.DescLength refused =
-    (read : Item) × (reads ≡ entry_read who (length side.delivered) read ∷ low_read who (length side.delivered) read ∷ high_read who (length side.delivered) read ∷ []) × IsAvailEntry who.sizes (item_entry who (length side.delivered) read) ×
-    (word ≡ who.theirs + word_place who.sizes (Length (item_entry who (length side.delivered) read))) × (refused ≡ value) × (¬ IsDescLength who.sizes (item_address read) refused)
-Last who side reads word value field_name.DescFlags refused =
-    (read : Item) × IsAvailEntry who.sizes (item_entry who (length side.delivered) read) ×
-    (word ≡ who.theirs + word_place who.sizes (Flags (item_entry who (length side.delivered) read))) × (refused ≡ low_half value) × (¬ IsDescFlags refused)
-Last who side reads word value field_name.UsedIndex refused =
-    (word ≡ who.theirs + word_place who.sizes UsedIndex) × (refused ≡ high_half value) × (¬ IsUsedIndex (side.freed % 65536) refused (length side.accepted - side.freed))
-Last who side reads word value field_name.UsedId refused =
-    (number : ℕ) × (number < side.freed) × (side.freed ≤ number + limit_of who.sizes) × (word ≡ who.theirs + word_place who.sizes (Id (entry_of who number))) × (refused ≡ value) × (¬ IsUsedId (number % limit_of who.sizes) refused)
+Last : EndConfig → Side → List Got → (word value : ℕ) → FieldName → ℕ → Type 0
+Last config side reads word value field_name.AvailIndex refused = (word ≡ config.theirs + word_offset config.sizes AvailIndex) × (refused ≡ high_half value) × (¬ IsAvailIndex config.sizes (length side.delivered % 65536) refused)
+Last config side reads word value field_name.AvailEntry refused =
+    (word ≡ config.theirs + word_offset config.sizes (AvailEntry (avail_entry_of config (length side.delivered)))) × (refused ≡ entry_half (avail_entry_of config (length side.delivered)) value) × (¬ IsAvailEntry config.sizes refused)
+Last config side reads word value field_name.DescAddress refused =
+    (read : Item) × (reads ≡ entry_read config (length side.delivered) read ∷ low_read config (length side.delivered) read ∷ []) × IsAvailEntry config.sizes (item_entry config (length side.delivered) read) ×
+    (word ≡ config.theirs + word_offset config.sizes (DescAddress (item_entry config (length side.delivered) read)) + 1) × (refused ≡ address_of read.low value) × (¬ IsDescAddress config.sizes refused)
+Last config side reads word value field_name.DescLength refused =
+    (read : Item) × (reads ≡ entry_read config (length side.delivered) read ∷ low_read config (length side.delivered) read ∷ high_read config (length side.delivered) read ∷ []) × IsAvailEntry config.sizes (item_entry config (length side.delivered) read) ×
+    (word ≡ config.theirs + word_offset config.sizes (DescLength (item_entry config (length side.delivered) read))) × (refused ≡ value) × (¬ IsDescLength config.sizes (item_address read) refused)
+Last config side reads word value field_name.DescFlags refused =
+    (read : Item) × IsAvailEntry config.sizes (item_entry config (length side.delivered) read) ×
+    (word ≡ config.theirs + word_offset config.sizes (DescFlags (item_entry config (length side.delivered) read))) × (refused ≡ low_half value) × (¬ IsDescFlags refused)
+Last config side reads word value field_name.UsedIndex refused =
+    (word ≡ config.theirs + word_offset config.sizes UsedIndex) × (refused ≡ high_half value) × (¬ IsUsedIndex (side.freed % 65536) refused (length side.accepted - side.freed))
+Last config side reads word value field_name.UsedId refused =
+    (number : ℕ) × (number < side.freed) × (side.freed ≤ number + limit_of config.sizes) × (word ≡ config.theirs + word_offset config.sizes (UsedId (avail_entry_of config number))) × (refused ≡ value) × (¬ IsUsedId (number % limit_of config.sizes) refused)
 
 word_is : (word value w v : ℕ) → got word value ≡ got w v → word ≡ w
 word_is word value w v e = ap (λ (g : Got). g.word) e
@@ -68,54 +68,54 @@ word_is word value w v e = ap (λ (g : Got). g.word) e
 value_is : (word value w v : ℕ) → got word value ≡ got w v → v ≡ value
 value_is word value w v e = sym (ap (λ (g : Got). g.value) e)
 
-last_of : (who : Who) (side : Side) (reads : List Got) (word value : ℕ) (field : FieldName) (refused : ℕ) → IsReadBeyond who side (reads ++ got word value ∷ []) field refused → Last who side reads word value field refused
+last_of : (config : EndConfig) (side : Side) (reads : List Got) (word value : ℕ) (field : FieldName) (refused : ℕ) → IsReadBeyond config side (reads ++ got word value ∷ []) field refused → Last config side reads word value field refused
 unfolding Last
-last_of who side reads word value field_name.AvailIndex refused b =
+last_of config side reads word value field_name.AvailIndex refused b =
     let e = (snoc_inj reads b.0 (got word value) _ b.2).1 in (word_is word value _ b.1 e, b.3 ∙ ap high_half (value_is word value _ b.1 e), b.4)
-last_of who side reads word value field_name.AvailEntry refused b =
+last_of config side reads word value field_name.AvailEntry refused b =
     let number = length side.delivered in
-    let e = (snoc_inj reads [] (got word value) (entry_read who number b.0) b.1).1 in
-    (word_is word value _ _ e, b.2 ∙ ap (entry_half (entry_of who number)) (value_is word value _ b.0.entry_word e), b.3)
-last_of who side reads word value field_name.DescAddress refused b =
+    let e = (snoc_inj reads [] (got word value) (entry_read config number b.0) b.1).1 in
+    (word_is word value _ _ e, b.2 ∙ ap (entry_half (avail_entry_of config number)) (value_is word value _ b.0.entry_word e), b.3)
+last_of config side reads word value field_name.DescAddress refused b =
     let number = length side.delivered in
-    let s = snoc_inj reads (entry_read who number b.0 ∷ low_read who number b.0 ∷ []) (got word value) (high_read who number b.0) b.1 in
+    let s = snoc_inj reads (entry_read config number b.0 ∷ low_read config number b.0 ∷ []) (got word value) (high_read config number b.0) b.1 in
     (b.0, s.0, b.2, word_is word value _ _ s.1, b.3 ∙ ap (address_of b.0.low) (value_is word value _ b.0.high s.1), b.4)
-last_of who side reads word value field_name.DescLength refused b =
+last_of config side reads word value field_name.DescLength refused b =
     let number = length side.delivered in
-    let s = snoc_inj reads (entry_read who number b.0 ∷ low_read who number b.0 ∷ high_read who number b.0 ∷ []) (got word value) (length_read who number b.0) b.1 in
+    let s = snoc_inj reads (entry_read config number b.0 ∷ low_read config number b.0 ∷ high_read config number b.0 ∷ []) (got word value) (length_read config number b.0) b.1 in
     (b.0, s.0, b.2, word_is word value _ _ s.1, b.4 ∙ value_is word value _ b.0.bytes s.1, b.5)
-last_of who side reads word value field_name.DescFlags refused b =
+last_of config side reads word value field_name.DescFlags refused b =
     let number = length side.delivered in
-    let s = snoc_inj reads (entry_read who number b.0 ∷ low_read who number b.0 ∷ high_read who number b.0 ∷ length_read who number b.0 ∷ []) (got word value) (flags_read who number b.0) b.1 in
+    let s = snoc_inj reads (entry_read config number b.0 ∷ low_read config number b.0 ∷ high_read config number b.0 ∷ length_read config number b.0 ∷ []) (got word value) (flags_read config number b.0) b.1 in
     (b.0, b.2, word_is word value _ _ s.1, b.5 ∙ ap low_half (value_is word value _ b.0.flags_word s.1), b.6)
-last_of who side reads word value field_name.UsedIndex refused b =
+last_of config side reads word value field_name.UsedIndex refused b =
     let e = (snoc_inj reads b.0 (got word value) _ b.2).1 in (word_is word value _ b.1 e, b.3 ∙ ap high_half (value_is word value _ b.1 e), b.4)
-last_of who side reads word value field_name.UsedId refused b =
+last_of config side reads word value field_name.UsedId refused b =
     let e = (snoc_inj reads b.0 (got word value) _ b.4).1 in (b.1, b.2, b.3, word_is word value _ refused e, value_is word value _ refused e, b.5)
 
 -- The words of the fields stand apart
 
-FieldWord : Who → FieldName → ℕ → Type 0
-FieldWord who field_name.AvailIndex word = word ≡ who.theirs + word_place who.sizes AvailableIndex
-FieldWord who field_name.AvailEntry word = (k : ℕ) × (k < size_of who.sizes) × (word ≡ who.theirs + word_place who.sizes (Entry k))
-FieldWord who field_name.DescAddress word = (e : ℕ) × (e < size_of who.sizes) × (word ≡ who.theirs + word_place who.sizes (Address e) + 1)
-FieldWord who field_name.DescLength word = (e : ℕ) × (e < size_of who.sizes) × (word ≡ who.theirs + word_place who.sizes (Length e))
-FieldWord who field_name.DescFlags word = (e : ℕ) × (e < size_of who.sizes) × (word ≡ who.theirs + word_place who.sizes (Flags e))
-FieldWord who field_name.UsedIndex word = word ≡ who.theirs + word_place who.sizes UsedIndex
-FieldWord who field_name.UsedId word = (k : ℕ) × (k < size_of who.sizes) × (word ≡ who.theirs + word_place who.sizes (Id k))
+FieldWord : EndConfig → FieldName → ℕ → Type 0
+FieldWord config field_name.AvailIndex word = word ≡ config.theirs + word_offset config.sizes AvailIndex
+FieldWord config field_name.AvailEntry word = (k : ℕ) × (k < size_of config.sizes) × (word ≡ config.theirs + word_offset config.sizes (AvailEntry k))
+FieldWord config field_name.DescAddress word = (e : ℕ) × (e < size_of config.sizes) × (word ≡ config.theirs + word_offset config.sizes (DescAddress e) + 1)
+FieldWord config field_name.DescLength word = (e : ℕ) × (e < size_of config.sizes) × (word ≡ config.theirs + word_offset config.sizes (DescLength e))
+FieldWord config field_name.DescFlags word = (e : ℕ) × (e < size_of config.sizes) × (word ≡ config.theirs + word_offset config.sizes (DescFlags e))
+FieldWord config field_name.UsedIndex word = word ≡ config.theirs + word_offset config.sizes UsedIndex
+FieldWord config field_name.UsedId word = (k : ℕ) × (k < size_of config.sizes) × (word ≡ config.theirs + word_offset config.sizes (UsedId k))
 
-word_of_last : (who : Who) (side : Side) (reads : List Got) (word value : ℕ) (field : FieldName) (refused : ℕ) → 0 < size_of who.sizes → Last who side reads word value field refused → FieldWord who field word
+word_of_last : (config : EndConfig) (side : Side) (reads : List Got) (word value : ℕ) (field : FieldName) (refused : ℕ) → 0 < size_of config.sizes → Last config side reads word value field refused → FieldWord config field word
 unfolding Last FieldWord
-word_of_last who side reads word value field_name.AvailIndex refused some b = b.0
-word_of_last who side reads word value field_name.AvailEntry refused some b = (entry_of who (length side.delivered), mod_below (length side.delivered) (size_of who.sizes) some, b.0)
-word_of_last who side reads word value field_name.DescAddress refused some b = (item_entry who (length side.delivered) b.0, b.2, b.3)
-word_of_last who side reads word value field_name.DescLength refused some b = (item_entry who (length side.delivered) b.0, b.2, b.3)
-word_of_last who side reads word value field_name.DescFlags refused some b = (item_entry who (length side.delivered) b.0, b.1, b.2)
-word_of_last who side reads word value field_name.UsedIndex refused some b = b.0
-word_of_last who side reads word value field_name.UsedId refused some b = (entry_of who b.0, mod_below b.0 (size_of who.sizes) some, b.3)
+word_of_last config side reads word value field_name.AvailIndex refused some b = b.0
+word_of_last config side reads word value field_name.AvailEntry refused some b = (avail_entry_of config (length side.delivered), mod_below (length side.delivered) (size_of config.sizes) some, b.0)
+word_of_last config side reads word value field_name.DescAddress refused some b = (item_entry config (length side.delivered) b.0, b.2, b.3)
+word_of_last config side reads word value field_name.DescLength refused some b = (item_entry config (length side.delivered) b.0, b.2, b.3)
+word_of_last config side reads word value field_name.DescFlags refused some b = (item_entry config (length side.delivered) b.0, b.1, b.2)
+word_of_last config side reads word value field_name.UsedIndex refused some b = b.0
+word_of_last config side reads word value field_name.UsedId refused some b = (avail_entry_of config b.0, mod_below b.0 (size_of config.sizes) some, b.3)
 
-module _ (who : Who) where
-  only_avail_index : (field : FieldName) → FieldWord who field (who.theirs + word_place who.sizes AvailableIndex) → field ≡ field_name.AvailIndex
+module _ (config : EndConfig) where
+  only_avail_index : (field : FieldName) → FieldWord config field (config.theirs + word_offset config.sizes AvailIndex) → field ≡ field_name.AvailIndex
   unfolding FieldWord
   only_avail_index field_name.AvailIndex f = refl
   only_avail_index field_name.AvailEntry f = let s = f.1 in let e = f.2 in absurd (omega arith)
@@ -125,7 +125,7 @@ module _ (who : Who) where
   only_avail_index field_name.UsedIndex f = let e = f in absurd (omega arith)
   only_avail_index field_name.UsedId f = let s = f.1 in let e = f.2 in absurd (omega arith)
 
-  only_entry : (i : ℕ) → i < size_of who.sizes → (field : FieldName) → FieldWord who field (who.theirs + word_place who.sizes (Entry i)) → field ≡ field_name.AvailEntry
+  only_entry : (i : ℕ) → i < size_of config.sizes → (field : FieldName) → FieldWord config field (config.theirs + word_offset config.sizes (AvailEntry i)) → field ≡ field_name.AvailEntry
   unfolding FieldWord
   only_entry i low field_name.AvailIndex f = let e = f in absurd (omega arith)
   only_entry i low field_name.AvailEntry f = refl
@@ -135,7 +135,7 @@ module _ (who : Who) where
   only_entry i low field_name.UsedIndex f = let e = f in absurd (omega arith)
   only_entry i low field_name.UsedId f = let s = f.1 in let e = f.2 in absurd (omega arith)
 
-  only_low : (i : ℕ) → i < size_of who.sizes → (field : FieldName) → FieldWord who field (who.theirs + word_place who.sizes (Address i)) → ⊥
+  only_low : (i : ℕ) → i < size_of config.sizes → (field : FieldName) → FieldWord config field (config.theirs + word_offset config.sizes (DescAddress i)) → ⊥
   unfolding FieldWord
   only_low i low field_name.AvailIndex f = let e = f in absurd (omega arith)
   only_low i low field_name.AvailEntry f = let s = f.1 in let e = f.2 in absurd (omega arith)
@@ -145,7 +145,7 @@ module _ (who : Who) where
   only_low i low field_name.UsedIndex f = let e = f in absurd (omega arith)
   only_low i low field_name.UsedId f = let s = f.1 in let e = f.2 in absurd (omega arith)
 
-  only_high : (i : ℕ) → i < size_of who.sizes → (field : FieldName) → FieldWord who field (who.theirs + word_place who.sizes (Address i) + 1) → field ≡ field_name.DescAddress
+  only_high : (i : ℕ) → i < size_of config.sizes → (field : FieldName) → FieldWord config field (config.theirs + word_offset config.sizes (DescAddress i) + 1) → field ≡ field_name.DescAddress
   unfolding FieldWord
   only_high i low field_name.AvailIndex f = let e = f in absurd (omega arith)
   only_high i low field_name.AvailEntry f = let s = f.1 in let e = f.2 in absurd (omega arith)
@@ -155,7 +155,7 @@ module _ (who : Who) where
   only_high i low field_name.UsedIndex f = let e = f in absurd (omega arith)
   only_high i low field_name.UsedId f = let s = f.1 in let e = f.2 in absurd (omega arith)
 
-  only_length : (i : ℕ) → i < size_of who.sizes → (field : FieldName) → FieldWord who field (who.theirs + word_place who.sizes (Length i)) → field ≡ field_name.DescLength
+  only_length : (i : ℕ) → i < size_of config.sizes → (field : FieldName) → FieldWord config field (config.theirs + word_offset config.sizes (DescLength i)) → field ≡ field_name.DescLength
   unfolding FieldWord
   only_length i low field_name.AvailIndex f = let e = f in absurd (omega arith)
   only_length i low field_name.AvailEntry f = let s = f.1 in let e = f.2 in absurd (omega arith)
@@ -165,7 +165,7 @@ module _ (who : Who) where
   only_length i low field_name.UsedIndex f = let e = f in absurd (omega arith)
   only_length i low field_name.UsedId f = let s = f.1 in let e = f.2 in absurd (omega arith)
 
-  only_flags : (i : ℕ) → i < size_of who.sizes → (field : FieldName) → FieldWord who field (who.theirs + word_place who.sizes (Flags i)) → field ≡ field_name.DescFlags
+  only_flags : (i : ℕ) → i < size_of config.sizes → (field : FieldName) → FieldWord config field (config.theirs + word_offset config.sizes (DescFlags i)) → field ≡ field_name.DescFlags
   unfolding FieldWord
   only_flags i low field_name.AvailIndex f = let e = f in absurd (omega arith)
   only_flags i low field_name.AvailEntry f = let s = f.1 in let e = f.2 in absurd (omega arith)
@@ -175,7 +175,7 @@ module _ (who : Who) where
   only_flags i low field_name.UsedIndex f = let e = f in absurd (omega arith)
   only_flags i low field_name.UsedId f = let s = f.1 in let e = f.2 in absurd (omega arith)
 
-  only_used_index : (field : FieldName) → FieldWord who field (who.theirs + word_place who.sizes UsedIndex) → field ≡ field_name.UsedIndex
+  only_used_index : (field : FieldName) → FieldWord config field (config.theirs + word_offset config.sizes UsedIndex) → field ≡ field_name.UsedIndex
   unfolding FieldWord
   only_used_index field_name.AvailIndex f = let e = f in absurd (omega arith)
   only_used_index field_name.AvailEntry f = let s = f.1 in let e = f.2 in absurd (omega arith)
@@ -185,7 +185,7 @@ module _ (who : Who) where
   only_used_index field_name.UsedIndex f = refl
   only_used_index field_name.UsedId f = let s = f.1 in let e = f.2 in absurd (omega arith)
 
-  only_id : (i : ℕ) → i < size_of who.sizes → (field : FieldName) → FieldWord who field (who.theirs + word_place who.sizes (Id i)) → field ≡ field_name.UsedId
+  only_id : (i : ℕ) → i < size_of config.sizes → (field : FieldName) → FieldWord config field (config.theirs + word_offset config.sizes (UsedId i)) → field ≡ field_name.UsedId
   unfolding FieldWord
   only_id i low field_name.AvailIndex f = let e = f in absurd (omega arith)
   only_id i low field_name.AvailEntry f = let s = f.1 in let e = f.2 in absurd (omega arith)
@@ -195,7 +195,7 @@ module _ (who : Who) where
   only_id i low field_name.UsedIndex f = let e = f in absurd (omega arith)
   only_id i low field_name.UsedId f = refl
 
-  no_event : (field : FieldName) → FieldWord who field (who.theirs + word_place who.sizes AvailableEvent) → ⊥
+  no_event : (field : FieldName) → FieldWord config field (config.theirs + word_offset config.sizes AvailEvent) → ⊥
   unfolding FieldWord
   no_event field_name.AvailIndex f = let e = f in absurd (omega arith)
   no_event field_name.AvailEntry f = let s = f.1 in let e = f.2 in absurd (omega arith)
@@ -205,7 +205,7 @@ module _ (who : Who) where
   no_event field_name.UsedIndex f = let e = f in absurd (omega arith)
   no_event field_name.UsedId f = let s = f.1 in let e = f.2 in absurd (omega arith)
 
-  no_word : (a j : ℕ) → payload_of who.sizes ≤ a → (field : FieldName) → FieldWord who field (who.theirs + (a / 4 + j)) → ⊥
+  no_word : (a j : ℕ) → data_area_start config.sizes ≤ a → (field : FieldName) → FieldWord config field (config.theirs + (a / 4 + j)) → ⊥
   unfolding FieldWord
   no_word a j high field_name.AvailIndex f = let e = f in absurd (omega arith)
   no_word a j high field_name.AvailEntry f = let s = f.1 in let e = f.2 in absurd (omega arith)
@@ -215,7 +215,7 @@ module _ (who : Who) where
   no_word a j high field_name.UsedIndex f = let e = f in absurd (omega arith)
   no_word a j high field_name.UsedId f = let s = f.1 in let e = f.2 in absurd (omega arith)
 
-  no_state : (w : ℕ) → w < who.theirs → (field : FieldName) → FieldWord who field (w) → ⊥
+  no_state : (w : ℕ) → w < config.theirs → (field : FieldName) → FieldWord config field (w) → ⊥
   unfolding FieldWord
   no_state w low field_name.AvailIndex f = let e = f in absurd (omega arith)
   no_state w low field_name.AvailEntry f = let s = f.1 in let e = f.2 in absurd (omega arith)
@@ -243,176 +243,176 @@ third_of : (a b c d e f : Got) (xs ys : List Got) → a ∷ b ∷ c ∷ xs ≡ d
 third_of a b c d e f xs ys is = cc
 
 -- the marks are those of the field
-at_field : (who : Who) (side : Side) (reads : List Got) (word value : ℕ) (field here : FieldName) (refused : ℕ) (marks : List Mark) → field ≡ here → (Last who side reads word value here refused → marks ≡ refusal here refused) →
-    Last who side reads word value field refused → marks ≡ refusal field refused
-at_field who side reads word value field here refused marks is show last =
-    subst (λ (f : FieldName). Last who side reads word value f refused → marks ≡ refusal f refused) (sym is) show last
+at_field : (config : EndConfig) (side : Side) (reads : List Got) (word value : ℕ) (field here : FieldName) (refused : ℕ) (marks : List Mark) → field ≡ here → (Last config side reads word value here refused → marks ≡ refusal here refused) →
+    Last config side reads word value field refused → marks ≡ refusal field refused
+at_field config side reads word value field here refused marks is show last =
+    subst (λ (f : FieldName). Last config side reads word value f refused → marks ≡ refusal f refused) (sym is) show last
 
 refused_as : (marks : List Mark) (field : FieldName) (value refused : ℕ) → marks ≡ refusal field value → refused ≡ value → marks ≡ refusal field refused
 refused_as marks field value refused is e = is ∙ ap (refusal field) (sym e)
 
 -- what is known of the end and its call
-record Facts (ground : Ground) (p : ℕ) (memory : ℕ → ℕ) (end : End) (side : Side) (reads : List Got) (place : Place) : Type 0 where
-  alone : Alone ground memory p end place
+record Facts (link_config : LinkConfig) (p : ℕ) (memory : ℕ → ℕ) (end : End) (side : Side) (reads : List Got) (place : Place) : Type 0 where
+  alone : EndInvariant link_config memory p end place
   si : SideIs end place side
-  reads_are : ReadsAre (who_of ground p) place reads
+  reads_are : ReadsAre (config_of link_config p) place reads
 
-module _ (ground : Ground) (p : ℕ) (memory : ℕ → ℕ) (end : End) (side : Side) (reads : List Got) (value : ℕ) (word : ℕ) (field : FieldName) (refused : ℕ) (is : IsGround ground) where
+module _ (link_config : LinkConfig) (p : ℕ) (memory : ℕ → ℕ) (end : End) (side : Side) (reads : List Got) (value : ℕ) (word : ℕ) (field : FieldName) (refused : ℕ) (is : IsLinkConfig link_config) where
   Refuses : Place → Type 0
-  Refuses place = Facts ground p memory end side reads place → access_at (who_of ground p) place ≡ access.Read word → Last (who_of ground p) side reads word value field refused → FieldWord (who_of ground p) field word →
-      marks_at (who_of ground p) place value ≡ refusal field refused
+  Refuses place = Facts link_config p memory end side reads place → access_at (config_of link_config p) place ≡ access.Read word → Last (config_of link_config p) side reads word value field refused → FieldWord (config_of link_config p) field word →
+      marks_at (config_of link_config p) place value ≡ refusal field refused
 
   number_of : (place : Place) (number : ℕ) → SideIs end place side → number ≡ length end.delivered → number ≡ length side.delivered
   number_of place number si e = e ∙ delivered_number end place side side.delivered si refl
 
-  avail_index_beyond : (taken : ℕ) (final : Bool) → Refuses (AtAvailIndex taken final)
+  avail_index_beyond : (taken : ℕ) (final : Bool) → Refuses (ReadingAvailIndex taken final)
   unfolding Refuses Last
   avail_index_beyond taken final f at last there =
-      let who = who_of ground p in
+      let config = config_of link_config p in
       let count = published_by taken value in
-      let only = only_avail_index who field (subst (FieldWord who field) (read_word _ word at) there) in
-      at_field who side reads word value field field_name.AvailIndex refused (marks_at who (AtAvailIndex taken final) value) only
-      (λ l. let n = number_of (AtAvailIndex taken final) taken f.si f.alone.holds.1 in
-      let beyond : ¬ IsAvailIndex ground.sizes (taken % 65536) (high_half value) = subst (λ (k : ℕ). ¬ IsAvailIndex ground.sizes (k % 65536) (high_half value)) (sym n) (subst (λ (r : ℕ). ¬ IsAvailIndex ground.sizes (length side.delivered % 65536) r) l.1 l.2) in
-      refused_as _ field_name.AvailIndex (high_half value) refused (no (nat_le count (size_of ground.sizes)) (look_marks final count) (refusal field_name.AvailIndex (high_half value)) (test_fails count (size_of ground.sizes) beyond)) l.1) last
+      let only = only_avail_index config field (subst (FieldWord config field) (read_word _ word at) there) in
+      at_field config side reads word value field field_name.AvailIndex refused (marks_at config (ReadingAvailIndex taken final) value) only
+      (λ l. let n = number_of (ReadingAvailIndex taken final) taken f.si f.alone.holds.1 in
+      let beyond : ¬ IsAvailIndex link_config.sizes (taken % 65536) (high_half value) = subst (λ (k : ℕ). ¬ IsAvailIndex link_config.sizes (k % 65536) (high_half value)) (sym n) (subst (λ (r : ℕ). ¬ IsAvailIndex link_config.sizes (length side.delivered % 65536) r) l.1 l.2) in
+      refused_as _ field_name.AvailIndex (high_half value) refused (no (nat_le count (size_of link_config.sizes)) (look_marks final count) (refusal field_name.AvailIndex (high_half value)) (test_fails count (size_of link_config.sizes) beyond)) l.1) last
 
-  used_index_beyond : (job : Job) (freed : ℕ) → Refuses (AtUsedIndex job freed)
+  used_index_beyond : (pending : PendingOffer) (freed : ℕ) → Refuses (ReadingUsedIndex pending freed)
   unfolding Refuses Last
-  used_index_beyond job freed f at last there =
-      let who = who_of ground p in
+  used_index_beyond pending freed f at last there =
+      let config = config_of link_config p in
       let count = returned_by freed value in
-      let only = only_used_index who field (subst (FieldWord who field) (read_word _ word at) there) in
+      let only = only_used_index config field (subst (FieldWord config field) (read_word _ word at) there) in
       let freed_is : freed ≡ side.freed = f.alone.holds.2 ∙ sym f.si.freed in
-      let number : job.number ≡ length side.accepted = f.alone.holds.1.number ∙ accepted_number end (AtUsedIndex job freed) side side.accepted f.si refl in
-      at_field who side reads word value field field_name.UsedIndex refused (marks_at who (AtUsedIndex job freed) value) only
+      let number : pending.number ≡ length side.accepted = f.alone.holds.1.number ∙ accepted_number end (ReadingUsedIndex pending freed) side side.accepted f.si refl in
+      at_field config side reads word value field field_name.UsedIndex refused (marks_at config (ReadingUsedIndex pending freed) value) only
       (λ l. let beyond : ¬ IsUsedIndex (side.freed % 65536) (high_half value) (length side.accepted - side.freed) = subst (λ (r : ℕ). ¬ IsUsedIndex (side.freed % 65536) r (length side.accepted - side.freed)) l.1 l.2 in
-      let mine : ¬ IsUsedIndex (freed % 65536) (high_half value) (job.number - freed) =
+      let mine : ¬ IsUsedIndex (freed % 65536) (high_half value) (pending.number - freed) =
       subst (λ (n : ℕ). ¬ IsUsedIndex (freed % 65536) (high_half value) (n - freed)) (sym number) (subst (λ (k : ℕ). ¬ IsUsedIndex (k % 65536) (high_half value) (length side.accepted - k)) (sym freed_is) beyond) in
-      refused_as _ field_name.UsedIndex (high_half value) refused (no (nat_le count (job.number - freed)) (reclaim_marks who job freed count) (refusal field_name.UsedIndex (high_half value)) (test_fails count (job.number - freed) mine)) l.1) last
+      refused_as _ field_name.UsedIndex (high_half value) refused (no (nat_le count (pending.number - freed)) (reclaim_marks config pending freed count) (refusal field_name.UsedIndex (high_half value)) (test_fails count (pending.number - freed) mine)) l.1) last
 
-  same_number : (freed number count : ℕ) → freed < count → count ≤ freed + limit_of ground.sizes → number < count → count ≤ number + limit_of ground.sizes → number % size_of ground.sizes ≡ freed % size_of ground.sizes → number ≡ freed
+  same_number : (freed number count : ℕ) → freed < count → count ≤ freed + limit_of link_config.sizes → number < count → count ≤ number + limit_of link_config.sizes → number % size_of link_config.sizes ≡ freed % size_of link_config.sizes → number ≡ freed
   same_number freed number count f1 f2 n1 n2 same =
-      let b = numbers ground is in let least = b.size_least in let most = b.limit_most in
-      dite (dec_lt freed number) (λ up. absurd (ring_apart (size_of ground.sizes) freed number (omega arith) up (omega arith) same))
-      (λ upto. dite (dec_lt number freed) (λ down. absurd (ring_apart (size_of ground.sizes) number freed (omega arith) down (omega arith) (sym same))) (λ other. omega arith))
+      let b = numbers link_config is in let least = b.size_least in let most = b.limit_most in
+      dite (dec_lt freed number) (λ up. absurd (ring_apart (size_of link_config.sizes) freed number (omega arith) up (omega arith) same))
+      (λ upto. dite (dec_lt number freed) (λ down. absurd (ring_apart (size_of link_config.sizes) number freed (omega arith) down (omega arith) (sym same))) (λ other. omega arith))
 
-  used_id_beyond : (job : Job) (freed more : ℕ) → Refuses (AtUsedId job freed more)
+  used_id_beyond : (pending : PendingOffer) (freed more : ℕ) → Refuses (ReadingUsedId pending freed more)
   unfolding Refuses Last
-  used_id_beyond job freed more f at last there =
-      let who = who_of ground p in
-      let b = numbers ground is in let least = b.size_least in
-      let only = only_id who (entry_of who freed) (mod_below freed (size_of ground.sizes) (omega arith)) field (subst (FieldWord who field) (read_word _ word at) there) in
+  used_id_beyond pending freed more f at last there =
+      let config = config_of link_config p in
+      let b = numbers link_config is in let least = b.size_least in
+      let only = only_id config (avail_entry_of config freed) (mod_below freed (size_of link_config.sizes) (omega arith)) field (subst (FieldWord config field) (read_word _ word at) there) in
       let all = f.alone.holds.2 in let within = f.alone.holds.3 in let below = f.alone.freed in let g = f.si.freed in
-      at_field who side reads word value field field_name.UsedId refused (marks_at who (AtUsedId job freed more) value) only
-      (λ l. let words : who.theirs + word_place ground.sizes (Id (entry_of who freed)) ≡ who.theirs + word_place ground.sizes (Id (entry_of who l.0)) = sym (read_word _ word at) ∙ l.3 in
-      let place : entry_of who l.0 ≡ entry_of who freed = omega arith in
+      at_field config side reads word value field field_name.UsedId refused (marks_at config (ReadingUsedId pending freed more) value) only
+      (λ l. let words : config.theirs + word_offset link_config.sizes (UsedId (avail_entry_of config freed)) ≡ config.theirs + word_offset link_config.sizes (UsedId (avail_entry_of config l.0)) = sym (read_word _ word at) ∙ l.3 in
+      let place : avail_entry_of config l.0 ≡ avail_entry_of config freed = omega arith in
       let low = l.1 in let high = l.2 in
       let number : l.0 ≡ freed = same_number freed l.0 side.freed (omega arith) (omega arith) low high place in
-      let wrong : ¬ IsUsedId (freed % limit_of ground.sizes) value = subst (λ (k : ℕ). ¬ IsUsedId (k % limit_of ground.sizes) value) number (subst (λ (r : ℕ). ¬ IsUsedId (l.0 % limit_of ground.sizes) r) l.4 l.5) in
-      refused_as _ field_name.UsedId value refused (no (value == descriptor_of who freed) (if more == 0 then full_marks who job (freed + 1) else []) (refusal field_name.UsedId value) (same_fails value (descriptor_of who freed) wrong)) l.4) last
+      let wrong : ¬ IsUsedId (freed % limit_of link_config.sizes) value = subst (λ (k : ℕ). ¬ IsUsedId (k % limit_of link_config.sizes) value) number (subst (λ (r : ℕ). ¬ IsUsedId (l.0 % limit_of link_config.sizes) r) l.4 l.5) in
+      refused_as _ field_name.UsedId value refused (no (value == descriptor_of config freed) (if more == 0 then full_marks config pending (freed + 1) else []) (refusal field_name.UsedId value) (same_fails value (descriptor_of config freed) wrong)) l.4) last
 
-  entry_beyond : (number more : ℕ) → Refuses (AtEntry number more)
+  entry_beyond : (number more : ℕ) → Refuses (ReadingAvailEntry number more)
   unfolding Refuses Last
   entry_beyond number more f at last there =
-      let who = who_of ground p in
-      let b = numbers ground is in let least = b.size_least in
-      let only = only_entry who (entry_of who number) (mod_below number (size_of ground.sizes) (omega arith)) field (subst (FieldWord who field) (read_word _ word at) there) in
-      at_field who side reads word value field field_name.AvailEntry refused (marks_at who (AtEntry number more) value) only
-      (λ l. let n = number_of (AtEntry number more) number f.si f.alone.holds.1 in
-      let entry = entry_half (entry_of who number) value in
-      let same : refused ≡ entry = l.1 ∙ ap (λ (k : ℕ). entry_half (entry_of who k) value) (sym n) in
-      refused_as _ field_name.AvailEntry entry refused (no (is_entry ground.sizes entry) [] (refusal field_name.AvailEntry entry) (entry_fails ground.sizes entry (subst (λ (r : ℕ). ¬ IsAvailEntry ground.sizes r) same l.2))) same) last
+      let config = config_of link_config p in
+      let b = numbers link_config is in let least = b.size_least in
+      let only = only_entry config (avail_entry_of config number) (mod_below number (size_of link_config.sizes) (omega arith)) field (subst (FieldWord config field) (read_word _ word at) there) in
+      at_field config side reads word value field field_name.AvailEntry refused (marks_at config (ReadingAvailEntry number more) value) only
+      (λ l. let n = number_of (ReadingAvailEntry number more) number f.si f.alone.holds.1 in
+      let entry = entry_half (avail_entry_of config number) value in
+      let same : refused ≡ entry = l.1 ∙ ap (λ (k : ℕ). entry_half (avail_entry_of config k) value) (sym n) in
+      refused_as _ field_name.AvailEntry entry refused (no (is_entry link_config.sizes entry) [] (refusal field_name.AvailEntry entry) (entry_fails link_config.sizes entry (subst (λ (r : ℕ). ¬ IsAvailEntry link_config.sizes r) same l.2))) same) last
 
-  low_beyond : (number more entry : ℕ) → Refuses (AtLow number more entry)
+  low_beyond : (number more entry : ℕ) → Refuses (ReadingDescAddressLow number more entry)
   unfolding Refuses Last
   low_beyond number more entry f at last there =
-      let who = who_of ground p in
-      let low : entry < size_of ground.sizes = subst (λ (e : ℕ). e < size_of ground.sizes) (sym f.reads_are.2) f.reads_are.3 in
-      absurd (only_low who entry low field (subst (FieldWord who field) (read_word _ word at) there))
+      let config = config_of link_config p in
+      let low : entry < size_of link_config.sizes = subst (λ (e : ℕ). e < size_of link_config.sizes) (sym f.reads_are.2) f.reads_are.3 in
+      absurd (only_low config entry low field (subst (FieldWord config field) (read_word _ word at) there))
 
-  high_beyond : (number more entry low : ℕ) → Refuses (AtHigh number more entry low)
+  high_beyond : (number more entry low : ℕ) → Refuses (ReadingDescAddressHigh number more entry low)
   unfolding Refuses Last
   high_beyond number more entry low f at last there =
-      let who = who_of ground p in
+      let config = config_of link_config p in
       let r = f.reads_are in
-      let small : entry < size_of ground.sizes = subst (λ (e : ℕ). e < size_of ground.sizes) (sym r.2) r.3 in
-      let only = only_high who entry small field (subst (FieldWord who field) (read_word _ word at) there) in
+      let small : entry < size_of link_config.sizes = subst (λ (e : ℕ). e < size_of link_config.sizes) (sym r.2) r.3 in
+      let only = only_high config entry small field (subst (FieldWord config field) (read_word _ word at) there) in
       let address = address_of low value in
-      at_field who side reads word value field field_name.DescAddress refused (marks_at who (AtHigh number more entry low) value) only
+      at_field config side reads word value field field_name.DescAddress refused (marks_at config (ReadingDescAddressHigh number more entry low) value) only
       (λ l. let lows = ap (λ (g : Got). g.value) (second_of _ _ _ _ _ _ (sym r.1 ∙ l.1)) in
       let same : refused ≡ address = l.4 ∙ ap (λ (k : ℕ). address_of k value) (sym (r.4 ∙ lows)) in
-      refused_as _ field_name.DescAddress address refused (no (is_address ground.sizes address) [] (refusal field_name.DescAddress address) (address_fails ground.sizes address (subst (λ (k : ℕ). ¬ IsDescAddress ground.sizes k) same l.5))) same) last
+      refused_as _ field_name.DescAddress address refused (no (is_address link_config.sizes address) [] (refusal field_name.DescAddress address) (address_fails link_config.sizes address (subst (λ (k : ℕ). ¬ IsDescAddress link_config.sizes k) same l.5))) same) last
 
-  length_beyond : (number more entry address : ℕ) → Refuses (AtLength number more entry address)
+  length_beyond : (number more entry address : ℕ) → Refuses (ReadingDescLength number more entry address)
   unfolding Refuses Last
   length_beyond number more entry address f at last there =
-      let who = who_of ground p in
+      let config = config_of link_config p in
       let r = f.reads_are in
-      let small : entry < size_of ground.sizes = subst (λ (e : ℕ). e < size_of ground.sizes) (sym r.2) r.3 in
-      let only = only_length who entry small field (subst (FieldWord who field) (read_word _ word at) there) in
-      at_field who side reads word value field field_name.DescLength refused (marks_at who (AtLength number more entry address) value) only
+      let small : entry < size_of link_config.sizes = subst (λ (e : ℕ). e < size_of link_config.sizes) (sym r.2) r.3 in
+      let only = only_length config entry small field (subst (FieldWord config field) (read_word _ word at) there) in
+      at_field config side reads word value field field_name.DescLength refused (marks_at config (ReadingDescLength number more entry address) value) only
       (λ l. let lows = ap (λ (g : Got). g.value) (second_of _ _ _ _ _ _ (sym r.1 ∙ l.1)) in
       let highs = ap (λ (g : Got). g.value) (third_of _ _ _ _ _ _ _ _ (sym r.1 ∙ l.1)) in
       let same : item_address l.0 ≡ address = sym (r.4 ∙ (ap (λ (k : ℕ). address_of k r.0.high) lows ∙ ap (address_of l.0.low) highs)) in
-      let beyond : ¬ IsDescLength ground.sizes address value = subst (λ (k : ℕ). ¬ IsDescLength ground.sizes k value) same (subst (λ (k : ℕ). ¬ IsDescLength ground.sizes (item_address l.0) k) l.4 l.5) in
-      refused_as _ field_name.DescLength value refused (no (is_length ground.sizes address value) [] (refusal field_name.DescLength value) (length_fails ground.sizes address value beyond)) l.4) last
+      let beyond : ¬ IsDescLength link_config.sizes address value = subst (λ (k : ℕ). ¬ IsDescLength link_config.sizes k value) same (subst (λ (k : ℕ). ¬ IsDescLength link_config.sizes (item_address l.0) k) l.4 l.5) in
+      refused_as _ field_name.DescLength value refused (no (is_length link_config.sizes address value) [] (refusal field_name.DescLength value) (length_fails link_config.sizes address value beyond)) l.4) last
 
-  flags_beyond : (number more entry address bytes : ℕ) → Refuses (AtFlags number more entry address bytes)
+  flags_beyond : (number more entry address bytes : ℕ) → Refuses (ReadingDescFlags number more entry address bytes)
   unfolding Refuses Last
   flags_beyond number more entry address bytes f at last there =
-      let who = who_of ground p in
+      let config = config_of link_config p in
       let r = f.reads_are in
-      let small : entry < size_of ground.sizes = subst (λ (e : ℕ). e < size_of ground.sizes) (sym r.2) r.3 in
-      let only = only_flags who entry small field (subst (FieldWord who field) (read_word _ word at) there) in
-      at_field who side reads word value field field_name.DescFlags refused (marks_at who (AtFlags number more entry address bytes) value) only
+      let small : entry < size_of link_config.sizes = subst (λ (e : ℕ). e < size_of link_config.sizes) (sym r.2) r.3 in
+      let only = only_flags config entry small field (subst (FieldWord config field) (read_word _ word at) there) in
+      at_field config side reads word value field field_name.DescFlags refused (marks_at config (ReadingDescFlags number more entry address bytes) value) only
       (λ l. refused_as _ field_name.DescFlags (low_half value) refused (no (low_half value == 0) [] (refusal field_name.DescFlags (low_half value)) (same_fails (low_half value) 0 (subst (λ (k : ℕ). ¬ IsDescFlags k) l.3 l.4))) l.3) last
 
-  word_beyond : (number more entry address bytes : ℕ) (words : List ℕ) (left : ℕ) → Refuses (AtWord number more entry address bytes words left)
+  word_beyond : (number more entry address bytes : ℕ) (words : List ℕ) (left : ℕ) → Refuses (ReadingFrameWord number more entry address bytes words left)
   unfolding Refuses Last
   word_beyond number more entry address bytes words left f at last there =
-      let who = who_of ground p in
-      let high : payload_of ground.sizes ≤ address = subst (λ (a : ℕ). payload_of ground.sizes ≤ a) (sym f.reads_are.4) f.reads_are.5.1 in
-      absurd (no_word who address (length words) high field (subst (FieldWord who field) (read_word _ word at) there))
+      let config = config_of link_config p in
+      let high : data_area_start link_config.sizes ≤ address = subst (λ (a : ℕ). data_area_start link_config.sizes ≤ a) (sym f.reads_are.4) f.reads_are.5.1 in
+      absurd (no_word config address (length words) high field (subst (FieldWord config field) (read_word _ word at) there))
 
   by_place : (x : Place) → Refuses x
   unfolding Refuses
   by_place Closed f e l there = absurd (cc)
-  by_place (AtState handshake) f e l there = let first = is.first in let b = read_word _ word e in absurd (no_state (who_of ground p) word (omega arith) field there)
+  by_place (ReadingOtherState handshake) f e l there = let first = is.first in let b = read_word _ word e in absurd (no_state (config_of link_config p) word (omega arith) field there)
   by_place (Clearing at more state) f e l there = absurd (cc)
-  by_place (Setting state) f e l there = absurd (cc)
+  by_place (WritingState state) f e l there = absurd (cc)
   by_place Refusing f e l there = absurd (cc)
-  by_place Downed f e l there = absurd (cc)
-  by_place (AtUsedIndex job freed) f e l there = used_index_beyond job freed f e l there
-  by_place (AtUsedId job freed more) f e l there = used_id_beyond job freed more f e l there
-  by_place (Filling job at more) f e l there = absurd (cc)
-  by_place (WritingLow job) f e l there = absurd (cc)
-  by_place (WritingHigh job) f e l there = absurd (cc)
-  by_place (WritingLength job) f e l there = absurd (cc)
-  by_place (WritingFlags job) f e l there = absurd (cc)
-  by_place (WritingEntry job) f e l there = absurd (cc)
-  by_place (WritingIndex job) f e l there = absurd (cc)
-  by_place (AtEvent number) f e l there = absurd (no_event (who_of ground p) field (subst (FieldWord (who_of ground p) field) (read_word _ word e) there))
+  by_place NotInRun f e l there = absurd (cc)
+  by_place (ReadingUsedIndex pending freed) f e l there = used_index_beyond pending freed f e l there
+  by_place (ReadingUsedId pending freed more) f e l there = used_id_beyond pending freed more f e l there
+  by_place (WritingFrameWord pending at more) f e l there = absurd (cc)
+  by_place (WritingDescAddressLow pending) f e l there = absurd (cc)
+  by_place (WritingDescAddressHigh pending) f e l there = absurd (cc)
+  by_place (WritingDescLength pending) f e l there = absurd (cc)
+  by_place (WritingDescFlags pending) f e l there = absurd (cc)
+  by_place (WritingAvailEntry pending) f e l there = absurd (cc)
+  by_place (WritingAvailIndex pending) f e l there = absurd (cc)
+  by_place (ReadingAvailEvent number) f e l there = absurd (no_event (config_of link_config p) field (subst (FieldWord (config_of link_config p) field) (read_word _ word e) there))
   by_place RingingOffer f e l there = absurd (cc)
-  by_place (AtAvailIndex taken final) f e l there = avail_index_beyond taken final f e l there
-  by_place (Arming taken) f e l there = absurd (cc)
-  by_place (AtEntry number more) f e l there = entry_beyond number more f e l there
-  by_place (AtLow number more entry) f e l there = low_beyond number more entry f e l there
-  by_place (AtHigh number more entry low) f e l there = high_beyond number more entry low f e l there
-  by_place (AtLength number more entry address) f e l there = length_beyond number more entry address f e l there
-  by_place (AtFlags number more entry address bytes) f e l there = flags_beyond number more entry address bytes f e l there
-  by_place (AtWord number more entry address bytes words left) f e l there = word_beyond number more entry address bytes words left f e l there
-  by_place (GivingId number more entry) f e l there = absurd (cc)
-  by_place (GivingLength number more) f e l there = absurd (cc)
-  by_place (GivingIndex number more) f e l there = absurd (cc)
+  by_place (ReadingAvailIndex taken final) f e l there = avail_index_beyond taken final f e l there
+  by_place (WritingAvailEvent taken) f e l there = absurd (cc)
+  by_place (ReadingAvailEntry number more) f e l there = entry_beyond number more f e l there
+  by_place (ReadingDescAddressLow number more entry) f e l there = low_beyond number more entry f e l there
+  by_place (ReadingDescAddressHigh number more entry low) f e l there = high_beyond number more entry low f e l there
+  by_place (ReadingDescLength number more entry address) f e l there = length_beyond number more entry address f e l there
+  by_place (ReadingDescFlags number more entry address bytes) f e l there = flags_beyond number more entry address bytes f e l there
+  by_place (ReadingFrameWord number more entry address bytes words left) f e l there = word_beyond number more entry address bytes words left f e l there
+  by_place (WritingUsedId number more entry) f e l there = absurd (cc)
+  by_place (WritingUsedLength number more) f e l there = absurd (cc)
+  by_place (WritingUsedIndex number more) f e l there = absurd (cc)
   by_place RingingPoll f e l there = absurd (cc)
 
-  pub refuses : (place : Place) → Alone ground memory p end place → SideIs end place side → ReadsAre (who_of ground p) place reads → access_at (who_of ground p) place ≡ access.Read word →
-      IsReadBeyond (who_of ground p) side (reads ++ got word value ∷ []) field refused → marks_at (who_of ground p) place value ≡ refusal field refused
+  pub refuses : (place : Place) → EndInvariant link_config memory p end place → SideIs end place side → ReadsAre (config_of link_config p) place reads → access_at (config_of link_config p) place ≡ access.Read word →
+      IsReadBeyond (config_of link_config p) side (reads ++ got word value ∷ []) field refused → marks_at (config_of link_config p) place value ≡ refusal field refused
   unfolding Refuses
-  refuses place alone si reads_are at beyond = by_place place record { alone = alone; si = si; reads_are = reads_are } at last (word_of_last (who_of ground p) side reads word value field refused some last)
+  refuses place alone si reads_are at beyond = by_place place record { alone = alone; si = si; reads_are = reads_are } at last (word_of_last (config_of link_config p) side reads word value field refused some last)
     where
-      some : 0 < size_of ground.sizes
-      some = let least = (numbers ground is).size_least in omega arith
+      some : 0 < size_of link_config.sizes
+      some = let least = (numbers link_config is).size_least in omega arith
 
-      last : Last (who_of ground p) side reads word value field refused
-      last = last_of (who_of ground p) side reads word value field refused beyond
+      last : Last (config_of link_config p) side reads word value field refused
+      last = last_of (config_of link_config p) side reads word value field refused beyond

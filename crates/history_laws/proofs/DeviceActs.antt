@@ -10,13 +10,13 @@ use Rattle.call_grammar.specs.Steps.{Step, step_of}
 use Rattle.call_grammar.specs.Trees.{CallTree, Ended, Does, Reads}
 use Rattle.lawful_history.specs.declared.line.Line.{Line}
 use Rattle.lawful_history.specs.Memory.{last_write}
-use Rattle.lawful_history.specs.Sides.{who_of}
-use Rattle.lawful_history.specs.Schedule.{Event, Asked, Automated, Stormed, Turned, Acted, WasReset, Reached, Loses, Repeated, DeviceAccess, event_peer, schedule}
-use Rattle.lawful_history.specs.Entries.{lines_by, lines_of}
+use Rattle.lawful_history.specs.Sides.{config_of}
+use Rattle.lawful_history.specs.Schedule.{Event, CallQueued, AutoStarted, StormStarted, TurnTaken, RegionAccessed, DeviceReset, DeviceAccessed, InterruptDropped, InterruptRepeated, DeviceAccess, event_peer, schedule}
+use Rattle.lawful_history.specs.EventRecords.{lines_by, lines_of}
 use Rattle.lawful_history.specs.Peers.{Driver, Peer, at_start, opened, stepped}
 use Rattle.lawful_history.specs.Device.{device_lines}
 use Rattle.lawful_history.specs.Lawful.{HasOneHistory}
-use Rattle.lawful_history.specs.History.{Moment, step_by, moved_by, acted_step, step_in, peer_in, peer_at, step_of_event, entry_of, peer_after, happens, run, beginning, history, HistoryIsLawful}
+use Rattle.lawful_history.specs.History.{HistoryState, step_by, moved_by, acted_step, step_in, peer_in, peer_at, step_of_event, entry_of, peer_after, after_event, run, initial_state, history, HistoryIsLawful}
 use Rattle.history_laws.specs.Devices.{without_devices, without_device_events, DeviceActsChangeNothing}
 use Rattle.history_laws.proofs.DeviceLines.{lines_of_devices, without_both, without_reverse, event_apart, same_written}
 
@@ -43,43 +43,43 @@ same_act world p (access.Ring target vector) past others same = refl
 same_act world p access.Nothing past others same = refl
 
 same_step : (world : World) (peer : Peer) (past others : List Line) (event : Event) → SameWords past others → step_in world peer past event ≡ step_in world peer others event
-same_step world peer past others (Asked p call) same = refl
-same_step world peer past others (Automated p expected) same = refl
-same_step world peer past others (Stormed p seed) same = refl
-same_step world peer past others (Turned p) same = same_turn world p (opened (who_of world p) peer).driver (opened (who_of world p) peer).left past others same
-same_step world peer past others (Acted p a) same = same_act world p a past others same
-same_step world peer past others (WasReset p) same = refl
-same_step world peer past others (Reached p a) same = refl
-same_step world peer past others (Loses p) same = refl
-same_step world peer past others (Repeated p vector) same = refl
+same_step world peer past others (CallQueued p call) same = refl
+same_step world peer past others (AutoStarted p expected) same = refl
+same_step world peer past others (StormStarted p seed) same = refl
+same_step world peer past others (TurnTaken p) same = same_turn world p (opened (config_of world p) peer).driver (opened (config_of world p) peer).left past others same
+same_step world peer past others (RegionAccessed p a) same = same_act world p a past others same
+same_step world peer past others (DeviceReset p) same = refl
+same_step world peer past others (DeviceAccessed p a) same = refl
+same_step world peer past others (InterruptDropped p) same = refl
+same_step world peer past others (InterruptRepeated p vector) same = refl
 
 same_peer : (world : World) (peer : Peer) (past others : List Line) (event : Event) → SameWords past others → peer_in world peer past event ≡ peer_in world peer others event
-same_peer world peer past others (Asked p call) same = refl
-same_peer world peer past others (Automated p expected) same = refl
-same_peer world peer past others (Stormed p seed) same = refl
-same_peer world peer past others (Turned p) same = same_move (opened (who_of world p) peer) (opened (who_of world p) peer).left past others same
-same_peer world peer past others (Acted p a) same = refl
-same_peer world peer past others (WasReset p) same = refl
-same_peer world peer past others (Reached p a) same = refl
-same_peer world peer past others (Loses p) same = refl
-same_peer world peer past others (Repeated p vector) same = refl
+same_peer world peer past others (CallQueued p call) same = refl
+same_peer world peer past others (AutoStarted p expected) same = refl
+same_peer world peer past others (StormStarted p seed) same = refl
+same_peer world peer past others (TurnTaken p) same = same_move (opened (config_of world p) peer) (opened (config_of world p) peer).left past others same
+same_peer world peer past others (RegionAccessed p a) same = refl
+same_peer world peer past others (DeviceReset p) same = refl
+same_peer world peer past others (DeviceAccessed p a) same = refl
+same_peer world peer past others (InterruptDropped p) same = refl
+same_peer world peer past others (InterruptRepeated p vector) same = refl
 
 -- Two moments that differ in the devices alone
 
-record AreAlike (a b : Moment) : Type 0 where
+record AreAlike (a b : HistoryState) : Type 0 where
   lines : without_devices a.past ≡ without_devices b.past
   peers : a.peers ≡ b.peers
 
 -- the lines after an event, but for those of the devices
-new_lines : (world : World) (a : Moment) (event : Event) →
-    without_devices (happens world a event).past ≡ reverse (without_devices (lines_by event (step_of_event world a event) [])) ++ without_devices a.past
+new_lines : (world : World) (a : HistoryState) (event : Event) →
+    without_devices (after_event world a event).past ≡ reverse (without_devices (lines_by event (step_of_event world a event) [])) ++ without_devices a.past
 new_lines world a event =
     let lines = lines_of (entry_of world a event) in
     without_both (reverse lines) a.past ∙ ap (λ ls. ls ++ without_devices a.past)
     (without_reverse lines ∙ ap reverse (event_apart event (step_of_event world a event) (device_lines world a.past a.losses event (step_of_event world a event)) (lines_of_devices world a.past a.losses event (step_of_event world a event))))
 
 -- an event of the link goes on alike
-goes_on : (world : World) (a b : Moment) (event : Event) → AreAlike a b → AreAlike (happens world a event) (happens world b event)
+goes_on : (world : World) (a b : HistoryState) (event : Event) → AreAlike a b → AreAlike (after_event world a event) (after_event world b event)
 goes_on world a b event alike =
     let p = event_peer event in
     let same = same_written a.past b.past alike.lines in
@@ -94,35 +94,35 @@ goes_on world a b event alike =
     }
 
 -- an event of the devices leaves the moment alike
-stays_reached : (world : World) (a b : Moment) (p : ℕ) (reach : DeviceAccess) → AreAlike a b → AreAlike (happens world a (Reached p reach)) b
-stays_reached world a b p reach alike = record { lines = new_lines world a (Reached p reach) ∙ alike.lines; peers = set-get_or a.peers p at_start ∙ alike.peers }
+stays_reached : (world : World) (a b : HistoryState) (p : ℕ) (reach : DeviceAccess) → AreAlike a b → AreAlike (after_event world a (DeviceAccessed p reach)) b
+stays_reached world a b p reach alike = record { lines = new_lines world a (DeviceAccessed p reach) ∙ alike.lines; peers = set-get_or a.peers p at_start ∙ alike.peers }
 
-stays_loses : (world : World) (a b : Moment) (p : ℕ) → AreAlike a b → AreAlike (happens world a (Loses p)) b
-stays_loses world a b p alike = record { lines = new_lines world a (Loses p) ∙ alike.lines; peers = set-get_or a.peers p at_start ∙ alike.peers }
+stays_loses : (world : World) (a b : HistoryState) (p : ℕ) → AreAlike a b → AreAlike (after_event world a (InterruptDropped p)) b
+stays_loses world a b p alike = record { lines = new_lines world a (InterruptDropped p) ∙ alike.lines; peers = set-get_or a.peers p at_start ∙ alike.peers }
 
-stays_repeated : (world : World) (a b : Moment) (p vector : ℕ) → AreAlike a b → AreAlike (happens world a (Repeated p vector)) b
-stays_repeated world a b p vector alike = record { lines = new_lines world a (Repeated p vector) ∙ alike.lines; peers = set-get_or a.peers p at_start ∙ alike.peers }
+stays_repeated : (world : World) (a b : HistoryState) (p vector : ℕ) → AreAlike a b → AreAlike (after_event world a (InterruptRepeated p vector)) b
+stays_repeated world a b p vector alike = record { lines = new_lines world a (InterruptRepeated p vector) ∙ alike.lines; peers = set-get_or a.peers p at_start ∙ alike.peers }
 
 -- so all events go on as those of the link alone do, whatever acts the world has
-goes_apart : (world : World) (acts : List Act) (events : List Event) (a b : Moment) → AreAlike a b → AreAlike (run (record world { acts = acts }) events a) (run world (without_device_events events) b)
+goes_apart : (world : World) (acts : List Act) (events : List Event) (a b : HistoryState) → AreAlike a b → AreAlike (run (record world { acts = acts }) events a) (run world (without_device_events events) b)
 goes_apart world acts [] a b alike = alike
-goes_apart world acts (Asked p call ∷ events) a b alike = goes_apart world acts events (happens world a (Asked p call)) (happens world b (Asked p call)) (goes_on world a b (Asked p call) alike)
-goes_apart world acts (Automated p expected ∷ events) a b alike =
-    goes_apart world acts events (happens world a (Automated p expected)) (happens world b (Automated p expected)) (goes_on world a b (Automated p expected) alike)
-goes_apart world acts (Stormed p seed ∷ events) a b alike = goes_apart world acts events (happens world a (Stormed p seed)) (happens world b (Stormed p seed)) (goes_on world a b (Stormed p seed) alike)
-goes_apart world acts (Turned p ∷ events) a b alike = goes_apart world acts events (happens world a (Turned p)) (happens world b (Turned p)) (goes_on world a b (Turned p) alike)
-goes_apart world acts (Acted p act ∷ events) a b alike = goes_apart world acts events (happens world a (Acted p act)) (happens world b (Acted p act)) (goes_on world a b (Acted p act) alike)
-goes_apart world acts (WasReset p ∷ events) a b alike = goes_apart world acts events (happens world a (WasReset p)) (happens world b (WasReset p)) (goes_on world a b (WasReset p) alike)
-goes_apart world acts (Reached p reach ∷ events) a b alike = goes_apart world acts events (happens world a (Reached p reach)) b (stays_reached world a b p reach alike)
-goes_apart world acts (Loses p ∷ events) a b alike = goes_apart world acts events (happens world a (Loses p)) b (stays_loses world a b p alike)
-goes_apart world acts (Repeated p vector ∷ events) a b alike = goes_apart world acts events (happens world a (Repeated p vector)) b (stays_repeated world a b p vector alike)
+goes_apart world acts (CallQueued p call ∷ events) a b alike = goes_apart world acts events (after_event world a (CallQueued p call)) (after_event world b (CallQueued p call)) (goes_on world a b (CallQueued p call) alike)
+goes_apart world acts (AutoStarted p expected ∷ events) a b alike =
+    goes_apart world acts events (after_event world a (AutoStarted p expected)) (after_event world b (AutoStarted p expected)) (goes_on world a b (AutoStarted p expected) alike)
+goes_apart world acts (StormStarted p seed ∷ events) a b alike = goes_apart world acts events (after_event world a (StormStarted p seed)) (after_event world b (StormStarted p seed)) (goes_on world a b (StormStarted p seed) alike)
+goes_apart world acts (TurnTaken p ∷ events) a b alike = goes_apart world acts events (after_event world a (TurnTaken p)) (after_event world b (TurnTaken p)) (goes_on world a b (TurnTaken p) alike)
+goes_apart world acts (RegionAccessed p act ∷ events) a b alike = goes_apart world acts events (after_event world a (RegionAccessed p act)) (after_event world b (RegionAccessed p act)) (goes_on world a b (RegionAccessed p act) alike)
+goes_apart world acts (DeviceReset p ∷ events) a b alike = goes_apart world acts events (after_event world a (DeviceReset p)) (after_event world b (DeviceReset p)) (goes_on world a b (DeviceReset p) alike)
+goes_apart world acts (DeviceAccessed p reach ∷ events) a b alike = goes_apart world acts events (after_event world a (DeviceAccessed p reach)) b (stays_reached world a b p reach alike)
+goes_apart world acts (InterruptDropped p ∷ events) a b alike = goes_apart world acts events (after_event world a (InterruptDropped p)) b (stays_loses world a b p alike)
+goes_apart world acts (InterruptRepeated p vector ∷ events) a b alike = goes_apart world acts events (after_event world a (InterruptRepeated p vector)) b (stays_repeated world a b p vector alike)
 
 -- the history, but for the lines of the devices, is that of the link's events
 history_apart : (world : World) (acts : List Act) →
-    without_devices (history (record world { acts = acts })) ≡ reverse (without_devices (run world (without_device_events (schedule acts)) (beginning world)).past)
+    without_devices (history (record world { acts = acts })) ≡ reverse (without_devices (run world (without_device_events (schedule acts)) (initial_state world)).past)
 history_apart world acts =
-    without_reverse (run (record world { acts = acts }) (schedule acts) (beginning world)).past ∙
-    ap reverse (goes_apart world acts (schedule acts) (beginning world) (beginning world) (record { lines = refl; peers = refl })).lines
+    without_reverse (run (record world { acts = acts }) (schedule acts) (initial_state world)).past ∙
+    ap reverse (goes_apart world acts (schedule acts) (initial_state world) (initial_state world) (record { lines = refl; peers = refl })).lines
 
 pub devices_lem : HasOneHistory → HistoryIsLawful → DeviceActsChangeNothing
 devices_lem one exists world others lines other_lines is other_is same lawful other_lawful =
@@ -130,4 +130,4 @@ devices_lem one exists world others lines other_lines is other_is same lawful ot
     let first : lines ≡ history world = one world lines (history world) lawful (exists world is) in
     let second : other_lines ≡ history other = one other other_lines (history other) other_lawful (exists other other_is) in
     ap without_devices first ∙ (history_apart world world.acts ∙
-    (ap (λ (events : List Event). reverse (without_devices (run world events (beginning world)).past)) same ∙ (sym (history_apart world others) ∙ ap without_devices (sym second))))
+    (ap (λ (events : List Event). reverse (without_devices (run world events (initial_state world)).past)) same ∙ (sym (history_apart world others) ∙ ap without_devices (sym second))))

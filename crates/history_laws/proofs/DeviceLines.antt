@@ -12,12 +12,12 @@ use Rattle.scenario_text.specs.Scenario.{World}
 use Rattle.call_grammar.specs.Steps.{Step}
 use Rattle.lawful_history.specs.declared.line.Line.{Line}
 use Rattle.lawful_history.specs.declared.line.Line.TheVariants as line
-use Rattle.lawful_history.specs.Memory.{Touch, touch_of, value_after, last_write}
+use Rattle.lawful_history.specs.Memory.{MemoryEffect, memory_effect_of, value_after, last_write}
 use Rattle.lawful_history.specs.Memory as touch
-use Rattle.lawful_history.specs.Schedule.{Event, Asked, Automated, Stormed, Turned, Acted, Reached, Loses, Repeated, DeviceAccess, ReadsConfig, WritesConfig, ReadsRegister, WritesRegister, ReadsMsix, WritesMsix}
+use Rattle.lawful_history.specs.Schedule.{Event, CallQueued, AutoStarted, StormStarted, TurnTaken, RegionAccessed, DeviceAccessed, InterruptDropped, InterruptRepeated, DeviceAccess, ReadsConfig, WritesConfig, ReadsRegister, WritesRegister, ReadsMsix, WritesMsix}
 use Rattle.lawful_history.specs.Schedule as event
-use Rattle.lawful_history.specs.Entries.{access_lines, mark_line, turn_lines, denied_lines, acted_lines, lines_by}
-use Rattle.lawful_history.specs.Device.{devices_of, device_events, arrival, arrived, arrivals_by, lost_count, told_by, brought_by, step_interrupts, reached_line, device_lines}
+use Rattle.lawful_history.specs.EventRecords.{access_lines, mark_line, turn_lines, denied_lines, region_access_lines, lines_by}
+use Rattle.lawful_history.specs.Device.{devices_of, device_events, arrival, arrived, arrivals_by, lost_count, device_event_of, brought_by, step_interrupts, device_access_line, device_lines}
 use Rattle.history_laws.specs.Devices.{is_of_device, without_devices}
 
 -- each of these lines is of a device alone
@@ -39,13 +39,13 @@ arrivals_of_devices world older losses line (Some e) = arrived_of_devices (line 
 
 brought_of_devices : (world : World) (older : List Line) (losses : ℕ → ℕ) (lines : List Line) → AreOfDevices (brought_by world older losses lines)
 brought_of_devices world older losses [] = tt
-brought_of_devices world older losses (line ∷ lines) = arrivals_of_devices world older losses line (told_by line)
+brought_of_devices world older losses (line ∷ lines) = arrivals_of_devices world older losses line (device_event_of line)
 
 step_of_devices : (world : World) (older : List Line) (losses : ℕ → ℕ) (p : ℕ) (went : Option Step) → AreOfDevices (step_interrupts world older losses p went)
 step_of_devices world older losses p None = tt
 step_of_devices world older losses p (Some step) = brought_of_devices world older losses (access_lines p step.access step.value)
 
-reached_of_device : (world : World) (older : List Line) (p : ℕ) (a : DeviceAccess) → is_of_device (reached_line world older p a) ≡ true
+reached_of_device : (world : World) (older : List Line) (p : ℕ) (a : DeviceAccess) → is_of_device (device_access_line world older p a) ≡ true
 reached_of_device world older p (ReadsConfig offset width) = refl
 reached_of_device world older p (WritesConfig offset width value) = refl
 reached_of_device world older p (ReadsRegister offset) = refl
@@ -54,15 +54,15 @@ reached_of_device world older p (ReadsMsix offset) = refl
 reached_of_device world older p (WritesMsix offset value) = refl
 
 pub lines_of_devices : (world : World) (older : List Line) (losses : ℕ → ℕ) (e : Event) (went : Option Step) → AreOfDevices (device_lines world older losses e went)
-lines_of_devices world older losses (Asked p call) went = tt
-lines_of_devices world older losses (Automated p expected) went = tt
-lines_of_devices world older losses (Stormed p seed) went = tt
-lines_of_devices world older losses (Turned p) went = step_of_devices world older losses p went
-lines_of_devices world older losses (Acted p a) went = step_of_devices world older losses p went
-lines_of_devices world older losses (event.WasReset p) went = arrivals_of_devices world older losses (line.Reset p) (told_by (line.Reset p))
-lines_of_devices world older losses (Reached p a) went = (reached_of_device world older p a, tt)
-lines_of_devices world older losses (Loses p) went = tt
-lines_of_devices world older losses (Repeated p vector) went = (refl, tt)
+lines_of_devices world older losses (CallQueued p call) went = tt
+lines_of_devices world older losses (AutoStarted p expected) went = tt
+lines_of_devices world older losses (StormStarted p seed) went = tt
+lines_of_devices world older losses (TurnTaken p) went = step_of_devices world older losses p went
+lines_of_devices world older losses (RegionAccessed p a) went = step_of_devices world older losses p went
+lines_of_devices world older losses (event.DeviceReset p) went = arrivals_of_devices world older losses (line.Reset p) (device_event_of (line.Reset p))
+lines_of_devices world older losses (DeviceAccessed p a) went = (reached_of_device world older p a, tt)
+lines_of_devices world older losses (InterruptDropped p) went = tt
+lines_of_devices world older losses (InterruptRepeated p vector) went = (refl, tt)
 
 -- Lines without those of the devices
 
@@ -104,25 +104,25 @@ turn_apart : (p : ℕ) (went : Option Step) (device : List Line) → AreOfDevice
 turn_apart p None device all = ap (λ ls. line.Idle p ∷ ls) (none_left device all)
 turn_apart p (Some step) device all = beside (access_lines p step.access step.value) device (map (mark_line p) step.marks) all
 
-acted_apart : (p : ℕ) (a : Access) (went : Option Step) (device : List Line) → AreOfDevices device → without_devices (acted_lines p a went device) ≡ without_devices (acted_lines p a went [])
+acted_apart : (p : ℕ) (a : Access) (went : Option Step) (device : List Line) → AreOfDevices device → without_devices (region_access_lines p a went device) ≡ without_devices (region_access_lines p a went [])
 acted_apart p a None device all = after (denied_lines p a) device all
 acted_apart p a (Some step) device all = beside (access_lines p step.access step.value) device (map (mark_line p) step.marks) all
 
 -- the lines of an event, but for those of the devices, are the same whatever the devices do
 pub event_apart : (e : Event) (went : Option Step) (device : List Line) → AreOfDevices device → without_devices (lines_by e went device) ≡ without_devices (lines_by e went [])
-event_apart (Asked p call) went device all = none_left device all
-event_apart (Automated p expected) went device all = none_left device all
-event_apart (Stormed p seed) went device all = none_left device all
-event_apart (Turned p) went device all = turn_apart p went device all
-event_apart (Acted p a) went device all = acted_apart p a went device all
-event_apart (event.WasReset p) went device all = ap (λ ls. line.Reset p ∷ ls) (none_left device all)
-event_apart (Reached p a) went device all = none_left device all
-event_apart (Loses p) went device all = none_left device all
-event_apart (Repeated p vector) went device all = none_left device all
+event_apart (CallQueued p call) went device all = none_left device all
+event_apart (AutoStarted p expected) went device all = none_left device all
+event_apart (StormStarted p seed) went device all = none_left device all
+event_apart (TurnTaken p) went device all = turn_apart p went device all
+event_apart (RegionAccessed p a) went device all = acted_apart p a went device all
+event_apart (event.DeviceReset p) went device all = ap (λ ls. line.Reset p ∷ ls) (none_left device all)
+event_apart (DeviceAccessed p a) went device all = none_left device all
+event_apart (InterruptDropped p) went device all = none_left device all
+event_apart (InterruptRepeated p vector) went device all = none_left device all
 
 -- The lines of the devices write no word
 
-device_apart : (first : Line) → is_of_device first ≡ true → touch_of first ≡ touch.Apart
+device_apart : (first : Line) → is_of_device first ≡ true → memory_effect_of first ≡ touch.Apart
 device_apart (line.Interrupt p vector) is = refl
 device_apart (line.Lost p vector) is = refl
 device_apart (line.ConfigRead p offset width value) is = refl
@@ -154,8 +154,8 @@ device_apart (line.Reset p) is = absurd (cc)
 written_by : (first : Line) (older : List Line) (at : ℕ) (b : Bool) → is_of_device first ≡ b → last_write older at ≡ last_write (without_devices older) at →
     last_write (first ∷ older) at ≡ last_write (without_devices (first ∷ older)) at
 written_by first older at true is rest =
-    ap (λ (t : Touch). value_after t at (last_write older at)) (device_apart first is) ∙ rest ∙ ap (λ ls. last_write ls at) (sym (apart_by first older true is))
-written_by first older at false is rest = ap (λ before. value_after (touch_of first) at before) rest ∙ ap (λ ls. last_write ls at) (sym (apart_by first older false is))
+    ap (λ (t : MemoryEffect). value_after t at (last_write older at)) (device_apart first is) ∙ rest ∙ ap (λ ls. last_write ls at) (sym (apart_by first older true is))
+written_by first older at false is rest = ap (λ before. value_after (memory_effect_of first) at before) rest ∙ ap (λ ls. last_write ls at) (sym (apart_by first older false is))
 
 written_apart : (past : List Line) (at : ℕ) → last_write past at ≡ last_write (without_devices past) at
 written_apart [] at = refl

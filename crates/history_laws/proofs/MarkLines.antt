@@ -6,12 +6,12 @@ use Rattle.call_grammar.specs.Steps.{Mark, Saw, Reclaim, Full, Accept, Look, Del
 use Rattle.link_machine.specs.LinkMachine.{Marked}
 use Rattle.lawful_history.specs.declared.line.Line.{Line}
 use Rattle.lawful_history.specs.declared.line.Line.TheVariants as line
-use Rattle.lawful_history.specs.Entries.{mark_line}
-use Rattle.history_laws.specs.Told.{Tells, telling_of}
+use Rattle.lawful_history.specs.EventRecords.{mark_line}
+use Rattle.history_laws.specs.SideEvents.{Tells, line_side_event_of}
 use Rattle.history_laws.specs.Reads.{Breaks, reading_of}
 
 -- the line of a mark tells the mark, and breaks the reads
-pub mark_is : (p : ℕ) (mark : Mark) → (telling_of (mark_line p mark) ≡ Tells p (Marked mark)) × (reading_of (mark_line p mark) ≡ Breaks p)
+pub mark_is : (p : ℕ) (mark : Mark) → (line_side_event_of (mark_line p mark) ≡ Tells p (Marked mark)) × (reading_of (mark_line p mark) ≡ Breaks p)
 mark_is p (Saw value) = (refl, refl)
 mark_is p (Reclaim count) = (refl, refl)
 mark_is p Full = (refl, refl)

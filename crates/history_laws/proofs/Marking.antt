@@ -12,9 +12,9 @@ use Rattle.lawful_history.specs.declared.line.Line.TheVariants as line
 use Rattle.lawful_history.specs.Sides.{partner}
 use Rattle.lawful_history.specs.Sessions.{writes_state, opened_in, enters_run, session_mark, marks_before, with_sessions, is_session, without_sessions}
 use Rattle.lawful_history.specs.Lawful.{HasMarksInTwo}
-use Rattle.history_laws.specs.Told.{Telling, side_told, telling_of, side_of}
+use Rattle.history_laws.specs.SideEvents.{LineSideEvent, side_after_line, line_side_event_of, side_of}
 use Rattle.history_laws.specs.Rows.{EachLine}
-use Rattle.history_laws.specs.Sessions.{log_told, log_of}
+use Rattle.history_laws.specs.Sessions.{log_after_line, log_of}
 use Rattle.history_laws.specs.Marks.{IsNumbered, SessionsAreNumbered}
 use Rattle.history_laws.proofs.Along.{two_links}
 use Rattle.history_laws.proofs.Grounds.{partner_is}
@@ -33,7 +33,7 @@ wrote_opened true false l x n is more = more ∙ is
 wrote_opened false two l x n is more = is
 
 told_opened : (line : Line) (p : ℕ) (s : Side) (l o : Log) (n : ℕ) → l.opened ≡ n →
-    (log_told (telling_of line) p s l o).opened ≡ (if writes_state p 2 line then n + 1 else n)
+    (log_after_line (line_side_event_of line) p s l o).opened ≡ (if writes_state p 2 line then n + 1 else n)
 told_opened (line.State q v) p s l o n is = wrote_opened (q == p) (v == 2) l (log_after l o s (Wrote v)) n is refl
 told_opened (line.Read q word value) p s l o n is = kept_opened (q == p) l l n is refl
 told_opened (line.Reset q) p s l o n is = kept_opened (q == p) l _ n is refl
@@ -90,14 +90,14 @@ record Same (older told : List Line) : Type 0 where
   sides : (p : ℕ) → side_of told p ≡ side_of older p
   logs : (p : ℕ) → log_of told p ≡ log_of older p
 
-log_alike : (t : Telling) (p : ℕ) (s s' : Side) (l l' o o' : Log) → s ≡ s' → l ≡ l' → o ≡ o' → log_told t p s l o ≡ log_told t p s' l' o'
+log_alike : (t : LineSideEvent) (p : ℕ) (s s' : Side) (l l' o o' : Log) → s ≡ s' → l ≡ l' → o ≡ o' → log_after_line t p s l o ≡ log_after_line t p s' l' o'
 log_alike t p s s' l l' o o' sides mine theirs =
-    ap (λ (x : Side). log_told t p x l o) sides ∙ (ap (λ (x : Log). log_told t p s' x o) mine ∙ ap (λ (x : Log). log_told t p s' l' x) theirs)
+    ap (λ (x : Side). log_after_line t p x l o) sides ∙ (ap (λ (x : Log). log_after_line t p s' x o) mine ∙ ap (λ (x : Log). log_after_line t p s' l' x) theirs)
 
 same_more : (older told : List Line) (line : Line) → Same older told → Same (line ∷ older) (line ∷ told)
 same_more older told line same = record {
-  sides = λ p. ap (side_told (telling_of line) p) (same.sides p);
-  logs = λ p. log_alike (telling_of line) p (side_of told p) (side_of older p) (log_of told p) (log_of older p) (log_of told (1 - p)) (log_of older (1 - p))
+  sides = λ p. ap (side_after_line (line_side_event_of line) p) (same.sides p);
+  logs = λ p. log_alike (line_side_event_of line) p (side_of told p) (side_of older p) (log_of told p) (log_of older p) (log_of told (1 - p)) (log_of older (1 - p))
       (same.sides p) (same.logs p) (same.logs (1 - p));
 }
 

@@ -9,14 +9,14 @@ use Rattle.scenario_text.specs.Scenario.{World, IsWorld, is_link}
 use Rattle.call_grammar.specs.Steps.{Step, step_of}
 use Rattle.call_grammar.specs.Trees.{CallTree, Ended}
 use Rattle.call_grammar.specs.Ends.{End}
-use Rattle.call_grammar.specs.Calls.{Who, Call}
+use Rattle.call_grammar.specs.Calls.{EndConfig, Call}
 use Rattle.call_grammar.specs.Places.{Place}
 use Rattle.lawful_history.specs.declared.line.Line.{Line}
 use Rattle.lawful_history.specs.declared.line.Line.TheVariants as line
 use Rattle.lawful_history.specs.Memory.{MemoryLaw, last_write}
-use Rattle.lawful_history.specs.Sides.{who_of}
+use Rattle.lawful_history.specs.Sides.{config_of}
 use Rattle.lawful_history.specs.Storm.{drawn_access, draw, next_number}
-use Rattle.lawful_history.specs.Entries.{step_lines, turn_lines, acted_lines}
+use Rattle.lawful_history.specs.EventRecords.{step_lines, turn_lines, region_access_lines}
 use Rattle.lawful_history.specs.Peers.{Driver, Waits, Chooses, Storms, Peer, chosen, opened_by, opened}
 use Rattle.lawful_history.specs.History.{driven_step, step_by, may_write, acted_step, turn_step}
 use Rattle.lawful_history.proofs.Unique.{first_law}
@@ -65,19 +65,19 @@ stormy_stands world past device ends places p (Chooses auto) is few no_link quie
 stormy_stands world past device ends places p (Storms x) is few no_link quiet law s =
     other_stands world past device ends places p (drawn_access world p (draw (next_number x)) (draw (next_number (next_number x))) (draw (next_number (next_number (next_number x))))) 0 is few no_link quiet law s
 
-chosen_same : (world : World) (who : Who) (peer : Peer) (honest : Bool) (driver : Driver) → honest ≡ false → DriverSuits world honest driver → chosen who peer driver ≡ peer
-chosen_same world who peer honest Waits no_link suits = refl
-chosen_same world who peer honest (Chooses auto) no_link suits = let f : true ≡ false = sym suits.0 ∙ no_link in absurd (cc)
-chosen_same world who peer honest (Storms x) no_link suits = refl
+chosen_same : (world : World) (config : EndConfig) (peer : Peer) (honest : Bool) (driver : Driver) → honest ≡ false → DriverSuits world honest driver → chosen config peer driver ≡ peer
+chosen_same world config peer honest Waits no_link suits = refl
+chosen_same world config peer honest (Chooses auto) no_link suits = let f : true ≡ false = sym suits.0 ∙ no_link in absurd (cc)
+chosen_same world config peer honest (Storms x) no_link suits = refl
 
-opened_same : (world : World) (who : Who) (peer : Peer) (honest : Bool) → honest ≡ false → Suits world honest peer → opened who peer ≡ peer
-opened_same world who peer honest no_link s =
+opened_same : (world : World) (config : EndConfig) (peer : Peer) (honest : Bool) → honest ≡ false → Suits world honest peer → opened config peer ≡ peer
+opened_same world config peer honest no_link s =
     let idle = s.idle no_link in
-    ap (λ (t : CallTree). opened_by who peer t peer.waiting) idle.0 ∙ (ap (λ (w : List Call). opened_by who peer Ended w) idle.1 ∙ chosen_same world who peer honest peer.driver no_link s.driver)
+    ap (λ (t : CallTree). opened_by config peer t peer.waiting) idle.0 ∙ (ap (λ (w : List Call). opened_by config peer Ended w) idle.1 ∙ chosen_same world config peer honest peer.driver no_link s.driver)
 
 step_same : (world : World) (p : ℕ) (peer : Peer) (past : List Line) (honest : Bool) → honest ≡ false → Suits world honest peer → turn_step world p peer past ≡ driven_step world p peer.driver
 step_same world p peer past honest no_link s =
-    ap (λ (x : Peer). step_by world p x.driver x.left past) (opened_same world (who_of world p) peer honest no_link s) ∙ ap (λ (t : CallTree). step_by world p peer.driver t past) (s.idle no_link).0
+    ap (λ (x : Peer). step_by world p x.driver x.left past) (opened_same world (config_of world p) peer honest no_link s) ∙ ap (λ (t : CallTree). step_by world p peer.driver t past) (s.idle no_link).0
 
 pub other_turn_stands : (world : World) (past device : List Line) (ends : ℕ → End) (places : ℕ → Place) (p : ℕ) (peer : Peer) → IsWorld world → p < world.geometry.peers → is_link world p ≡ false → AllByRecursion IsQuiet device → Suits world (is_link world p) peer →
     MemoryLaw world.geometry (reverse (turn_lines p (turn_step world p peer past) device) ++ past) → Stands world past ends places → Stands world (reverse (turn_lines p (turn_step world p peer past) device) ++ past) ends places
@@ -89,14 +89,14 @@ other_turn_stands world past device ends places p peer is few no_link quiet suit
 -- An access of its own accord
 
 write_acted : (world : World) (past device : List Line) (ends : ℕ → End) (places : ℕ → Place) (p word value : ℕ) (b : Bool) → IsWorld world → p < world.geometry.peers → is_link world p ≡ false → AllByRecursion IsQuiet device →
-    MemoryLaw world.geometry (reverse (acted_lines p (access.Write word value) (if b then Some (step_of (access.Write word value) 0 []) else None) device) ++ past) → Stands world past ends places →
-    Stands world (reverse (acted_lines p (access.Write word value) (if b then Some (step_of (access.Write word value) 0 []) else None) device) ++ past) ends places
+    MemoryLaw world.geometry (reverse (region_access_lines p (access.Write word value) (if b then Some (step_of (access.Write word value) 0 []) else None) device) ++ past) → Stands world past ends places →
+    Stands world (reverse (region_access_lines p (access.Write word value) (if b then Some (step_of (access.Write word value) 0 []) else None) device) ++ past) ends places
 write_acted world past device ends places p word value true is few no_link quiet law s = other_stands world past device ends places p (access.Write word value) 0 is few no_link quiet law s
 write_acted world past device ends places p word value false is few no_link quiet law s =
     after_first world (line.Denied p word) device past ends places quiet (silent_stands world (line.Denied p word) past ends places (record { memory = refl; sides = refl; reads = refl; unrung = λ q place was. line_is world q place (line.Denied p word) past (λ accept. let e = accept.1 in cc) was; settled = λ settled. tt; fine = λ settled old. ((tt, tt, answers world past (line.Denied p word) settled, tt), old) }) s)
 
 pub acted_stands : (world : World) (past device : List Line) (ends : ℕ → End) (places : ℕ → Place) (p : ℕ) (a : Access) → IsWorld world → p < world.geometry.peers → MayAct (is_link world p) a → AllByRecursion IsQuiet device →
-    MemoryLaw world.geometry (reverse (acted_lines p a (acted_step world p a past) device) ++ past) → Stands world past ends places → Stands world (reverse (acted_lines p a (acted_step world p a past) device) ++ past) ends places
+    MemoryLaw world.geometry (reverse (region_access_lines p a (acted_step world p a past) device) ++ past) → Stands world past ends places → Stands world (reverse (region_access_lines p a (acted_step world p a past) device) ++ past) ends places
 acted_stands world past device ends places p (access.Read word) is few may quiet law s = other_stands world past device ends places p (access.Read word) (last_write past word) is few may quiet law s
 acted_stands world past device ends places p (access.Write word value) is few may quiet law s = write_acted world past device ends places p word value (may_write world.geometry p word) is few may quiet law s
 acted_stands world past device ends places p (access.State state) is few may quiet law s = other_stands world past device ends places p (access.State state) 0 is few may quiet law s

@@ -13,43 +13,43 @@ use Rattle.call_grammar.specs.Places.{Place}
 use Rattle.link_machine.specs.LinkMachine.{Side, MayWriteState}
 use Rattle.link_machine.specs.LinkMachine as told
 use Rattle.call_grammar.proofs.OfferLists.{yes, no}
-use Rattle.ends_pair.specs.Steps.{IsUntouched}
-use Rattle.ends_pair.specs.Ground.{section_of}
-use Rattle.ends_pair.specs.Sides.{SideIs}
-use Rattle.ends_pair.proofs.WholeKept.{whole_kept}
-use Rattle.ends_pair.specs.Ground as pair
+use Rattle.link_invariant.specs.Steps.{IsUntouched}
+use Rattle.link_invariant.specs.LinkConfig.{section_of}
+use Rattle.link_invariant.specs.Sides.{SideIs}
+use Rattle.link_invariant.proofs.WholeKept.{whole_kept}
+use Rattle.link_invariant.specs.LinkConfig as pair
 use Rattle.history_laws.specs.Reads.{Got, got, reads_of}
 use Rattle.history_laws.proofs.ReadPlaces.{ReadsAre}
 use Rattle.history_laws.proofs.Unrung.{IsAccept, line_is}
 use Rattle.history_laws.proofs.Armed.{ArmedIs}
-use Rattle.ends_pair.specs.Fields.{AvailEvent}
-use Rattle.ends_pair.proofs.Fields.{fields_same}
+use Rattle.link_invariant.specs.Fields.{AvailEvent}
+use Rattle.link_invariant.proofs.Fields.{fields_same}
 use Rattle.lawful_history.specs.declared.line.Line.{Line}
 use Rattle.lawful_history.specs.declared.line.Line.TheVariants as line
 use Rattle.lawful_history.specs.Memory.{last_write}
-use Rattle.history_laws.specs.Told.{side_after, side_of, telling_of}
-use Rattle.history_laws.proofs.Proper.{ground_of, is_ground}
+use Rattle.history_laws.specs.SideEvents.{side_after, side_of, line_side_event_of}
+use Rattle.history_laws.proofs.Proper.{link_config_of, is_ground}
 use Rattle.history_laws.proofs.Stands.{Stands, Settled, Rests, WritesIn, answers}
 use Rattle.history_laws.specs.Rows.{HasRow}
 
 record Outside (world : World) (past : List Line) (line : Line) : Type 0 where
-  untouched : (q : ℕ) → q < 2 → is_link world q ≡ true → IsUntouched (ground_of world) (last_write past) (last_write (line ∷ past)) q
+  untouched : (q : ℕ) → q < 2 → is_link world q ≡ true → IsUntouched (link_config_of world) (last_write past) (last_write (line ∷ past)) q
   sides : (q : ℕ) → q < 2 → is_link world q ≡ true → side_of (line ∷ past) q ≡ side_of past q
   states : (q : ℕ) → q < 2 → last_write past q ≡ (side_of past q).state → last_write (line ∷ past) q ≡ (side_of (line ∷ past) q).state
   reads : (q : ℕ) → q < 2 → is_link world q ≡ true → reads_of (line ∷ past) q ≡ reads_of past q
   accepts : (p : ℕ) → IsAccept p line → ⊥
   settles : Settled world (line ∷ past)
-  fine : HasRow world past line (telling_of line) × Rests world past (telling_of line)
+  fine : HasRow world past line (line_side_event_of line) × Rests world past (line_side_event_of line)
   writes : WritesIn world past line
 
 outside_stands : (world : World) (past : List Line) (line : Line) (ends : ℕ → End) (places : ℕ → Place) → IsWorld world → Outside world past line → Stands world past ends places → Stands world (line ∷ past) ends places
 outside_stands world past line ends places is o s = record {
-  holds = whole_kept.others (ground_of world) (is_link world) (last_write past) (last_write (line ∷ past)) ends places (is_ground world is) o.untouched s.holds;
+  holds = whole_kept.others (link_config_of world) (is_link world) (last_write past) (last_write (line ∷ past)) ends places (is_ground world is) o.untouched s.holds;
   sides = λ p below honest. subst (λ (x : Side). SideIs (ends p) (places p) x) (sym (o.sides p below honest)) (s.sides p below honest);
   states = λ p below. o.states p below (s.states p below);
-  reads = λ p below honest. subst (λ (r : List Got). ReadsAre (pair.who_of (ground_of world) p) (places p) r) (sym (o.reads p below honest)) (s.reads p below honest);
+  reads = λ p below honest. subst (λ (r : List Got). ReadsAre (pair.config_of (link_config_of world) p) (places p) r) (sym (o.reads p below honest)) (s.reads p below honest);
   armed = λ has p below honest. subst (λ (event : ℕ). ArmedIs event (ends p) (places p))
-      (sym (fields_same (ground_of world) (last_write past) (last_write (line ∷ past)) p (is_ground world is) (o.untouched p below honest).section AvailEvent)) (s.armed has p below honest);
+      (sym (fields_same (link_config_of world) (last_write past) (last_write (line ∷ past)) p (is_ground world is) (o.untouched p below honest).section AvailEvent)) (s.armed has p below honest);
   unrung = λ p below honest. line_is world p (places p) line past (o.accepts p) (s.unrung p below honest);
   settled = o.settles;
   fine = ((o.fine.0, o.fine.1, answers world past line s.settled, o.writes), s.fine);
@@ -67,13 +67,13 @@ pub differ : (world : World) (p q : ℕ) → is_link world p ≡ false → is_li
 differ world p q no_link honest e = let same : is_link world p ≡ is_link world q = ap (is_link world) e in cc
 
 -- the section of a link peer
-pub section_is : (world : World) (q : ℕ) → section_of (ground_of world) q ≡ section_start world.geometry q
+pub section_is : (world : World) (q : ℕ) → section_of (link_config_of world) q ≡ section_start world.geometry q
 section_is world q = let turn : world.geometry.out * q ≡ q * world.geometry.out = mul_comm world.geometry.out q in omega arith
 
-in_section : (world : World) (q j : ℕ) → j < world.geometry.out → InSection world.geometry q (section_of (ground_of world) q + j)
+in_section : (world : World) (q j : ℕ) → j < world.geometry.out → InSection world.geometry q (section_of (link_config_of world) q + j)
 in_section world q j small = let e = section_is world q in (omega arith, omega arith)
 
-apart_from : (world : World) (p q word j : ℕ) → MayWrite world.geometry p word → p ≢ q → j < world.geometry.out → word ≢ section_of (ground_of world) q + j
+apart_from : (world : World) (p q word j : ℕ) → MayWrite world.geometry p word → p ≢ q → j < world.geometry.out → word ≢ section_of (link_config_of world) q + j
 apart_from world p q word j (inl mine) ne small e = stand_apart world.geometry p q word ne mine (subst (λ (w : ℕ). InSection world.geometry q w) (sym e) (in_section world q j small))
 apart_from world p q word j (inr common) ne small e = let theirs = in_section world q j small in absurd (omega arith)
 
@@ -103,7 +103,7 @@ pub write_stands : (world : World) (past : List Line) (p word value : ℕ) (ends
 write_stands world past p word value ends places is no_link may = outside_stands world past (line.Write p word value) ends places is record {
   untouched = λ q below honest. record {
     state = there_is word q value (last_write past q) (below_table q below);
-    section = λ j small. there_is word (section_of (ground_of world) q + j) value (last_write past (section_of (ground_of world) q + j)) (apart_from world p q word j may (differ world p q no_link honest) small);
+    section = λ j small. there_is word (section_of (link_config_of world) q + j) value (last_write past (section_of (link_config_of world) q + j)) (apart_from world p q word j may (differ world p q no_link honest) small);
   };
   sides = λ q below honest. refl;
   states = λ q below old. there_is word q value (last_write past q) (below_table q below) ∙ old;
@@ -119,10 +119,10 @@ write_stands world past p word value ends places is no_link may = outside_stands
 
 -- a line that sets the state of such a peer
 state_untouched : (world : World) (past : List Line) (p value : ℕ) → IsWorld world → p < world.geometry.peers → is_link world p ≡ false → (q : ℕ) → q < 2 → is_link world q ≡ true →
-    IsUntouched (ground_of world) (last_write past) (λ at. (if p == at then value else last_write past at)) q
+    IsUntouched (link_config_of world) (last_write past) (λ at. (if p == at then value else last_write past at)) q
 state_untouched world past p value is few no_link q below honest = record {
   state = there_is p q value (last_write past q) (differ world p q no_link honest);
-  section = λ j small. there_is p (section_of (ground_of world) q + j) value (last_write past (section_of (ground_of world) q + j)) (λ e. let theirs = in_section world q j small in let table = is.geometry.states in absurd (omega arith));
+  section = λ j small. there_is p (section_of (link_config_of world) q + j) value (last_write past (section_of (link_config_of world) q + j)) (λ e. let theirs = in_section world q j small in let table = is.geometry.states in absurd (omega arith));
 }
 
 state_there : (past : List Line) (p value q : ℕ) (new : Side) → new.state ≡ value → last_write past q ≡ (side_of past q).state → (if p == q then value else last_write past q) ≡ (if p == q then new else side_of past q).state

@@ -6,11 +6,11 @@ use Rattle.std.specs.Prelude.{◌==◌, reverse}
 use Rattle.std.specs.List.{AllByRecursion}
 use Rattle.std.proofs.lemmas.List.Elements.{recursion_from_All}
 use Rattle.call_grammar.specs.Steps.{Mark, Saw, Reclaim, Full, Accept, Look, Deliver, Return, Done, Down, Refuse, Over}
-use Rattle.link_machine.specs.LinkMachine.{Side, Told, Gave, Wrote, Marked, WasReset}
+use Rattle.link_machine.specs.LinkMachine.{Side, SideEvent, Gave, Wrote, Marked, WasReset}
 use Rattle.call_grammar.proofs.OfferLists.{yes, no}
 use Rattle.lawful_history.specs.declared.line.Line.{Line}
 use Rattle.lawful_history.specs.declared.line.Line.TheVariants as line
-use Rattle.history_laws.specs.Told.{Telling, Tells, Silent, telling_of, side_after, side_told, side_of}
+use Rattle.history_laws.specs.SideEvents.{LineSideEvent, Tells, Silent, line_side_event_of, side_after, side_after_line, side_of}
 use Rattle.history_laws.specs.Polls.{delivers, deliver_count, IsWithin, DonePollsDeliverAll}
 use Rattle.history_laws.proofs.Stands.{Fine, first_after}
 use Rattle.history_laws.proofs.Outside.{here_is, there_is}
@@ -35,7 +35,7 @@ marked_delivers peer p Down side e within = record { looked = refl; delivered = 
 marked_delivers peer p (Refuse refused) side e within = record { looked = refl; delivered = omega arith }
 marked_delivers peer p Over side e within = record { looked = refl; delivered = omega arith }
 
-told_delivers : (peer p : ℕ) (told : Told) (side : Side) → peer ≡ p → IsWithin p (Tells peer told) → Delivers side (side_after told side) (delivers (Tells peer told) p)
+told_delivers : (peer p : ℕ) (told : SideEvent) (side : Side) → peer ≡ p → IsWithin p (Tells peer told) → Delivers side (side_after told side) (delivers (Tells peer told) p)
 told_delivers peer p (Gave value) side e within = record { looked = refl; delivered = omega arith }
 told_delivers peer p (Wrote state) side e within = absurd (within e)
 told_delivers peer p (Marked mark) side e within = marked_delivers peer p mark side e within
@@ -55,22 +55,22 @@ none_marked peer p Down ne = refl
 none_marked peer p (Refuse refused) ne = refl
 none_marked peer p Over ne = refl
 
-none_told : (peer p : ℕ) (told : Told) → peer ≢ p → delivers (Tells peer told) p ≡ 0
+none_told : (peer p : ℕ) (told : SideEvent) → peer ≢ p → delivers (Tells peer told) p ≡ 0
 none_told peer p (Gave value) ne = refl
 none_told peer p (Wrote state) ne = refl
 none_told peer p (Marked mark) ne = none_marked peer p mark ne
 none_told peer p WasReset ne = refl
 
-line_delivers : (p : ℕ) (t : Telling) (side : Side) → IsWithin p t → Delivers side (side_told t p side) (delivers t p)
+line_delivers : (p : ℕ) (t : LineSideEvent) (side : Side) → IsWithin p t → Delivers side (side_after_line t p side) (delivers t p)
 line_delivers p Silent side within = record { looked = refl; delivered = omega arith }
 line_delivers p (Tells peer told) side within = dite (ℕ_discrete peer p)
     (λ e. subst (λ (x : Side). Delivers side x (delivers (Tells peer told) p)) (sym (yes (peer == p) (side_after told side) side (eq-eqb peer p e))) (told_delivers peer p told side e within))
     (λ ne. let none = none_told peer p told ne in subst (λ (x : Side). Delivers side x (delivers (Tells peer told) p)) (sym (there_is peer p (side_after told side) side ne)) (record { looked = refl; delivered = omega arith }))
 
-between_delivers : (p : ℕ) (between past : List Line) → AllByRecursion (λ l. IsWithin p (telling_of l)) between → Delivers (side_of past p) (side_of (reverse between ++ past) p) (deliver_count p between)
+between_delivers : (p : ℕ) (between past : List Line) → AllByRecursion (λ l. IsWithin p (line_side_event_of l)) between → Delivers (side_of past p) (side_of (reverse between ++ past) p) (deliver_count p between)
 between_delivers p [] past all = record { looked = refl; delivered = omega arith }
 between_delivers p (l ∷ between) past all =
-    let first = line_delivers p (telling_of l) (side_of past p) all.0 in
+    let first = line_delivers p (line_side_event_of l) (side_of past p) all.0 in
     let rest = between_delivers p between (l ∷ past) all.1 in
     let d1 = first.delivered in
     let d2 = rest.delivered in
@@ -82,7 +82,7 @@ polls_lem world before between after p count is lawful within =
     let done = (at_line (Fine world) (before ++ look ∷ between) after (line.Done p) (all_fine world ((before ++ look ∷ between) ++ line.Done p ∷ after) is lawful)).0.1.1.1 in
     let old = side_of (reverse before) p in
     let here : side_of (look ∷ reverse before) p ≡ side_after (Marked (Look count)) old = here_is p (side_after (Marked (Look count)) old) old in
-    let d = between_delivers p between (look ∷ reverse before) (recursion_from_All (λ (l : Line). IsWithin p (telling_of l)) between within) in
+    let d = between_delivers p between (look ∷ reverse before) (recursion_from_All (λ (l : Line). IsWithin p (line_side_event_of l)) between within) in
     let now : length (side_of (reverse between ++ (look ∷ reverse before)) p).delivered ≡ (side_of (reverse between ++ (look ∷ reverse before)) p).looked =
     subst (λ (ls : List Line). length (side_of ls p).delivered ≡ (side_of ls p).looked) (middle before between look) done in
     let looked : (side_of (reverse between ++ (look ∷ reverse before)) p).looked ≡ length old.delivered + count = d.looked ∙ ap (λ (x : Side). x.looked) here in

@@ -5,7 +5,7 @@ use Rattle.std.specs.Prelude.{slice_get, slice_index, Some, nat_lt, nat_le, ◌&
 use Rattle.std.specs.List.{AllByRecursion}
 use Rattle.std.proofs.lemmas.Bool.Decides.{nat_tests}
 use Rattle.std.proofs.lemmas.List.Elements.{All-from_recursion}
-use Rattle.line_text.specs.Forms.{FitBytes}
+use Rattle.line_format.specs.Forms.{FitBytes}
 use Rattle.section_map.specs.Geometry.{section_start}
 use Rattle.split_ring.specs.declared.steps.Access.{Access}
 use Rattle.split_ring.specs.declared.steps.Access.TheVariants as access
@@ -14,13 +14,13 @@ use Rattle.scenario_text.specs.declared.acts.Act.TheVariants.{Tick, Offer, Poll,
 use Rattle.scenario_text.specs.Scenario.{World, IsWorld, is_link, is_its_peer, is_frame_size}
 use Rattle.scenario_text.specs.Table.{pieces_of}
 use Rattle.scenario_text.specs.ActRows.{row_of_act}
-use Rattle.ends_pair.specs.Ground.{Ground, IsGround, IsGivenTo}
+use Rattle.link_invariant.specs.LinkConfig.{LinkConfig, IsLinkConfig, IsGivenTo}
 use Rattle.lawful_history.specs.Sides.{traffic_vector}
-use Rattle.lawful_history.specs.Schedule.{Event, Asked, Automated, Stormed, Turned, Acted, WasReset, Reached, Loses, Repeated, register_event, events_of, schedule}
+use Rattle.lawful_history.specs.Schedule.{Event, CallQueued, AutoStarted, StormStarted, TurnTaken, RegionAccessed, DeviceReset, DeviceAccessed, InterruptDropped, InterruptRepeated, register_event, events_of, schedule}
 
--- the ground of the scenario's link
-abbrev pub ground_of : World → Ground
-ground_of world = record { first = section_start world.geometry 0; words = world.geometry.out; sizes = world.queue; vector = traffic_vector world.wiring }
+-- the link's configuration of the scenario's link
+abbrev pub link_config_of : World → LinkConfig
+link_config_of world = record { first = section_start world.geometry 0; words = world.geometry.out; sizes = world.queue; vector = traffic_vector world.wiring }
 
 -- an access of its own accord: a doorbell is anyone's, the others are those of peers that aren't honest link peers
 abbrev pub MayAct : Bool → Access → Type 0
@@ -31,20 +31,20 @@ MayAct honest (access.Ring target vector) = Unit {0}
 MayAct honest access.Nothing = Unit {0}
 
 abbrev pub IsProper : World → Event → Type 0
-IsProper world (Asked p call) = (is_link world p ≡ true) × IsGivenTo (ground_of world) call
-IsProper world (Automated p expected) = is_link world p ≡ true
-IsProper world (Stormed p seed) = is_link world p ≡ false
-IsProper world (Turned p) = Unit {0}
-IsProper world (Acted p a) = MayAct (is_link world p) a
-IsProper world (WasReset p) = Unit {0}
-IsProper world (Reached p a) = Unit {0}
-IsProper world (Loses p) = Unit {0}
-IsProper world (Repeated p vector) = Unit {0}
+IsProper world (CallQueued p call) = (is_link world p ≡ true) × IsGivenTo (link_config_of world) call
+IsProper world (AutoStarted p expected) = is_link world p ≡ true
+IsProper world (StormStarted p seed) = is_link world p ≡ false
+IsProper world (TurnTaken p) = Unit {0}
+IsProper world (RegionAccessed p a) = MayAct (is_link world p) a
+IsProper world (DeviceReset p) = Unit {0}
+IsProper world (DeviceAccessed p a) = Unit {0}
+IsProper world (InterruptDropped p) = Unit {0}
+IsProper world (InterruptRepeated p vector) = Unit {0}
 
 not_link : (p peers : ℕ) (flag : Bool) → (nat_lt p peers && not flag) ≡ true → (nat_lt p 2 && flag) ≡ false
 not_link p peers flag is = grind (arith, nat_tests)
 
-turns_proper : (P : Event → Type 0) (p steps : ℕ) (others : List Event) → P (Turned p) → AllByRecursion P others → AllByRecursion P (replicate steps (Turned p) ++ others)
+turns_proper : (P : Event → Type 0) (p steps : ℕ) (others : List Event) → P (TurnTaken p) → AllByRecursion P others → AllByRecursion P (replicate steps (TurnTaken p) ++ others)
 turns_proper P p zero others here all = all
 turns_proper P p (suc steps) others here all = (here, turns_proper P p steps others here all)
 
@@ -104,5 +104,5 @@ acts_proper world (act ∷ acts) is frame bytes =
 pub all_proper : (world : World) → IsWorld world → AllByRecursion (IsProper world) (schedule world.acts)
 all_proper world is = acts_proper world world.acts (λ k act at. (is.allowed k act at).peer) (λ k act at. (is.allowed k act at).frame) (λ k act at. (is.allowed k act at).bytes)
 
-pub is_ground : (world : World) → IsWorld world → IsGround (ground_of world)
+pub is_ground : (world : World) → IsWorld world → IsLinkConfig (link_config_of world)
 is_ground world is = let table = is.geometry.table_page in record { queue = is.queue; words = is.out; first = omega arith }

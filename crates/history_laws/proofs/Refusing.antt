@@ -8,13 +8,13 @@ use Rattle.std.proofs.lemmas.List.Elements.{recursion_from_All}
 use Rattle.split_ring.specs.declared.ranges.Refused.{Refused}
 use Rattle.scenario_text.specs.Scenario.{World, IsWorld, is_link}
 use Rattle.call_grammar.specs.Steps.{Mark, Saw, Reclaim, Full, Accept, Look, Deliver, Return, Done, Down, Refuse, Over}
-use Rattle.link_machine.specs.LinkMachine.{Side, Told, Gave, Wrote, Marked, WasReset}
+use Rattle.link_machine.specs.LinkMachine.{Side, SideEvent, Gave, Wrote, Marked, WasReset}
 use Rattle.call_grammar.proofs.OfferLists.{yes}
 use Rattle.lawful_history.specs.declared.line.Line.{Line}
 use Rattle.lawful_history.specs.declared.line.Line.TheVariants as line
 use Rattle.lawful_history.specs.Lawful.{IsLawful}
-use Rattle.history_laws.specs.Told.{Tells, telling_of, side_after, side_told, side_of}
-use Rattle.history_laws.specs.Refusals.{HonestPeersNeverRefuse, RefusesOutOfRange, RefusedPeersRest}
+use Rattle.history_laws.specs.SideEvents.{Tells, line_side_event_of, side_after, side_after_line, side_of}
+use Rattle.history_laws.specs.Refusals.{HonestPeersNeverRefuse, RefusesOutOfRange, RefusedPeersStayInReset}
 use Rattle.history_laws.proofs.Stands.{Fine, first_after}
 use Rattle.history_laws.proofs.Outside.{here_is, there_is}
 use Rattle.history_laws.proofs.Lines.{at_beginning, at_line, middle}
@@ -50,18 +50,18 @@ marked_refused Down side is = is
 marked_refused (Refuse refused) side is = refl
 marked_refused Over side is = is
 
-told_refused : (peer p : ℕ) (told : Told) (side : Side) → (peer ≡ p → told ≢ WasReset) → side.refused ≡ true → (side_told (Tells peer told) p side).refused ≡ true
+told_refused : (peer p : ℕ) (told : SideEvent) (side : Side) → (peer ≡ p → told ≢ WasReset) → side.refused ≡ true → (side_after_line (Tells peer told) p side).refused ≡ true
 told_refused peer p told side no_reset is = dite (ℕ_discrete peer p)
     (λ e. ap (λ (x : Side). x.refused) (yes (peer == p) (side_after told side) side (eq-eqb peer p e)) ∙ by_told told (no_reset e))
     (λ ne. ap (λ (x : Side). x.refused) (there_is peer p (side_after told side) side ne) ∙ is)
   where
-    by_told : (t : Told) → t ≢ WasReset → (side_after t side).refused ≡ true
+    by_told : (t : SideEvent) → t ≢ WasReset → (side_after t side).refused ≡ true
     by_told (Gave value) ne = is
     by_told (Wrote state) ne = is
     by_told (Marked mark) ne = marked_refused mark side is
     by_told WasReset ne = absurd (ne refl)
 
-line_refused : (l : Line) (p : ℕ) (side : Side) → l ≢ line.Reset p → side.refused ≡ true → (side_told (telling_of l) p side).refused ≡ true
+line_refused : (l : Line) (p : ℕ) (side : Side) → l ≢ line.Reset p → side.refused ≡ true → (side_after_line (line_side_event_of l) p side).refused ≡ true
 line_refused (line.Read peer word value) p side ne is = told_refused peer p (Gave value) side (λ e h. cc) is
 line_refused (line.State peer value) p side ne is = told_refused peer p (Wrote value) side (λ e h. cc) is
 line_refused (line.Reset peer) p side ne is = told_refused peer p WasReset side (λ e h. ne (ap line.Reset e)) is
@@ -84,7 +84,7 @@ refused_on p (l ∷ between) past all is =
     let rest = refused_on p between (l ∷ past) all.1 (line_refused l p (side_of past p) all.0 is) in
     subst (λ (ls : List Line). (side_of ls p).refused ≡ true) (sym (first_after l between past)) rest
 
-pub rest_lem : RefusedPeersRest
+pub rest_lem : RefusedPeersStayInReset
 rest_lem world before between after p value refused is lawful none =
     let first = line.Refuse p refused in
     let all = all_fine world ((before ++ first ∷ between) ++ line.State p value ∷ after) is lawful in

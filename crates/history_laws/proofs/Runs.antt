@@ -5,13 +5,13 @@ use native.Mathlib.Decide.{ℕ_discrete}
 use Rattle.std.specs.Prelude.{◌==◌, if◌then◌else◌, reverse}
 use Rattle.std.proofs.lemmas.Bool.{cases_lt}
 use Rattle.scenario_text.specs.Scenario.{World, is_link}
-use Rattle.link_machine.specs.LinkMachine.{Side, fresh_side, Told, Gave, Wrote, Marked, WasReset, Row, Log, no_sessions, log_after, MachineRuns, starts, goes, DeliversInOrder}
+use Rattle.link_machine.specs.LinkMachine.{Side, initial_side, SideEvent, Gave, Wrote, Marked, WasReset, Row, Log, no_sessions, log_after, MachineRuns, starts, goes, DeliversInOrder}
 use Rattle.call_grammar.proofs.OfferLists.{no}
 use Rattle.link_machine.proofs.MachineLaws.{machine}
 use Rattle.lawful_history.specs.declared.line.Line.{Line}
-use Rattle.history_laws.specs.Told.{Telling, Tells, Silent, telling_of, side_after, side_told, side_of}
+use Rattle.history_laws.specs.SideEvents.{LineSideEvent, Tells, Silent, line_side_event_of, side_after, side_after_line, side_of}
 use Rattle.history_laws.specs.Rows.{EachLine, IsRow, HasRow}
-use Rattle.history_laws.specs.Sessions.{log_told, log_of, HistoriesDeliver}
+use Rattle.history_laws.specs.Sessions.{log_after_line, log_of, HistoriesDeliver}
 use Rattle.history_laws.proofs.Stands.{Fine}
 use Rattle.history_laws.proofs.Outside.{here_is, there_is}
 use Rattle.history_laws.proofs.Lines.{at_beginning}
@@ -29,13 +29,13 @@ runs_alike : (world : World) (past : List Line) (l : Line) → ((q : ℕ) → q 
 runs_alike world past l same_side same_log r = record { sides = r.sides; logs = r.logs; runs = r.runs; sides_are = λ q below. r.sides_are q below ∙ sym (same_side q below); logs_are = λ q below. r.logs_are q below ∙ sym (same_log q below) }
 
 -- a line of the telling t
-side_is : (past : List Line) (l : Line) (t : Telling) (q : ℕ) → telling_of l ≡ t → side_of (l ∷ past) q ≡ side_told t q (side_of past q)
-side_is past l t q e = ap (λ (x : Telling). side_told x q (side_of past q)) e
+side_is : (past : List Line) (l : Line) (t : LineSideEvent) (q : ℕ) → line_side_event_of l ≡ t → side_of (l ∷ past) q ≡ side_after_line t q (side_of past q)
+side_is past l t q e = ap (λ (x : LineSideEvent). side_after_line x q (side_of past q)) e
 
-log_is : (past : List Line) (l : Line) (t : Telling) (q : ℕ) → telling_of l ≡ t → log_of (l ∷ past) q ≡ log_told t q (side_of past q) (log_of past q) (log_of past (1 - q))
-log_is past l t q e = ap (λ (x : Telling). log_told x q (side_of past q) (log_of past q) (log_of past (1 - q))) e
+log_is : (past : List Line) (l : Line) (t : LineSideEvent) (q : ℕ) → line_side_event_of l ≡ t → log_of (l ∷ past) q ≡ log_after_line t q (side_of past q) (log_of past q) (log_of past (1 - q))
+log_is past l t q e = ap (λ (x : LineSideEvent). log_after_line x q (side_of past q) (log_of past q) (log_of past (1 - q))) e
 
-row_of : (world : World) (past : List Line) (p : ℕ) (told : Told) (new : Side) → p < 2 → IsRow world past p told new → Row world.queue (is_link world p) (is_link world (1 - p)) (side_of past p) (side_of past (1 - p)) told new
+row_of : (world : World) (past : List Line) (p : ℕ) (told : SideEvent) (new : Side) → p < 2 → IsRow world past p told new → Row world.queue (is_link world p) (is_link world (1 - p)) (side_of past p) (side_of past (1 - p)) told new
 row_of world past p (Gave value) new below row = row below
 row_of world past p (Wrote state) new below row = row below
 row_of world past p (Marked mark) new below row = row.1
@@ -57,7 +57,7 @@ module _ {A : Type 0} (f : ℕ → A) (p : ℕ) (x : A) where
   unfolding changed
   changed_beside q ne = no (q == p) x (f q) (ne_eqb q p ne)
 
-told_runs : (world : World) (past : List Line) (l : Line) (p : ℕ) (told : Told) → p < 2 → telling_of l ≡ Tells p told → IsRow world past p told (side_of (l ∷ past) p) → RunsTo world past → RunsTo world (l ∷ past)
+told_runs : (world : World) (past : List Line) (l : Line) (p : ℕ) (told : SideEvent) → p < 2 → line_side_event_of l ≡ Tells p told → IsRow world past p told (side_of (l ∷ past) p) → RunsTo world past → RunsTo world (l ∷ past)
 told_runs world past l p told below tells row r =
     let new = side_of (l ∷ past) p in
     let log = log_of (l ∷ past) p in
@@ -86,7 +86,7 @@ told_runs world past l p told below tells row r =
           (λ ne'. changed_beside r.logs p log q ne' ∙ (r.logs_are q below' ∙ sym (log_is past l (Tells p told) q tells ∙ there_is p q (log_after (log_of past q) (log_of past (1 - q)) (side_of past q) told) (log_of past q) (λ e. ne' (sym e)))));
     }
 
-line_runs : (world : World) (past : List Line) (l : Line) (t : Telling) → telling_of l ≡ t → HasRow world past l t → RunsTo world past → RunsTo world (l ∷ past)
+line_runs : (world : World) (past : List Line) (l : Line) (t : LineSideEvent) → line_side_event_of l ≡ t → HasRow world past l t → RunsTo world past → RunsTo world (l ∷ past)
 line_runs world past l Silent tells row r = runs_alike world past l (λ q below. side_is past l Silent q tells) (λ q below. log_is past l Silent q tells) r
 line_runs world past l (Tells p told) tells row r = elim (cases_lt p 2) [
   | inl below ↦ told_runs world past l p told below tells row r
@@ -96,8 +96,8 @@ line_runs world past l (Tells p told) tells row r = elim (cases_lt p 2) [
 ]
 
 runs_to : (world : World) (past : List Line) → EachLine (Fine world) past → RunsTo world past
-runs_to world [] fine = record { sides = λ q. fresh_side; logs = λ q. no_sessions; runs = starts (λ q. fresh_side) (λ q. no_sessions) (λ q. refl) (λ q. refl); sides_are = λ q below. refl; logs_are = λ q below. refl }
-runs_to world (l ∷ past) fine = line_runs world past l (telling_of l) refl fine.0.0 (runs_to world past fine.1)
+runs_to world [] fine = record { sides = λ q. initial_side; logs = λ q. no_sessions; runs = starts (λ q. initial_side) (λ q. no_sessions) (λ q. refl) (λ q. refl); sides_are = λ q below. refl; logs_are = λ q below. refl }
+runs_to world (l ∷ past) fine = line_runs world past l (line_side_event_of l) refl fine.0.0 (runs_to world past fine.1)
 
 pub deliver_lem : HistoriesDeliver
 deliver_lem world before after p is lawful one other below =

@@ -10,35 +10,35 @@ use Rattle.scenario_text.specs.Scenario.{World, is_link}
 use Rattle.call_grammar.specs.Steps.{Mark, Reclaim, Accept, Look, Deliver, Done, Refuse, Over, Step}
 use Rattle.call_grammar.specs.Ends.{End}
 use Rattle.call_grammar.specs.Places.{Place}
-use Rattle.link_machine.specs.LinkMachine.{Side, Told, Gave, Wrote, Marked, WasReset}
-use Rattle.ends_pair.specs.Ground as pair
-use Rattle.ends_pair.specs.Whole.{Whole}
-use Rattle.ends_pair.proofs.WholeKept.{whole_like}
-use Rattle.ends_pair.specs.Sides.{SideIs}
+use Rattle.link_machine.specs.LinkMachine.{Side, SideEvent, Gave, Wrote, Marked, WasReset}
+use Rattle.link_invariant.specs.LinkConfig as pair
+use Rattle.link_invariant.specs.LinkInvariant.{LinkInvariant}
+use Rattle.link_invariant.proofs.WholeKept.{whole_like}
+use Rattle.link_invariant.specs.Sides.{SideIs}
 use Rattle.lawful_history.specs.declared.line.Line.{Line}
 use Rattle.lawful_history.specs.declared.line.Line.TheVariants as line
-use Rattle.lawful_history.specs.Memory.{Touch, touch_of, value_after, last_write}
+use Rattle.lawful_history.specs.Memory.{MemoryEffect, memory_effect_of, value_after, last_write}
 use Rattle.lawful_history.specs.Memory as touch
-use Rattle.lawful_history.specs.Schedule.{Event, Asked, Automated, Stormed, Turned, Acted, Reached, Loses, Repeated, DeviceAccess, ReadsConfig, WritesConfig, ReadsRegister, WritesRegister, ReadsMsix, WritesMsix}
+use Rattle.lawful_history.specs.Schedule.{Event, CallQueued, AutoStarted, StormStarted, TurnTaken, RegionAccessed, DeviceAccessed, InterruptDropped, InterruptRepeated, DeviceAccess, ReadsConfig, WritesConfig, ReadsRegister, WritesRegister, ReadsMsix, WritesMsix}
 use Rattle.lawful_history.specs.Schedule as event
-use Rattle.lawful_history.specs.Entries.{access_lines}
-use Rattle.lawful_history.specs.Device.{devices_of, device_events, arrival, arrived, arrivals_by, lost_count, told_by, brought_by, step_interrupts, reached_line, device_lines}
-use Rattle.history_laws.specs.Told.{Telling, Tells, Silent, telling_of, side_told, side_of}
+use Rattle.lawful_history.specs.EventRecords.{access_lines}
+use Rattle.lawful_history.specs.Device.{devices_of, device_events, arrival, arrived, arrivals_by, lost_count, device_event_of, brought_by, step_interrupts, device_access_line, device_lines}
+use Rattle.history_laws.specs.SideEvents.{LineSideEvent, Tells, Silent, line_side_event_of, side_after_line, side_of}
 use Rattle.history_laws.specs.Rows.{EachLine, HasRow}
 use Rattle.history_laws.specs.Reads.{Got, Reading, Passes, reading_of, reads_with, reads_of, IsReadFrame, IsReadBeyond, Takes, Breaks, got}
 use Rattle.history_laws.specs.Spelled.{SpellsNext}
 use Rattle.history_laws.specs.Indexes.{IsIndexRead, IsLoneIndex}
-use Rattle.split_ring.specs.Layout.{has_events, AvailableIndex, UsedIndex}
+use Rattle.split_ring.specs.Layout.{has_events, AvailIndex, UsedIndex}
 use Rattle.history_laws.proofs.ReadPlaces.{ReadsAre}
 use Rattle.history_laws.proofs.Unrung.{Unrung, UnrungIs, AreSilent, line_is, silent_none}
 use Rattle.history_laws.specs.Wake.{event_word, EventIs}
 use Rattle.history_laws.proofs.Armed.{ArmedIs}
-use Rattle.ends_pair.specs.Fields.{AvailEvent}
-use Rattle.ends_pair.specs.Ground.{fields}
+use Rattle.link_invariant.specs.Fields.{AvailEvent}
+use Rattle.link_invariant.specs.LinkConfig.{fields}
 use Rattle.split_ring.specs.Spelling.{low_half}
-use Rattle.call_grammar.specs.Offers.{asks_for}
-use Rattle.lawful_history.specs.Sides.{who_of}
-use Rattle.history_laws.proofs.Proper.{ground_of}
+use Rattle.call_grammar.specs.Offers.{wants_doorbell}
+use Rattle.lawful_history.specs.Sides.{config_of}
+use Rattle.history_laws.proofs.Proper.{link_config_of}
 use Rattle.split_ring.specs.declared.ranges.Refused.{Refused}
 use Rattle.split_ring.specs.declared.steps.Access.{Access}
 use Rattle.split_ring.specs.declared.steps.Access.TheVariants as access
@@ -51,18 +51,18 @@ EndsLook p (newest ∷ older) = newest ≡ line.Look p 0
 -- what stands where a mark does: an accepted frame is spelled, a delivered one was read, a refused value too, and an index once; and where the call of an
 -- accepted frame is over without a doorbell, the other's event doesn't ask for one; and where a poll is done that found nothing, the event is at the next frame
 abbrev pub MarkRests : World → List Line → ℕ → Mark → Type 0
-MarkRests world older p (Reclaim count) = IsIndexRead (who_of world p) p older UsedIndex (side_of older p).freed count
+MarkRests world older p (Reclaim count) = IsIndexRead (config_of world p) p older UsedIndex (side_of older p).freed count
 MarkRests world older p (Accept frame) = SpellsNext world older p frame
-MarkRests world older p (Look count) = IsIndexRead (who_of world p) p older AvailableIndex (length (side_of older p).delivered) count
-MarkRests world older p (Deliver frame) = IsReadFrame (who_of world p) (length (side_of older p).delivered) (reads_of older p) frame
+MarkRests world older p (Look count) = IsIndexRead (config_of world p) p older AvailIndex (length (side_of older p).delivered) count
+MarkRests world older p (Deliver frame) = IsReadFrame (config_of world p) (length (side_of older p).delivered) (reads_of older p) frame
 MarkRests world older p (Refuse refused) =
-    IsReadBeyond (who_of world p) (side_of older p) (reads_of older p) refused.field refused.value × IsLoneIndex (who_of world p) p older refused.field refused.value
-MarkRests world older p Over = Unrung world p older → asks_for (low_half (last_write older (event_word world (1 - p)))) (length (side_of older p).accepted - 1) ≡ false
+    IsReadBeyond (config_of world p) (side_of older p) (reads_of older p) refused.field refused.value × IsLoneIndex (config_of world p) p older refused.field refused.value
+MarkRests world older p Over = Unrung world p older → wants_doorbell (low_half (last_write older (event_word world (1 - p)))) (length (side_of older p).accepted - 1) ≡ false
 MarkRests world older p Done = has_events world.queue ≡ true → EndsLook p older → EventIs world older p (length (side_of older p).delivered)
 MarkRests world older p mark = Unit {0}
 
 -- and an honest side that refused writes 0 alone
-abbrev pub Rests : World → List Line → Telling → Type 0
+abbrev pub Rests : World → List Line → LineSideEvent → Type 0
 Rests world older (Tells p (Gave value)) = Unit {0}
 Rests world older (Tells p (Wrote state)) = is_link world p ≡ true → (side_of older p).refused ≡ true → state ≡ 0
 Rests world older (Tells p (Marked mark)) = MarkRests world older p mark
@@ -72,7 +72,7 @@ Rests world older Silent = Unit {0}
 -- After a read of an honest link peer out of range stands the refusal, and nothing else
 
 abbrev pub Answered : World → Reading → List Line → Line → Type 0
-Answered world (Takes p word value) older next = (refused : Refused) → is_link world p ≡ true → IsReadBeyond (who_of world p) (side_of older p) (reads_of older p ++ got word value ∷ []) refused.field refused.value → next ≡ line.Refuse p refused
+Answered world (Takes p word value) older next = (refused : Refused) → is_link world p ≡ true → IsReadBeyond (config_of world p) (side_of older p) (reads_of older p ++ got word value ∷ []) refused.field refused.value → next ≡ line.Refuse p refused
 Answered world (Breaks p) older next = Unit {0}
 Answered world Passes older next = Unit {0}
 
@@ -81,7 +81,7 @@ AnswersTo world [] next = Unit {0}
 AnswersTo world (first ∷ older) next = Answered world (reading_of first) older next
 
 abbrev pub SettledBy : World → Reading → List Line → Type 0
-SettledBy world (Takes p word value) older = (refused : Refused) → is_link world p ≡ true → ¬ IsReadBeyond (who_of world p) (side_of older p) (reads_of older p ++ got word value ∷ []) refused.field refused.value
+SettledBy world (Takes p word value) older = (refused : Refused) → is_link world p ≡ true → ¬ IsReadBeyond (config_of world p) (side_of older p) (reads_of older p ++ got word value ∷ []) refused.field refused.value
 SettledBy world (Breaks p) older = Unit {0}
 SettledBy world Passes older = Unit {0}
 
@@ -105,26 +105,26 @@ abbrev pub WritesIn : World → List Line → Line → Type 0
 WritesIn world older (line.Write p word value) = is_link world p ≡ true → (side_of older p).state ≢ 0
 WritesIn world older line = Unit {0}
 
-writes_apart : (world : World) (older : List Line) (l : Line) → touch_of l ≡ touch.Apart → WritesIn world older l
+writes_apart : (world : World) (older : List Line) (l : Line) → memory_effect_of l ≡ touch.Apart → WritesIn world older l
 writes_apart world older (line.Write p word value) apart = absurd (cc)
 writes_apart world older l apart = tt
 
-pub writes_told : (world : World) (older : List Line) (l : Line) (p : ℕ) (told : Told) → telling_of l ≡ Tells p told → WritesIn world older l
+pub writes_told : (world : World) (older : List Line) (l : Line) (p : ℕ) (told : SideEvent) → line_side_event_of l ≡ Tells p told → WritesIn world older l
 writes_told world older (line.Write p word value) q told tells = absurd (cc)
 writes_told world older l p told tells = tt
 
 -- what is kept of each line
 abbrev pub Fine : World → List Line → Line → Type 0
-Fine world older line = HasRow world older line (telling_of line) × Rests world older (telling_of line) × AnswersTo world older line × WritesIn world older line
+Fine world older line = HasRow world older line (line_side_event_of line) × Rests world older (line_side_event_of line) × AnswersTo world older line × WritesIn world older line
 
 -- after these lines the ends stand at these places, each honest one is the side of the lines and has read what is among them, and the state words are those of the sides
 pub record Stands (world : World) (past : List Line) (ends : ℕ → End) (places : ℕ → Place) : Type 0 where
-  pub holds : Whole (ground_of world) (is_link world) (last_write past) ends places
+  pub holds : LinkInvariant (link_config_of world) (is_link world) (last_write past) ends places
   pub sides : (p : ℕ) → p < 2 → is_link world p ≡ true → SideIs (ends p) (places p) (side_of past p)
   pub states : (p : ℕ) → p < 2 → last_write past p ≡ (side_of past p).state
-  pub reads : (p : ℕ) → p < 2 → is_link world p ≡ true → ReadsAre (pair.who_of (ground_of world) p) (places p) (reads_of past p)
+  pub reads : (p : ℕ) → p < 2 → is_link world p ≡ true → ReadsAre (pair.config_of (link_config_of world) p) (places p) (reads_of past p)
   pub unrung : (p : ℕ) → p < 2 → is_link world p ≡ true → UnrungIs world p (places p) past
-  pub armed : has_events world.queue ≡ true → (p : ℕ) → p < 2 → is_link world p ≡ true → ArmedIs (fields (ground_of world) (last_write past) p AvailEvent) (ends p) (places p)
+  pub armed : has_events world.queue ≡ true → (p : ℕ) → p < 2 → is_link world p ≡ true → ArmedIs (fields (link_config_of world) (last_write past) p AvailEvent) (ends p) (places p)
   pub settled : Settled world past
   pub fine : EachLine (Fine world) past
 
@@ -140,12 +140,12 @@ pub record Alike (world : World) (old new : List Line) : Type 0 where
 
 pub stands_alike : (world : World) (old new : List Line) (ends : ℕ → End) (places : ℕ → Place) → Alike world old new → Stands world old ends places → Stands world new ends places
 stands_alike world old new ends places a s = record {
-  holds = subst (λ (m : ℕ → ℕ). Whole (ground_of world) (is_link world) m ends places) (sym a.memory) s.holds;
+  holds = subst (λ (m : ℕ → ℕ). LinkInvariant (link_config_of world) (is_link world) m ends places) (sym a.memory) s.holds;
   sides = λ p below honest. subst (λ (x : ℕ → Side). SideIs (ends p) (places p) (x p)) (sym a.sides) (s.sides p below honest);
   states = λ p below. ap (λ (m : ℕ → ℕ). m p) a.memory ∙ (s.states p below ∙ ap (λ (x : ℕ → Side). (x p).state) (sym a.sides));
-  reads = λ p below honest. subst (λ (r : ℕ → List Got). ReadsAre (pair.who_of (ground_of world) p) (places p) (r p)) (sym a.reads) (s.reads p below honest);
+  reads = λ p below honest. subst (λ (r : ℕ → List Got). ReadsAre (pair.config_of (link_config_of world) p) (places p) (r p)) (sym a.reads) (s.reads p below honest);
   unrung = λ p below honest. a.unrung p (places p) (s.unrung p below honest);
-  armed = λ has p below honest. subst (λ (m : ℕ → ℕ). ArmedIs (fields (ground_of world) m p AvailEvent) (ends p) (places p)) (sym a.memory) (s.armed has p below honest);
+  armed = λ has p below honest. subst (λ (m : ℕ → ℕ). ArmedIs (fields (link_config_of world) m p AvailEvent) (ends p) (places p)) (sym a.memory) (s.armed has p below honest);
   settled = a.settled s.settled;
   fine = a.fine s.settled s.fine;
 }
@@ -153,37 +153,37 @@ stands_alike world old new ends places a s = record {
 -- the same ends at the same places
 pub ends_alike : (world : World) (past : List Line) (ends after_ends : ℕ → End) (places : ℕ → Place) → ((p : ℕ) → p < 2 → is_link world p ≡ true → after_ends p ≡ ends p) → Stands world past ends places → Stands world past after_ends places
 ends_alike world past ends after_ends places same s = record {
-  holds = whole_like (ground_of world) (is_link world) (last_write past) ends after_ends places same s.holds;
+  holds = whole_like (link_config_of world) (is_link world) (last_write past) ends after_ends places same s.holds;
   sides = λ p below honest. subst (λ (x : End). SideIs x (places p) (side_of past p)) (sym (same p below honest)) (s.sides p below honest);
   states = s.states;
   reads = s.reads;
   unrung = s.unrung;
-  armed = λ has p below honest. subst (λ (x : End). ArmedIs (fields (ground_of world) (last_write past) p AvailEvent) x (places p)) (sym (same p below honest)) (s.armed has p below honest);
+  armed = λ has p below honest. subst (λ (x : End). ArmedIs (fields (link_config_of world) (last_write past) p AvailEvent) x (places p)) (sym (same p below honest)) (s.armed has p below honest);
   settled = s.settled;
   fine = s.fine;
 }
 
 -- a line that leaves every word and tells the machine nothing
 pub record IsQuiet (line : Line) : Type 0 where
-  pub apart : touch_of line ≡ touch.Apart
-  pub silent : telling_of line ≡ Silent
+  pub apart : memory_effect_of line ≡ touch.Apart
+  pub silent : line_side_event_of line ≡ Silent
   pub passes : reading_of line ≡ Passes
 
 pub quiet_silent : (lines : List Line) → AllByRecursion IsQuiet lines → AreSilent lines
 quiet_silent [] quiet = tt
 quiet_silent (line ∷ lines) quiet = (quiet.0.silent, quiet_silent lines quiet.1)
 
-pub memory_after : (line : Line) (past : List Line) → touch_of line ≡ touch.Apart → last_write (line ∷ past) ≡ last_write past
-memory_after line past apart = ap (λ (t : Touch). λ (at : ℕ). value_after t at (last_write past at)) apart
+pub memory_after : (line : Line) (past : List Line) → memory_effect_of line ≡ touch.Apart → last_write (line ∷ past) ≡ last_write past
+memory_after line past apart = ap (λ (t : MemoryEffect). λ (at : ℕ). value_after t at (last_write past at)) apart
 
-sides_after : (line : Line) (past : List Line) → telling_of line ≡ Silent → side_of (line ∷ past) ≡ side_of past
-sides_after line past silent = ap (λ (t : Telling). λ (p : ℕ). side_told t p (side_of past p)) silent
+sides_after : (line : Line) (past : List Line) → line_side_event_of line ≡ Silent → side_of (line ∷ past) ≡ side_of past
+sides_after line past silent = ap (λ (t : LineSideEvent). λ (p : ℕ). side_after_line t p (side_of past p)) silent
 
 pub reads_after : (line : Line) (past : List Line) → reading_of line ≡ Passes → reads_of (line ∷ past) ≡ reads_of past
 reads_after line past passes = ap (λ (r : Reading). λ (p : ℕ). reads_with r p (reads_of past p)) passes
 
-silent_fine : (world : World) (line : Line) (past : List Line) (t : Telling) → t ≡ Silent → HasRow world past line t × Rests world past t
-silent_fine world line past t silent = subst (λ (x : Telling). HasRow world past line x × Rests world past x) (sym silent) (tt, tt)
+silent_fine : (world : World) (line : Line) (past : List Line) (t : LineSideEvent) → t ≡ Silent → HasRow world past line t × Rests world past t
+silent_fine world line past t silent = subst (λ (x : LineSideEvent). HasRow world past line x × Rests world past x) (sym silent) (tt, tt)
 
 passes_settled : (world : World) (line : Line) (past : List Line) → reading_of line ≡ Passes → Settled world (line ∷ past)
 passes_settled world line past passes = subst (λ (r : Reading). SettledBy world r past) (sym passes) tt
@@ -195,7 +195,7 @@ quiet_line world line past q = record {
   reads = reads_after line past q.passes;
   unrung = λ p place is. line_is world p place line past (silent_none p line q.silent) is;
   settled = λ settled. passes_settled world line past q.passes;
-  fine = λ settled old. let told = silent_fine world line past (telling_of line) q.silent in ((told.0, told.1, answers world past line settled, writes_apart world past line q.apart), old);
+  fine = λ settled old. let told = silent_fine world line past (line_side_event_of line) q.silent in ((told.0, told.1, answers world past line settled, writes_apart world past line q.apart), old);
 }
 
 alike_on : (world : World) (old mid new : List Line) → Alike world old mid → Alike world mid new → Alike world old new
@@ -226,13 +226,13 @@ arrivals_quiet world older losses line (Some e) = arrived_quiet (line ∷ older)
 
 brought_quiet : (world : World) (older : List Line) (losses : ℕ → ℕ) (lines : List Line) → AllByRecursion IsQuiet (brought_by world older losses lines)
 brought_quiet world older losses [] = tt
-brought_quiet world older losses (line ∷ lines) = arrivals_quiet world older losses line (told_by line)
+brought_quiet world older losses (line ∷ lines) = arrivals_quiet world older losses line (device_event_of line)
 
 pub step_quiet : (world : World) (older : List Line) (losses : ℕ → ℕ) (p : ℕ) (went : Option Step) → AllByRecursion IsQuiet (step_interrupts world older losses p went)
 step_quiet world older losses p None = tt
 step_quiet world older losses p (Some step) = brought_quiet world older losses (access_lines p step.access step.value)
 
-reached_quiet : (world : World) (older : List Line) (p : ℕ) (a : DeviceAccess) → IsQuiet (reached_line world older p a)
+reached_quiet : (world : World) (older : List Line) (p : ℕ) (a : DeviceAccess) → IsQuiet (device_access_line world older p a)
 reached_quiet world older p (ReadsConfig offset width) = record { apart = refl; silent = refl; passes = refl }
 reached_quiet world older p (WritesConfig offset width value) = record { apart = refl; silent = refl; passes = refl }
 reached_quiet world older p (ReadsRegister offset) = record { apart = refl; silent = refl; passes = refl }
@@ -241,15 +241,15 @@ reached_quiet world older p (ReadsMsix offset) = record { apart = refl; silent =
 reached_quiet world older p (WritesMsix offset value) = record { apart = refl; silent = refl; passes = refl }
 
 pub device_quiet : (world : World) (older : List Line) (losses : ℕ → ℕ) (e : Event) (went : Option Step) → AllByRecursion IsQuiet (device_lines world older losses e went)
-device_quiet world older losses (Asked p call) went = tt
-device_quiet world older losses (Automated p expected) went = tt
-device_quiet world older losses (Stormed p seed) went = tt
-device_quiet world older losses (Turned p) went = step_quiet world older losses p went
-device_quiet world older losses (Acted p a) went = step_quiet world older losses p went
-device_quiet world older losses (event.WasReset p) went = arrivals_quiet world older losses (line.Reset p) (told_by (line.Reset p))
-device_quiet world older losses (Reached p a) went = (reached_quiet world older p a, tt)
-device_quiet world older losses (Loses p) went = tt
-device_quiet world older losses (Repeated p vector) went = (record { apart = refl; silent = refl; passes = refl }, tt)
+device_quiet world older losses (CallQueued p call) went = tt
+device_quiet world older losses (AutoStarted p expected) went = tt
+device_quiet world older losses (StormStarted p seed) went = tt
+device_quiet world older losses (TurnTaken p) went = step_quiet world older losses p went
+device_quiet world older losses (RegionAccessed p a) went = step_quiet world older losses p went
+device_quiet world older losses (event.DeviceReset p) went = arrivals_quiet world older losses (line.Reset p) (device_event_of (line.Reset p))
+device_quiet world older losses (DeviceAccessed p a) went = (reached_quiet world older p a, tt)
+device_quiet world older losses (InterruptDropped p) went = tt
+device_quiet world older losses (InterruptRepeated p vector) went = (record { apart = refl; silent = refl; passes = refl }, tt)
 
 -- a read brings no line of the devices
 abbrev pub BringsNone : Access → List Line → Type 0

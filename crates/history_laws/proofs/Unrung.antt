@@ -9,18 +9,18 @@ use Rattle.split_ring.specs.Layout.{has_events}
 use Rattle.split_ring.specs.Spelling.{low_half}
 use Rattle.scenario_text.specs.Scenario.{World}
 use Rattle.call_grammar.specs.Steps.{Mark, Accept, Over, value_given, step_of}
-use Rattle.call_grammar.specs.Offers.{asks_for}
-use Rattle.call_grammar.specs.Places.{Place, Closed, WritingIndex, AtEvent, RingingOffer, access_at, marks_at, next_place, step_at}
+use Rattle.call_grammar.specs.Offers.{wants_doorbell}
+use Rattle.call_grammar.specs.Places.{Place, Closed, WritingAvailIndex, ReadingAvailEvent, RingingOffer, access_at, marks_at, next_place, step_at}
 use Rattle.link_machine.specs.LinkMachine.{Marked}
-use Rattle.ends_pair.specs.Ground as pair
-use Rattle.ends_pair.proofs.Wakes.{AcceptsNone, marks_none}
+use Rattle.link_invariant.specs.LinkConfig as pair
+use Rattle.link_invariant.proofs.Wakes.{AcceptsNone, marks_none}
 use Rattle.lawful_history.specs.declared.line.Line.{Line}
 use Rattle.lawful_history.specs.declared.line.Line.TheVariants as line
-use Rattle.lawful_history.specs.Entries.{access_lines, mark_line, step_lines}
-use Rattle.history_laws.specs.Told.{Tells, Silent, telling_of}
+use Rattle.lawful_history.specs.EventRecords.{access_lines, mark_line, step_lines}
+use Rattle.history_laws.specs.SideEvents.{Tells, Silent, line_side_event_of}
 use Rattle.history_laws.specs.Reads.{Reading, Takes, Breaks, Passes, reading_of}
 use Rattle.history_laws.specs.Wake.{doorbell_of}
-use Rattle.history_laws.proofs.Proper.{ground_of}
+use Rattle.history_laws.proofs.Proper.{link_config_of}
 use Rattle.history_laws.proofs.MarkLines.{mark_is, after_access}
 
 -- the last mark of peer p since its reset is an accept, and its doorbell hasn't come since
@@ -48,12 +48,12 @@ unrung_before world p l older none (inr stays) = was_unrung (reading_of l) p (Un
 
 -- where an end is at a place, this is so only in an offer that is to hear the event or to ring
 abbrev pub UnrungIs : World → ℕ → Place → List Line → Type 0
-UnrungIs world p (AtEvent number) past = Unit {0}
+UnrungIs world p (ReadingAvailEvent number) past = Unit {0}
 UnrungIs world p RingingOffer past = Unit {0}
 UnrungIs world p place past = ¬ Unrung world p past
 
 pub at_place : (world : World) (p : ℕ) (place : Place) (past : List Line) → ¬ Unrung world p past → UnrungIs world p place past
-at_place world p (AtEvent number) past none = tt
+at_place world p (ReadingAvailEvent number) past none = tt
 at_place world p RingingOffer past none = tt
 at_place world p place past none = none
 
@@ -71,21 +71,21 @@ lines_unrung world p (l ∷ lines) past none unrung =
     unrung_before world p l past none.0 (lines_unrung world p lines (l ∷ past) none.1 (subst (Unrung world p) (first_after l lines past) unrung))
 
 pub line_is : (world : World) (p : ℕ) (place : Place) (l : Line) (past : List Line) → (IsAccept p l → ⊥) → UnrungIs world p place past → UnrungIs world p place (l ∷ past)
-line_is world p (AtEvent number) l past none is = tt
+line_is world p (ReadingAvailEvent number) l past none is = tt
 line_is world p RingingOffer l past none is = tt
 line_is world p place l past none is = λ unrung. is (unrung_before world p l past none unrung)
 
 pub lines_are : (world : World) (p : ℕ) (place : Place) (lines past : List Line) → NoAccepts p lines → UnrungIs world p place past → UnrungIs world p place (reverse lines ++ past)
-lines_are world p (AtEvent number) lines past none is = tt
+lines_are world p (ReadingAvailEvent number) lines past none is = tt
 lines_are world p RingingOffer lines past none is = tt
 lines_are world p place lines past none is = λ unrung. is (lines_unrung world p lines past none unrung)
 
-pub silent_none : (p : ℕ) (l : Line) → telling_of l ≡ Silent → IsAccept p l → ⊥
-silent_none p l silent accept = let e : telling_of l ≡ Tells p (Marked (Accept accept.0)) = ap telling_of accept.1 in cc
+pub silent_none : (p : ℕ) (l : Line) → line_side_event_of l ≡ Silent → IsAccept p l → ⊥
+silent_none p l silent accept = let e : line_side_event_of l ≡ Tells p (Marked (Accept accept.0)) = ap line_side_event_of accept.1 in cc
 
-pub told_none : (p peer : ℕ) (l : Line) (mark : Mark) → telling_of l ≡ Tells peer (Marked mark) → ((frame : List ℕ) → mark ≢ Accept frame) ⊎ (peer ≢ p) → IsAccept p l → ⊥
-told_none p peer l mark tells (inl none) accept = let e : telling_of l ≡ Tells p (Marked (Accept accept.0)) = ap telling_of accept.1 in none accept.0 (cc)
-told_none p peer l mark tells (inr ne) accept = let e : telling_of l ≡ Tells p (Marked (Accept accept.0)) = ap telling_of accept.1 in ne (cc)
+pub told_none : (p peer : ℕ) (l : Line) (mark : Mark) → line_side_event_of l ≡ Tells peer (Marked mark) → ((frame : List ℕ) → mark ≢ Accept frame) ⊎ (peer ≢ p) → IsAccept p l → ⊥
+told_none p peer l mark tells (inl none) accept = let e : line_side_event_of l ≡ Tells p (Marked (Accept accept.0)) = ap line_side_event_of accept.1 in none accept.0 (cc)
+told_none p peer l mark tells (inr ne) accept = let e : line_side_event_of l ≡ Tells p (Marked (Accept accept.0)) = ap line_side_event_of accept.1 in ne (cc)
 
 pub marked_ends : (world : World) (p : ℕ) (l : Line) (older : List Line) → reading_of l ≡ Breaks p → (IsAccept p l → ⊥) → ¬ Unrung world p (l ∷ older)
 marked_ends world p l older breaks none (inl accept) = none accept
@@ -99,7 +99,7 @@ both p [] others mine theirs = theirs
 both p (l ∷ lines) others mine theirs = (mine.0, both p lines others mine.1 theirs)
 
 abbrev pub AreSilent : List Line → Type 0
-AreSilent lines = AllByRecursion (λ l. telling_of l ≡ Silent) lines
+AreSilent lines = AllByRecursion (λ l. line_side_event_of l ≡ Silent) lines
 
 pub silents_none : (p : ℕ) (lines : List Line) → AreSilent lines → NoAccepts p lines
 silents_none p [] silent = tt
@@ -139,7 +139,7 @@ over_last world p lines past unrung =
 
 -- what its step leaves
 module _ (world : World) (p : ℕ) (past device : List Line) (value : ℕ) (silent : AreSilent device) where
-  told_is : (b : Bool) (number : ℕ) (after : List Line) → UnrungIs world p (if b then AtEvent number else RingingOffer) after
+  told_is : (b : Bool) (number : ℕ) (after : List Line) → UnrungIs world p (if b then ReadingAvailEvent number else RingingOffer) after
   told_is true number after = tt
   told_is false number after = tt
 
@@ -147,18 +147,18 @@ module _ (world : World) (p : ℕ) (past device : List Line) (value : ℕ) (sile
   heard_is true first = tt
   heard_is false first = over_last world p (first ∷ device) past
 
-  pub step_is : (place : Place) → UnrungIs world p place past → UnrungIs world p (next_place (pair.who_of (ground_of world) p) place value) (reverse (step_lines p (step_at (pair.who_of (ground_of world) p) place value) device) ++ past)
-  step_is (WritingIndex job) is = told_is (has_events world.queue) job.number _
-  step_is (AtEvent number) is = heard_is (asks_for (low_half value) number) _
+  pub step_is : (place : Place) → UnrungIs world p place past → UnrungIs world p (next_place (pair.config_of (link_config_of world) p) place value) (reverse (step_lines p (step_at (pair.config_of (link_config_of world) p) place value) device) ++ past)
+  step_is (WritingAvailIndex pending) is = told_is (has_events world.queue) pending.number _
+  step_is (ReadingAvailEvent number) is = heard_is (wants_doorbell (low_half value) number) _
   step_is RingingOffer is = over_last world p (doorbell_of world p ∷ device) past
   step_is place is =
-      let who = pair.who_of (ground_of world) p in
-      at_place world p (next_place who place value) _ (λ unrung. is (lines_unrung world p (step_lines p (step_at who place value) device) past
-      (step_none p p (access_at who place) value device (marks_at who place value) silent (inr (refl, marks_none who place value (λ job e. cc)))) unrung))
+      let config = pair.config_of (link_config_of world) p in
+      at_place world p (next_place config place value) _ (λ unrung. is (lines_unrung world p (step_lines p (step_at config place value) device) past
+      (step_none p p (access_at config place) value device (marks_at config place value) silent (inr (refl, marks_none config place value (λ pending e. cc)))) unrung))
 
 -- where its marks stand, after its access
 abbrev pub UnrungAt : World → ℕ → Place → List Line → Type 0
-UnrungAt world p (AtEvent number) older = Unit {0}
+UnrungAt world p (ReadingAvailEvent number) older = Unit {0}
 UnrungAt world p place older = ¬ Unrung world p older
 
 access_keeps : (world : World) (p : ℕ) (a : Access) (value : ℕ) (past : List Line) → ¬ Unrung world p past → ¬ Unrung world p (after_access p a value past)
@@ -173,8 +173,8 @@ rung_here world p past (inl accept) = let e = accept.1 in cc
 rung_here world p past (inr stays) = stays.0 refl
 
 pub access_is : (world : World) (p : ℕ) (place : Place) (value : ℕ) (past device : List Line) → AreSilent device → UnrungIs world p place past →
-    UnrungAt world p place (reverse device ++ after_access p (access_at (pair.who_of (ground_of world) p) place) value past)
-access_is world p (AtEvent number) value past device silent is = tt
+    UnrungAt world p place (reverse device ++ after_access p (access_at (pair.config_of (link_config_of world) p) place) value past)
+access_is world p (ReadingAvailEvent number) value past device silent is = tt
 access_is world p RingingOffer value past device silent is = λ unrung. rung_here world p past (lines_unrung world p device _ (silents_none p device silent) unrung)
 access_is world p place value past device silent is =
-    λ unrung. access_keeps world p (access_at (pair.who_of (ground_of world) p) place) value past is (lines_unrung world p device _ (silents_none p device silent) unrung)
+    λ unrung. access_keeps world p (access_at (pair.config_of (link_config_of world) p) place) value past is (lines_unrung world p device _ (silents_none p device silent) unrung)

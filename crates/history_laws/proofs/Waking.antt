@@ -10,17 +10,17 @@ use Rattle.split_ring.specs.Layout.{has_events}
 use Rattle.split_ring.specs.Spelling.{low_half}
 use Rattle.scenario_text.specs.Scenario.{World, IsWorld, is_link}
 use Rattle.call_grammar.specs.Steps.{Mark, Saw, Reclaim, Full, Accept, Look, Deliver, Return, Done, Down, Refuse, Over}
-use Rattle.call_grammar.specs.Offers.{asks_for}
-use Rattle.link_machine.specs.LinkMachine.{Side, Told, Gave, Wrote, Marked, WasReset, MayLook}
+use Rattle.call_grammar.specs.Offers.{wants_doorbell}
+use Rattle.link_machine.specs.LinkMachine.{Side, SideEvent, Gave, Wrote, Marked, WasReset, MayLook}
 use Rattle.call_grammar.proofs.OfferLists.{yes}
-use Rattle.ends_pair.proofs.Wakes.{asks_there}
+use Rattle.link_invariant.proofs.Wakes.{asks_there}
 use Rattle.lawful_history.specs.declared.line.Line.{Line}
 use Rattle.lawful_history.specs.declared.line.Line.TheVariants as line
-use Rattle.lawful_history.specs.Memory.{Touch, Stored, Set, touch_of, value_after, last_write, Spares}
+use Rattle.lawful_history.specs.Memory.{MemoryEffect, Stored, Set, memory_effect_of, value_after, last_write, DoesNotWrite}
 use Rattle.lawful_history.specs.Memory as touch
 use Rattle.lawful_history.specs.Sides.{traffic_vector}
 use Rattle.lawful_history.specs.Lawful.{IsLawful}
-use Rattle.history_laws.specs.Told.{Telling, Tells, Silent, telling_of, side_after, side_told, side_of}
+use Rattle.history_laws.specs.SideEvents.{LineSideEvent, Tells, Silent, line_side_event_of, side_after, side_after_line, side_of}
 use Rattle.history_laws.specs.Rows.{EachLine}
 use Rattle.history_laws.specs.Reads.{Reading, Takes, Breaks, Passes, reading_of}
 use Rattle.history_laws.specs.Wake.{event_word, EventIs, LeavesEvent, doorbell_of, GoesOn, IsRungIn, AcceptsNothing, WakesAreRung}
@@ -39,7 +39,7 @@ doorbell_or_not world p (line.Doorbell peer target vector) =
     (λ ne. inr (λ is. ne (cc)))
 doorbell_or_not world p l = inr (λ is. cc)
 
-goes_reading : (p : ℕ) (l : Line) → GoesOn p (telling_of l) → reading_of l ≢ Breaks p
+goes_reading : (p : ℕ) (l : Line) → GoesOn p (line_side_event_of l) → reading_of l ≢ Breaks p
 goes_reading p (line.Reset peer) goes e = goes (cc)
 goes_reading p (line.Saw peer value) goes e = goes (cc)
 goes_reading p (line.Reclaim peer count) goes e = goes (cc)
@@ -59,7 +59,7 @@ stays_unrung (Takes peer word value) p older ne unrung = unrung
 stays_unrung (Breaks peer) p older ne unrung = (λ e. ne (ap Breaks e), unrung)
 stays_unrung Passes p older ne unrung = unrung
 
-rung_or_not : (world : World) (p : ℕ) (offer past : List Line) → AllByRecursion (λ l. GoesOn p (telling_of l)) offer → Unrung world p past → IsRungIn world p offer ⊎ Unrung world p (reverse offer ++ past)
+rung_or_not : (world : World) (p : ℕ) (offer past : List Line) → AllByRecursion (λ l. GoesOn p (line_side_event_of l)) offer → Unrung world p past → IsRungIn world p offer ⊎ Unrung world p (reverse offer ++ past)
 rung_or_not world p [] past goes unrung = inr unrung
 rung_or_not world p (l ∷ offer) past goes unrung = elim (doorbell_or_not world p l) [
   | inl e ↦ inl ([], offer, ap (λ (first : Line). first ∷ offer) e)
@@ -71,17 +71,17 @@ rung_or_not world p (l ∷ offer) past goes unrung = elim (doorbell_or_not world
 
 -- What lines keep: a word in which they leave no value, and the frames that a peer accepted
 
-touch_keeps : (t : Touch) (word before : ℕ) → ((value : ℕ) → ¬ ((t ≡ Set word value) ⊎ ((peer : ℕ) × (t ≡ Stored peer word value)))) → value_after t word before ≡ before
+touch_keeps : (t : MemoryEffect) (word before : ℕ) → ((value : ℕ) → ¬ ((t ≡ Set word value) ⊎ ((peer : ℕ) × (t ≡ Stored peer word value)))) → value_after t word before ≡ before
 touch_keeps (touch.Gave at value) word before spares = refl
 touch_keeps (Stored peer at value) word before spares = dite (ℕ_discrete at word) (λ e. absurd (spares value (inr (peer, ap (λ (w : ℕ). Stored peer w value) e)))) (λ ne. there_is at word value before ne)
 touch_keeps (touch.Denied peer at) word before spares = refl
 touch_keeps (Set at value) word before spares = dite (ℕ_discrete at word) (λ e. absurd (spares value (inl (ap (λ (w : ℕ). Set w value) e)))) (λ ne. there_is at word value before ne)
 touch_keeps touch.Apart word before spares = refl
 
-word_kept : (word : ℕ) (lines past : List Line) → AllByRecursion (Spares word) lines → last_write (reverse lines ++ past) word ≡ last_write past word
+word_kept : (word : ℕ) (lines past : List Line) → AllByRecursion (DoesNotWrite word) lines → last_write (reverse lines ++ past) word ≡ last_write past word
 word_kept word [] past spares = refl
 word_kept word (l ∷ lines) past spares =
-    ap (λ (ls : List Line). last_write ls word) (first_after l lines past) ∙ (word_kept word lines (l ∷ past) spares.1 ∙ touch_keeps (touch_of l) word (last_write past word) spares.0)
+    ap (λ (ls : List Line). last_write ls word) (first_after l lines past) ∙ (word_kept word lines (l ∷ past) spares.1 ∙ touch_keeps (memory_effect_of l) word (last_write past word) spares.0)
 
 mark_keeps : (peer p : ℕ) (mark : Mark) (side : Side) → peer ≡ p → AcceptsNothing p (Tells peer (Marked mark)) → (side_after (Marked mark) side).accepted ≡ side.accepted
 mark_keeps peer p (Accept frame) side e none = absurd (none e)
@@ -96,37 +96,37 @@ mark_keeps peer p Down side e none = refl
 mark_keeps peer p (Refuse refused) side e none = refl
 mark_keeps peer p Over side e none = refl
 
-after_keeps : (peer p : ℕ) (told : Told) (side : Side) → peer ≡ p → AcceptsNothing p (Tells peer told) → (side_after told side).accepted ≡ side.accepted
+after_keeps : (peer p : ℕ) (told : SideEvent) (side : Side) → peer ≡ p → AcceptsNothing p (Tells peer told) → (side_after told side).accepted ≡ side.accepted
 after_keeps peer p (Gave value) side e none = refl
 after_keeps peer p (Wrote state) side e none = absurd (none e)
 after_keeps peer p (Marked mark) side e none = mark_keeps peer p mark side e none
 after_keeps peer p WasReset side e none = refl
 
-told_keeps : (t : Telling) (p : ℕ) (side : Side) → AcceptsNothing p t → (side_told t p side).accepted ≡ side.accepted
+told_keeps : (t : LineSideEvent) (p : ℕ) (side : Side) → AcceptsNothing p t → (side_after_line t p side).accepted ≡ side.accepted
 told_keeps Silent p side none = refl
 told_keeps (Tells peer told) p side none = dite (ℕ_discrete peer p)
     (λ e. ap (λ (x : Side). x.accepted) (yes (peer == p) (side_after told side) side (eq-eqb peer p e)) ∙ after_keeps peer p told side e none)
     (λ ne. ap (λ (x : Side). x.accepted) (there_is peer p (side_after told side) side ne))
 
-accepted_kept : (p : ℕ) (lines past : List Line) → AllByRecursion (λ l. AcceptsNothing p (telling_of l)) lines → (side_of (reverse lines ++ past) p).accepted ≡ (side_of past p).accepted
+accepted_kept : (p : ℕ) (lines past : List Line) → AllByRecursion (λ l. AcceptsNothing p (line_side_event_of l)) lines → (side_of (reverse lines ++ past) p).accepted ≡ (side_of past p).accepted
 accepted_kept p [] past none = refl
 accepted_kept p (l ∷ lines) past none =
-    ap (λ (ls : List Line). (side_of ls p).accepted) (first_after l lines past) ∙ (accepted_kept p lines (l ∷ past) none.1 ∙ told_keeps (telling_of l) p (side_of past p) none.0)
+    ap (λ (ls : List Line). (side_of ls p).accepted) (first_after l lines past) ∙ (accepted_kept p lines (l ∷ past) none.1 ∙ told_keeps (line_side_event_of l) p (side_of past p) none.0)
 
 goes_marked : (peer p : ℕ) (mark : Mark) → GoesOn p (Tells peer (Marked mark)) → AcceptsNothing p (Tells peer (Marked mark))
 goes_marked peer p (Accept frame) goes = goes
 goes_marked peer p mark goes = tt
 
-goes_told : (p : ℕ) (t : Telling) → GoesOn p t → AcceptsNothing p t
+goes_told : (p : ℕ) (t : LineSideEvent) → GoesOn p t → AcceptsNothing p t
 goes_told p (Tells peer (Gave value)) goes = tt
 goes_told p (Tells peer (Wrote state)) goes = goes
 goes_told p (Tells peer (Marked mark)) goes = goes_marked peer p mark goes
 goes_told p (Tells peer WasReset) goes = tt
 goes_told p Silent goes = tt
 
-goes_accepts : (p : ℕ) (lines : List Line) → AllByRecursion (λ l. GoesOn p (telling_of l)) lines → AllByRecursion (λ l. AcceptsNothing p (telling_of l)) lines
+goes_accepts : (p : ℕ) (lines : List Line) → AllByRecursion (λ l. GoesOn p (line_side_event_of l)) lines → AllByRecursion (λ l. AcceptsNothing p (line_side_event_of l)) lines
 goes_accepts p [] goes = tt
-goes_accepts p (l ∷ lines) goes = (goes_told p (telling_of l) goes.0, goes_accepts p lines goes.1)
+goes_accepts p (l ∷ lines) goes = (goes_told p (line_side_event_of l) goes.0, goes_accepts p lines goes.1)
 
 -- the lines up to an accept
 abbrev accepted_past : ℕ → List ℕ → List Line → List Line
@@ -138,11 +138,11 @@ abbrev IsRung : Type 0
 IsRung = (world : World) (before since offer after : List Line) (p : ℕ) (frame : List ℕ) → IsWorld world → p < 2 → is_link world (1 - p) ≡ true →
     IsLawful world (before ++ since ++ line.Accept (1 - p) frame ∷ offer ++ line.Over (1 - p) ∷ after) →
     EventIs world (reverse before) p (length (side_of (reverse (before ++ since)) (1 - p)).accepted) →
-    All (LeavesEvent world p) since → All (LeavesEvent world p) offer → All (λ l. GoesOn (1 - p) (telling_of l)) offer → IsRungIn world (1 - p) offer
+    All (LeavesEvent world p) since → All (LeavesEvent world p) offer → All (λ l. GoesOn (1 - p) (line_side_event_of l)) offer → IsRungIn world (1 - p) offer
 
 rung_lem : IsRung
 rung_lem world before since offer after p frame is below honest lawful event spares_since spares_offer goes_on =
-    let goes = recursion_from_All (λ (l : Line). GoesOn (1 - p) (telling_of l)) offer goes_on in
+    let goes = recursion_from_All (λ (l : Line). GoesOn (1 - p) (line_side_event_of l)) offer goes_on in
     elim (rung_or_not world (1 - p) offer (accepted_past (1 - p) frame (before ++ since)) goes (inl (frame, refl))) [
       | inl rung ↦ rung
       | inr unrung ↦ let denied = over_rest unrung in let e : false ≡ true = sym denied ∙ asks goes in absurd (cc)
@@ -155,27 +155,27 @@ rung_lem world before since offer after p frame is below honest lawful event spa
         let all : EachLine (Fine world) (reverse (front ++ over ∷ after)) = all_fine world (front ++ over ∷ after) is lawful in
         subst (λ (ls : List Line). MarkRests world ls (1 - p) Over) (middle (before ++ since) offer (line.Accept (1 - p) frame)) (at_line (Fine world) front after over all).1
 
-    number : AllByRecursion (λ l. GoesOn (1 - p) (telling_of l)) offer → length (side_of (reverse offer ++ accepted_past (1 - p) frame (before ++ since)) (1 - p)).accepted - 1 ≡ length (side_of (reverse (before ++ since)) (1 - p)).accepted
+    number : AllByRecursion (λ l. GoesOn (1 - p) (line_side_event_of l)) offer → length (side_of (reverse offer ++ accepted_past (1 - p) frame (before ++ since)) (1 - p)).accepted - 1 ≡ length (side_of (reverse (before ++ since)) (1 - p)).accepted
     number goes =
         let side = side_of (reverse (before ++ since)) (1 - p) in
         let kept = ap length (accepted_kept (1 - p) offer (line.Accept (1 - p) frame ∷ reverse (before ++ since)) (goes_accepts (1 - p) offer goes)) in
         let here = ap (λ (x : Side). length x.accepted) (here_is (1 - p) (side_after (Marked (Accept frame)) side) side) in
         omega (arith, kept, here, length-append side.accepted (frame ∷ []))
 
-    stands : last_write (reverse offer ++ accepted_past (1 - p) frame (before ++ since)) (event_word world p) ≡ last_write (reverse before) (event_word world p)
-    stands =
-        word_kept (event_word world p) offer (line.Accept (1 - p) frame ∷ reverse (before ++ since)) (recursion_from_All (Spares (event_word world p)) offer spares_offer) ∙
+    refines : last_write (reverse offer ++ accepted_past (1 - p) frame (before ++ since)) (event_word world p) ≡ last_write (reverse before) (event_word world p)
+    refines =
+        word_kept (event_word world p) offer (line.Accept (1 - p) frame ∷ reverse (before ++ since)) (recursion_from_All (DoesNotWrite (event_word world p)) offer spares_offer) ∙
         (ap (λ (ls : List Line). last_write ls (event_word world p)) (reverse-append before since) ∙
-        word_kept (event_word world p) since (reverse before) (recursion_from_All (Spares (event_word world p)) since spares_since))
+        word_kept (event_word world p) since (reverse before) (recursion_from_All (DoesNotWrite (event_word world p)) since spares_since))
 
-    asks : AllByRecursion (λ l. GoesOn (1 - p) (telling_of l)) offer →
-        asks_for (low_half (last_write (reverse offer ++ accepted_past (1 - p) frame (before ++ since)) (event_word world (1 - (1 - p))))) (length (side_of (reverse offer ++ accepted_past (1 - p) frame (before ++ since)) (1 - p)).accepted - 1) ≡ true
+    asks : AllByRecursion (λ l. GoesOn (1 - p) (line_side_event_of l)) offer →
+        wants_doorbell (low_half (last_write (reverse offer ++ accepted_past (1 - p) frame (before ++ since)) (event_word world (1 - (1 - p))))) (length (side_of (reverse offer ++ accepted_past (1 - p) frame (before ++ since)) (1 - p)).accepted - 1) ≡ true
     asks goes =
         let back : 1 - (1 - p) ≡ p = omega arith in
         let count = length (side_of (reverse (before ++ since)) (1 - p)).accepted in
-        ap (λ (k : ℕ). asks_for (low_half (last_write (reverse offer ++ accepted_past (1 - p) frame (before ++ since)) (event_word world k))) (length (side_of (reverse offer ++ accepted_past (1 - p) frame (before ++ since)) (1 - p)).accepted - 1)) back ∙
-        (ap (λ (k : ℕ). asks_for (low_half (last_write (reverse offer ++ accepted_past (1 - p) frame (before ++ since)) (event_word world p))) k) (number goes) ∙
-        (ap (λ (v : ℕ). asks_for (low_half v) count) stands ∙ (ap (λ (v : ℕ). asks_for v count) event ∙ asks_there count)))
+        ap (λ (k : ℕ). wants_doorbell (low_half (last_write (reverse offer ++ accepted_past (1 - p) frame (before ++ since)) (event_word world k))) (length (side_of (reverse offer ++ accepted_past (1 - p) frame (before ++ since)) (1 - p)).accepted - 1)) back ∙
+        (ap (λ (k : ℕ). wants_doorbell (low_half (last_write (reverse offer ++ accepted_past (1 - p) frame (before ++ since)) (event_word world p))) k) (number goes) ∙
+        (ap (λ (v : ℕ). wants_doorbell (low_half v) count) refines ∙ (ap (λ (v : ℕ). wants_doorbell v count) event ∙ asks_there count)))
 
 abbrev IsNext : Type 0
 IsNext = (world : World) (before after : List Line) (p : ℕ) → IsWorld world → is_link world (1 - p) ≡ true → IsLawful world (before ++ line.Look p 0 ∷ after) →
@@ -207,8 +207,8 @@ armed_lem world before after p is has lawful =
 abbrev Wakes : Type 0
 Wakes = (world : World) (before since offer after : List Line) (p : ℕ) (frame : List ℕ) → IsWorld world → has_events world.queue ≡ true → p < 2 → is_link world (1 - p) ≡ true →
     IsLawful world (before ++ line.Look p 0 ∷ line.Done p ∷ [] ++ since ++ line.Accept (1 - p) frame ∷ offer ++ line.Over (1 - p) ∷ after) →
-    All (LeavesEvent world p) since → All (λ l. AcceptsNothing (1 - p) (telling_of l)) since →
-    All (LeavesEvent world p) offer → All (λ l. GoesOn (1 - p) (telling_of l)) offer → IsRungIn world (1 - p) offer
+    All (LeavesEvent world p) since → All (λ l. AcceptsNothing (1 - p) (line_side_event_of l)) since →
+    All (LeavesEvent world p) offer → All (λ l. GoesOn (1 - p) (line_side_event_of l)) offer → IsRungIn world (1 - p) offer
 
 wakes_lem : Wakes
 wakes_lem world before since offer after p frame is has below honest lawful spares_since idle spares_offer goes =
@@ -245,7 +245,7 @@ wakes_lem world before since offer after p frame is has below honest lawful spar
     number : length (side_of (reverse before) p).delivered ≡ length (side_of (reverse (before ++ line.Look p 0 ∷ line.Done p ∷ [] ++ since)) (1 - p)).accepted
     number =
         let start = before ++ line.Look p 0 ∷ line.Done p ∷ [] in
-        let kept = accepted_kept (1 - p) since (reverse start) (recursion_from_All (λ (l : Line). AcceptsNothing (1 - p) (telling_of l)) since idle) in
+        let kept = accepted_kept (1 - p) since (reverse start) (recursion_from_All (λ (l : Line). AcceptsNothing (1 - p) (line_side_event_of l)) since idle) in
         let found = next_lem world before (line.Done p ∷ (since ++ (line.Accept (1 - p) frame ∷ (offer ++ line.Over (1 - p) ∷ after)))) p is honest whole in
         sym found ∙ (ap (λ (x : Side). length x.accepted) (sym beside) ∙ (ap (λ (ls : List Line). length (side_of ls (1 - p)).accepted) (sym front_is) ∙
         (ap length (sym kept) ∙ ap (λ (ls : List Line). length (side_of ls (1 - p)).accepted) (sym (reverse-append start since)))))

@@ -5,23 +5,23 @@ use Rattle.scenario_text.specs.Scenario.{World, IsWorld, is_link}
 use Rattle.call_grammar.specs.Steps.{Step}
 use Rattle.call_grammar.specs.Trees.{CallTree, Ended, GoesAlong}
 use Rattle.call_grammar.specs.Words.{words_for}
-use Rattle.call_grammar.specs.Calls.{Who, Call, Tick, Offer, Poll, tree_of, IsCall}
+use Rattle.call_grammar.specs.Calls.{EndConfig, Call, Tick, Offer, Poll, tree_of, IsCall}
 use Rattle.call_grammar.specs.StepBounds.{bound_of}
 use Rattle.call_grammar.specs.Automatic.{Choice, ChoosesTick, ChoosesOffer, ChoosesPoll, IsFinished, choice_by_rule}
 use Rattle.lawful_history.specs.declared.line.Line.{Line}
-use Rattle.lawful_history.specs.Schedule.{Event, Turned, WasReset}
-use Rattle.lawful_history.specs.Sides.{who_of}
-use Rattle.lawful_history.specs.Entries.{Entry, own}
-use Rattle.lawful_history.specs.Order.{Chooser, Nobody, TheRule, TheStorm, chooser, asked_since, frames_left, delivered_in, Progress, outset, Serves}
+use Rattle.lawful_history.specs.Schedule.{Event, TurnTaken, DeviceReset}
+use Rattle.lawful_history.specs.Sides.{config_of}
+use Rattle.lawful_history.specs.EventRecords.{EventRecord, own}
+use Rattle.lawful_history.specs.Order.{Chooser, Nobody, TheRule, TheStorm, chooser, queued_since_reset, frames_left, delivered_in, Progress, initial_progress, IsCallSequence}
 use Rattle.lawful_history.specs.Lawful.{IsLawfulBy}
 
 -- the steps of a peer's turns since its last reset, the oldest first
 abbrev pub with_step : Event → Option Step → List Step → List Step
-with_step (Turned peer) (Some step) steps = steps ++ step ∷ []
-with_step (WasReset peer) went steps = []
+with_step (TurnTaken peer) (Some step) steps = steps ++ step ∷ []
+with_step (DeviceReset peer) went steps = []
 with_step _ went steps = steps
 
-abbrev pub steps_since : List Entry → List Step
+abbrev pub steps_since : List EventRecord → List Step
 steps_since [] = []
 steps_since (entry ∷ older) = with_step entry.event entry.went (steps_since older)
 
@@ -46,7 +46,7 @@ asked_or_chosen_call peer None = chosen_call peer (chooser peer.past)
 -- of the calls that were asked for since the last reset the first that wasn't begun yet; where there is none, the one that the rule of an automatic
 -- peer chooses
 abbrev pub next_call : Progress → Option Call
-next_call peer = asked_or_chosen_call peer (slice_get (asked_since peer.past) peer.begun)
+next_call peer = asked_or_chosen_call peer (slice_get (queued_since_reset peer.past) peer.begun)
 
 -- A call that was begun
 
@@ -63,58 +63,58 @@ all_steps (begun ∷ earlier) = all_steps earlier ++ begun.steps
 
 -- It was begun in its turn. Entries of the peer led there, and their turn steps since the last reset are those of the earlier calls; no call was open, and
 -- this one came next; then a turn took a step, and no reset came since
-pub record InTurn (world : World) (p : ℕ) (past : List Entry) (begun : Begun) (earlier : List Begun) : Type 0 where
-  pub led : Serves world p outset (reverse begun.at.past) begun.at
+pub record InTurn (world : World) (p : ℕ) (past : List EventRecord) (begun : Begun) (earlier : List Begun) : Type 0 where
+  pub led : IsCallSequence world p initial_progress (reverse begun.at.past) begun.at
   pub made : steps_since begun.at.past ≡ all_steps earlier
   pub closed : begun.at.left ≡ Ended
   pub next : next_call begun.at ≡ Some begun.call
-  pub newer : List Entry
+  pub newer : List EventRecord
   pub first : Step
   pub device : List Line
-  pub turn : past ≡ newer ++ record { event = Turned p; went = Some first; device = device } ∷ begun.at.past
-  pub kept : All (λ entry. entry.event ≢ WasReset p) newer
+  pub turn : past ≡ newer ++ record { event = TurnTaken p; went = Some first; device = device } ∷ begun.at.past
+  pub kept : All (λ entry. entry.event ≢ DeviceReset p) newer
 
-abbrev pub InTurns : World → ℕ → List Entry → List Begun → Type 0
+abbrev pub InTurns : World → ℕ → List EventRecord → List Begun → Type 0
 InTurns world p past [] = Unit {0}
 InTurns world p past (begun ∷ earlier) = InTurn world p past begun earlier × InTurns world p past earlier
 
 -- it is finished, within its bound
-pub record IsFinishedCall (who : Who) (begun : Begun) : Type 0 where
-  pub whole : IsCall who begun.at.end begun.call begun.steps
-  pub bound : length begun.steps ≤ bound_of who begun.call begun.steps
+pub record IsFinishedCall (config : EndConfig) (begun : Begun) : Type 0 where
+  pub whole : IsCall config begun.at.end begun.call begun.steps
+  pub bound : length begun.steps ≤ bound_of config begun.call begun.steps
 
-abbrev pub AreFinished : Who → List Begun → Type 0
-AreFinished who [] = Unit {0}
-AreFinished who (begun ∷ earlier) = IsFinishedCall who begun × AreFinished who earlier
+abbrev pub AreFinished : EndConfig → List Begun → Type 0
+AreFinished config [] = Unit {0}
+AreFinished config (begun ∷ earlier) = IsFinishedCall config begun × AreFinished config earlier
 
 -- as many steps as a call can take, whatever it reads: a Poll finds as many items as the queue has at most, each of them with a frame of 65,553 bytes at most
-abbrev pub most_of : Who → Call → ℕ
-most_of who Poll = (if has_events who.sizes then 4 else 2) + size_of who.sizes * (8 + words_for 65553)
-most_of who call = bound_of who call []
+abbrev pub most_of : EndConfig → Call → ℕ
+most_of config Poll = (if has_events config.sizes then 4 else 2) + size_of config.sizes * (8 + words_for 65553)
+most_of config call = bound_of config call []
 
 -- it is open: these are its first steps, and there are more. They are fewer than the bound of each finished call that begins so, and fewer than the call can
 -- take at most: where it is given its steps, it ends
-pub record IsOpenCall (who : Who) (begun : Begun) : Type 0 where
+pub record IsOpenCall (config : EndConfig) (begun : Begun) : Type 0 where
   pub left : CallTree
-  pub begins : GoesAlong (tree_of who begun.at.end begun.call) begun.steps left
+  pub begins : GoesAlong (tree_of config begun.at.end begun.call) begun.steps left
   pub unfinished : left ≢ Ended
-  pub within : (more : List Step) → IsCall who begun.at.end begun.call (begun.steps ++ more) →
-      length begun.steps < bound_of who begun.call (begun.steps ++ more)
-  pub few : length begun.steps < most_of who begun.call
+  pub within : (more : List Step) → IsCall config begun.at.end begun.call (begun.steps ++ more) →
+      length begun.steps < bound_of config begun.call (begun.steps ++ more)
+  pub few : length begun.steps < most_of config begun.call
 
 -- all are finished but the newest, which is finished or open
-abbrev pub AreCalls : Who → List Begun → Type 0
-AreCalls who [] = Unit {0}
-AreCalls who (begun ∷ earlier) = (IsFinishedCall who begun ⊎ IsOpenCall who begun) × AreFinished who earlier
+abbrev pub AreCalls : EndConfig → List Begun → Type 0
+AreCalls config [] = Unit {0}
+AreCalls config (begun ∷ earlier) = (IsFinishedCall config begun ⊎ IsOpenCall config begun) × AreFinished config earlier
 
 -- after these entries of peer p the steps of its turns since its last reset are those of such calls
-pub record MakesCalls (world : World) (p : ℕ) (past : List Entry) : Type 0 where
+pub record MakesCalls (world : World) (p : ℕ) (past : List EventRecord) : Type 0 where
   pub calls : List Begun
   pub steps : steps_since past ≡ all_steps calls
   pub turns : InTurns world p past calls
-  pub ends : AreCalls (who_of world p) calls
+  pub ends : AreCalls (config_of world p) calls
 
 -- so it is of each honest link peer at each moment of a lawful history, whatever the other peers write and whatever is reset when
 abbrev pub CallsEndWithinBounds : Type 0
-CallsEndWithinBounds = (world : World) (lines : List Line) (entries before after : List Entry) (p : ℕ) → IsWorld world →
+CallsEndWithinBounds = (world : World) (lines : List Line) (entries before after : List EventRecord) (p : ℕ) → IsWorld world →
     IsLawfulBy world lines entries → is_link world p ≡ true → own p entries ≡ before ++ after → MakesCalls world p (reverse before)

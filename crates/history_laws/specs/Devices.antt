@@ -5,14 +5,14 @@ use Rattle.scenario_text.specs.declared.acts.Act.{Act}
 use Rattle.scenario_text.specs.Scenario.{World, IsWorld}
 use Rattle.lawful_history.specs.declared.line.Line.{Line}
 use Rattle.lawful_history.specs.declared.line.Line.TheVariants as line
-use Rattle.lawful_history.specs.Schedule.{Event, Reached, Loses, Repeated, schedule}
+use Rattle.lawful_history.specs.Schedule.{Event, DeviceAccessed, InterruptDropped, InterruptRepeated, schedule}
 use Rattle.lawful_history.specs.Lawful.{IsLawful}
 
 -- the event is of a device alone: a peer reaches a part of it, or an interrupt is to be lost or is repeated
 abbrev pub is_of_device_event : Event → Bool
-is_of_device_event (Reached peer a) = true
-is_of_device_event (Loses peer) = true
-is_of_device_event (Repeated peer vector) = true
+is_of_device_event (DeviceAccessed peer a) = true
+is_of_device_event (InterruptDropped peer) = true
+is_of_device_event (InterruptRepeated peer vector) = true
 is_of_device_event _ = false
 
 abbrev pub without_device_events : List Event → List Event

@@ -1,4 +1,4 @@
-pub mod Told
+pub mod SideEvents
 pub mod Rows
 pub mod Refusals
 pub mod Polls

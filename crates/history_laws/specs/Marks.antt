@@ -4,7 +4,7 @@ use Rattle.scenario_text.specs.Scenario.{World, IsWorld, is_link}
 use Rattle.lawful_history.specs.declared.line.Line.{Line}
 use Rattle.lawful_history.specs.declared.line.Line.TheVariants.{Session}
 use Rattle.lawful_history.specs.Lawful.{IsLawfulIn}
-use Rattle.history_laws.specs.Told.{side_of}
+use Rattle.history_laws.specs.SideEvents.{side_of}
 use Rattle.history_laws.specs.Sessions.{log_of}
 
 -- a mark stands where an honest link peer has entered RUN: it tells how many sessions that peer opened, and how many the other did, which is 0 beside a

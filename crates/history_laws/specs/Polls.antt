@@ -6,10 +6,10 @@ use Rattle.link_machine.specs.LinkMachine.{Wrote, Marked}
 use Rattle.lawful_history.specs.declared.line.Line.{Line}
 use Rattle.lawful_history.specs.declared.line.Line.TheVariants.{Look, Done}
 use Rattle.lawful_history.specs.Lawful.{IsLawful}
-use Rattle.history_laws.specs.Told.{Telling, Tells, Silent, telling_of}
+use Rattle.history_laws.specs.SideEvents.{LineSideEvent, Tells, Silent, line_side_event_of}
 
 -- whether a line is a delivery of peer p, as a number
-abbrev pub delivers : Telling → ℕ → ℕ
+abbrev pub delivers : LineSideEvent → ℕ → ℕ
 delivers (Tells peer (Marked (mark.Deliver frame))) p = if peer == p then 1 else 0
 delivers (Tells peer _) p = 0
 delivers Silent p = 0
@@ -17,10 +17,10 @@ delivers Silent p = 0
 -- how many frames peer p delivers in these lines
 abbrev pub deliver_count : ℕ → List Line → ℕ
 deliver_count p [] = 0
-deliver_count p (line ∷ lines) = delivers (telling_of line) p + deliver_count p lines
+deliver_count p (line ∷ lines) = delivers (line_side_event_of line) p + deliver_count p lines
 
 -- the line is no other look of peer p, and no write of its state
-abbrev pub IsWithin : ℕ → Telling → Type 0
+abbrev pub IsWithin : ℕ → LineSideEvent → Type 0
 IsWithin p (Tells peer (Wrote state)) = peer ≢ p
 IsWithin p (Tells peer (Marked (mark.Look count))) = peer ≢ p
 IsWithin p (Tells peer _) = Unit {0}
@@ -29,4 +29,4 @@ IsWithin p Silent = Unit {0}
 -- between a look and the end of its poll as many frames are delivered as the look found
 abbrev pub DonePollsDeliverAll : Type 0
 DonePollsDeliverAll = (world : World) (before between after : List Line) (p count : ℕ) → IsWorld world →
-    IsLawful world (before ++ Look p count ∷ between ++ Done p ∷ after) → All (λ line. IsWithin p (telling_of line)) between → deliver_count p between ≡ count
+    IsLawful world (before ++ Look p count ∷ between ++ Done p ∷ after) → All (λ line. IsWithin p (line_side_event_of line)) between → deliver_count p between ≡ count

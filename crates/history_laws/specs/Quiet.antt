@@ -4,7 +4,7 @@ use Rattle.scenario_text.specs.Scenario.{World, IsWorld, is_link}
 use Rattle.lawful_history.specs.declared.line.Line.{Line}
 use Rattle.lawful_history.specs.declared.line.Line.TheVariants.{Write}
 use Rattle.lawful_history.specs.Lawful.{IsLawful}
-use Rattle.history_laws.specs.Told.{side_of}
+use Rattle.history_laws.specs.SideEvents.{side_of}
 
 -- where its state word is 0, after its State line or its reset, no write of it stands
 abbrev pub ResetsAreQuiet : Type 0

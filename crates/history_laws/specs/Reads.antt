@@ -3,20 +3,20 @@ use Rattle.std.specs.Prelude.{ℕ, ◌≡◌, ◌+◌, ◌/◌, ◌==◌, if◌t
 use Rattle.split_ring.specs.declared.ranges.FieldName.{FieldName}
 use Rattle.split_ring.specs.declared.ranges.FieldName.TheVariants as field_name
 use Rattle.split_ring.specs.declared.ranges.Refused.{Refused}
-use Rattle.split_ring.specs.Layout.{limit_of, word_place, Address, Length, Flags, AvailableIndex, Entry, UsedIndex, Id}
+use Rattle.split_ring.specs.Layout.{limit_of, word_offset, DescAddress, DescLength, DescFlags, AvailIndex, AvailEntry, UsedIndex, UsedId}
 use Rattle.split_ring.specs.Spelling.{low_half, high_half}
 use Rattle.split_ring.specs.Ranges.{IsAvailIndex, IsAvailEntry, IsDescAddress, IsDescLength, IsDescFlags, IsUsedIndex, IsUsedId}
 use Rattle.scenario_text.specs.Scenario.{World, IsWorld, is_link}
-use Rattle.call_grammar.specs.Calls.{Who}
+use Rattle.call_grammar.specs.Calls.{EndConfig}
 use Rattle.call_grammar.specs.Words.{frame_in}
-use Rattle.call_grammar.specs.Offers.{entry_of}
-use Rattle.call_grammar.specs.Polls.{Item, item_entry, item_address, IsGood}
+use Rattle.call_grammar.specs.Offers.{avail_entry_of}
+use Rattle.call_grammar.specs.Polls.{Item, item_entry, item_address, IsValidItem}
 use Rattle.link_machine.specs.LinkMachine.{Side}
 use Rattle.lawful_history.specs.declared.line.Line.{Line}
 use Rattle.lawful_history.specs.declared.line.Line.TheVariants as line
-use Rattle.lawful_history.specs.Sides.{who_of}
+use Rattle.lawful_history.specs.Sides.{config_of}
 use Rattle.lawful_history.specs.Lawful.{IsLawful}
-use Rattle.history_laws.specs.Told.{side_of}
+use Rattle.history_laws.specs.SideEvents.{side_of}
 
 -- a word, and the value that a read of it gave
 pub record Got : Type 0 where
@@ -60,81 +60,81 @@ reads_of (line ∷ older) p = reads_with (reading_of line) p (reads_of older p)
 
 -- The reads of an item of a poll, in the order of the call grammar
 
-abbrev pub entry_read : Who → ℕ → Item → Got
-entry_read who number read = got (who.theirs + word_place who.sizes (Entry (entry_of who number))) read.entry_word
+abbrev pub entry_read : EndConfig → ℕ → Item → Got
+entry_read config number read = got (config.theirs + word_offset config.sizes (AvailEntry (avail_entry_of config number))) read.entry_word
 
-abbrev pub low_read : Who → ℕ → Item → Got
-low_read who number read = got (who.theirs + word_place who.sizes (Address (item_entry who number read))) read.low
+abbrev pub low_read : EndConfig → ℕ → Item → Got
+low_read config number read = got (config.theirs + word_offset config.sizes (DescAddress (item_entry config number read))) read.low
 
-abbrev pub high_read : Who → ℕ → Item → Got
-high_read who number read = got (who.theirs + word_place who.sizes (Address (item_entry who number read)) + 1) read.high
+abbrev pub high_read : EndConfig → ℕ → Item → Got
+high_read config number read = got (config.theirs + word_offset config.sizes (DescAddress (item_entry config number read)) + 1) read.high
 
-abbrev pub length_read : Who → ℕ → Item → Got
-length_read who number read = got (who.theirs + word_place who.sizes (Length (item_entry who number read))) read.bytes
+abbrev pub length_read : EndConfig → ℕ → Item → Got
+length_read config number read = got (config.theirs + word_offset config.sizes (DescLength (item_entry config number read))) read.bytes
 
-abbrev pub flags_read : Who → ℕ → Item → Got
-flags_read who number read = got (who.theirs + word_place who.sizes (Flags (item_entry who number read))) read.flags_word
+abbrev pub flags_read : EndConfig → ℕ → Item → Got
+flags_read config number read = got (config.theirs + word_offset config.sizes (DescFlags (item_entry config number read))) read.flags_word
 
 -- the reads of these words of a frame from this place on
-abbrev pub word_reads : Who → (address at : ℕ) → List ℕ → List Got
-word_reads who address at [] = []
-word_reads who address at (word ∷ words) = got (who.theirs + (address / 4 + at)) word ∷ word_reads who address (at + 1) words
+abbrev pub word_reads : EndConfig → (address at : ℕ) → List ℕ → List Got
+word_reads config address at [] = []
+word_reads config address at (word ∷ words) = got (config.theirs + (address / 4 + at)) word ∷ word_reads config address (at + 1) words
 
 -- these are the reads of a good item, each field read once and in range, and the frame is the bytes of the words that were read
-pub record IsReadFrame (who : Who) (number : ℕ) (reads : List Got) (frame : List ℕ) : Type 0 where
+pub record IsReadFrame (config : EndConfig) (number : ℕ) (reads : List Got) (frame : List ℕ) : Type 0 where
   pub read : Item
-  pub reads_are : reads ≡ entry_read who number read ∷ low_read who number read ∷ high_read who number read ∷ length_read who number read
-      ∷ flags_read who number read ∷ word_reads who (item_address read) 0 read.words
-  pub good : IsGood who number read
+  pub reads_are : reads ≡ entry_read config number read ∷ low_read config number read ∷ high_read config number read ∷ length_read config number read
+      ∷ flags_read config number read ∷ word_reads config (item_address read) 0 read.words
+  pub good : IsValidItem config number read
   pub frame_is : frame ≡ frame_in read.bytes read.words
 
 -- the last of these reads is of this field of the other's section, and the value that stands in it is outside the field's range, counted from the side's own
 -- counts. Of an item the reads before passed their tests, and an id is that of a frame that the side counts as freed
-abbrev pub IsReadBeyond : Who → Side → List Got → FieldName → ℕ → Type 0
-IsReadBeyond who side reads field_name.AvailIndex value =
-    (earlier : List Got) × (word : ℕ) × (reads ≡ earlier ++ got (who.theirs + word_place who.sizes AvailableIndex) word ∷ []) × (value ≡ high_half word) ×
-    (¬ IsAvailIndex who.sizes (length side.delivered % 65536) value)
-IsReadBeyond who side reads field_name.AvailEntry value =
-    (read : Item) × (reads ≡ entry_read who (length side.delivered) read ∷ []) × (value ≡ item_entry who (length side.delivered) read) ×
-    (¬ IsAvailEntry who.sizes value)
-IsReadBeyond who side reads field_name.DescAddress value =
-    (read : Item) × (reads ≡ entry_read who (length side.delivered) read ∷ low_read who (length side.delivered) read
-    ∷ high_read who (length side.delivered) read ∷ []) ×
-    IsAvailEntry who.sizes (item_entry who (length side.delivered) read) × (value ≡ item_address read) × (¬ IsDescAddress who.sizes value)
-IsReadBeyond who side reads field_name.DescLength value =
-    (read : Item) × (reads ≡ entry_read who (length side.delivered) read ∷ low_read who (length side.delivered) read
-    ∷ high_read who (length side.delivered) read ∷ length_read who (length side.delivered) read ∷ []) ×
-    IsAvailEntry who.sizes (item_entry who (length side.delivered) read) × IsDescAddress who.sizes (item_address read) × (value ≡ read.bytes) ×
-    (¬ IsDescLength who.sizes (item_address read) value)
-IsReadBeyond who side reads field_name.DescFlags value =
-    (read : Item) × (reads ≡ entry_read who (length side.delivered) read ∷ low_read who (length side.delivered) read
-    ∷ high_read who (length side.delivered) read ∷ length_read who (length side.delivered) read ∷ flags_read who (length side.delivered) read
+abbrev pub IsReadBeyond : EndConfig → Side → List Got → FieldName → ℕ → Type 0
+IsReadBeyond config side reads field_name.AvailIndex value =
+    (earlier : List Got) × (word : ℕ) × (reads ≡ earlier ++ got (config.theirs + word_offset config.sizes AvailIndex) word ∷ []) × (value ≡ high_half word) ×
+    (¬ IsAvailIndex config.sizes (length side.delivered % 65536) value)
+IsReadBeyond config side reads field_name.AvailEntry value =
+    (read : Item) × (reads ≡ entry_read config (length side.delivered) read ∷ []) × (value ≡ item_entry config (length side.delivered) read) ×
+    (¬ IsAvailEntry config.sizes value)
+IsReadBeyond config side reads field_name.DescAddress value =
+    (read : Item) × (reads ≡ entry_read config (length side.delivered) read ∷ low_read config (length side.delivered) read
+    ∷ high_read config (length side.delivered) read ∷ []) ×
+    IsAvailEntry config.sizes (item_entry config (length side.delivered) read) × (value ≡ item_address read) × (¬ IsDescAddress config.sizes value)
+IsReadBeyond config side reads field_name.DescLength value =
+    (read : Item) × (reads ≡ entry_read config (length side.delivered) read ∷ low_read config (length side.delivered) read
+    ∷ high_read config (length side.delivered) read ∷ length_read config (length side.delivered) read ∷ []) ×
+    IsAvailEntry config.sizes (item_entry config (length side.delivered) read) × IsDescAddress config.sizes (item_address read) × (value ≡ read.bytes) ×
+    (¬ IsDescLength config.sizes (item_address read) value)
+IsReadBeyond config side reads field_name.DescFlags value =
+    (read : Item) × (reads ≡ entry_read config (length side.delivered) read ∷ low_read config (length side.delivered) read
+    ∷ high_read config (length side.delivered) read ∷ length_read config (length side.delivered) read ∷ flags_read config (length side.delivered) read
     ∷ []) ×
-    IsAvailEntry who.sizes (item_entry who (length side.delivered) read) × IsDescAddress who.sizes (item_address read) ×
-    IsDescLength who.sizes (item_address read) read.bytes × (value ≡ low_half read.flags_word) × (¬ IsDescFlags value)
-IsReadBeyond who side reads field_name.UsedIndex value =
-    (earlier : List Got) × (word : ℕ) × (reads ≡ earlier ++ got (who.theirs + word_place who.sizes UsedIndex) word ∷ []) × (value ≡ high_half word) ×
+    IsAvailEntry config.sizes (item_entry config (length side.delivered) read) × IsDescAddress config.sizes (item_address read) ×
+    IsDescLength config.sizes (item_address read) read.bytes × (value ≡ low_half read.flags_word) × (¬ IsDescFlags value)
+IsReadBeyond config side reads field_name.UsedIndex value =
+    (earlier : List Got) × (word : ℕ) × (reads ≡ earlier ++ got (config.theirs + word_offset config.sizes UsedIndex) word ∷ []) × (value ≡ high_half word) ×
     (¬ IsUsedIndex (side.freed % 65536) value (length side.accepted - side.freed))
-IsReadBeyond who side reads field_name.UsedId value =
-    (earlier : List Got) × (number : ℕ) × (number < side.freed) × (side.freed ≤ number + limit_of who.sizes) ×
-    (reads ≡ earlier ++ got (who.theirs + word_place who.sizes (Id (entry_of who number))) value ∷ []) ×
-    (¬ IsUsedId (number % limit_of who.sizes) value)
+IsReadBeyond config side reads field_name.UsedId value =
+    (earlier : List Got) × (number : ℕ) × (number < side.freed) × (side.freed ≤ number + limit_of config.sizes) ×
+    (reads ≡ earlier ++ got (config.theirs + word_offset config.sizes (UsedId (avail_entry_of config number))) value ∷ []) ×
+    (¬ IsUsedId (number % limit_of config.sizes) value)
 
 -- a delivered frame is the one that was read for its item, whatever the other side writes meanwhile
 abbrev pub DeliveredFramesAreRead : Type 0
 DeliveredFramesAreRead = (world : World) (before after : List Line) (p : ℕ) (frame : List ℕ) → IsWorld world →
     IsLawful world (before ++ line.Deliver p frame ∷ after) →
-    IsReadFrame (who_of world p) (length (side_of (reverse before) p).delivered) (reads_of (reverse before) p) frame
+    IsReadFrame (config_of world p) (length (side_of (reverse before) p).delivered) (reads_of (reverse before) p) frame
 
 -- a refused value stands in what the peer read last, in the field by whose name it is refused, and is outside its range
 abbrev pub RefusedValuesAreRead : Type 0
 RefusedValuesAreRead = (world : World) (before after : List Line) (p : ℕ) (refused : Refused) → IsWorld world →
     IsLawful world (before ++ line.Refuse p refused ∷ after) →
-    IsReadBeyond (who_of world p) (side_of (reverse before) p) (reads_of (reverse before) p) refused.field refused.value
+    IsReadBeyond (config_of world p) (side_of (reverse before) p) (reads_of (reverse before) p) refused.field refused.value
 
 -- and each value that an honest link peer reads outside its field's range is refused at once, by the name of its field
 abbrev pub OutOfRangeIsRefused : Type 0
 OutOfRangeIsRefused = (world : World) (before after : List Line) (p word value : ℕ) (refused : Refused) → IsWorld world → is_link world p ≡ true →
     IsLawful world (before ++ line.Read p word value ∷ after) →
-    IsReadBeyond (who_of world p) (side_of (reverse before) p) (reads_of (reverse before) p ++ got word value ∷ []) refused.field refused.value →
+    IsReadBeyond (config_of world p) (side_of (reverse before) p) (reads_of (reverse before) p ++ got word value ∷ []) refused.field refused.value →
     (rest : List Line) × (after ≡ line.Refuse p refused ∷ rest)

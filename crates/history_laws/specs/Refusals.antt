@@ -6,7 +6,7 @@ use Rattle.link_machine.specs.LinkMachine.{IsBeyond}
 use Rattle.lawful_history.specs.declared.line.Line.{Line}
 use Rattle.lawful_history.specs.declared.line.Line.TheVariants.{State, Reset, Refuse}
 use Rattle.lawful_history.specs.Lawful.{IsLawful}
-use Rattle.history_laws.specs.Told.{side_of}
+use Rattle.history_laws.specs.SideEvents.{side_of}
 
 -- where both link peers are honest, nobody refuses
 abbrev pub HonestPeersNeverRefuse : Type 0
@@ -25,6 +25,6 @@ RefusesOutOfRange = (world : World) (before after : List Line) (p : ℕ) (refuse
     IsLawful world (before ++ Refuse p refused ∷ after) → IsRefusal world (reverse before) p refused
 
 -- until its device is reset, a peer that refused sets no state but 0
-abbrev pub RefusedPeersRest : Type 0
-RefusedPeersRest = (world : World) (before between after : List Line) (p value : ℕ) (refused : Refused) → IsWorld world →
+abbrev pub RefusedPeersStayInReset : Type 0
+RefusedPeersStayInReset = (world : World) (before between after : List Line) (p value : ℕ) (refused : Refused) → IsWorld world →
     IsLawful world (before ++ Refuse p refused ∷ between ++ State p value ∷ after) → All (λ line. line ≢ Reset p) between → value ≡ 0

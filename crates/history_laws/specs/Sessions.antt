@@ -4,17 +4,17 @@ use Rattle.scenario_text.specs.Scenario.{World, IsWorld, is_link}
 use Rattle.link_machine.specs.LinkMachine.{Side, Log, no_sessions, log_after, DeliversInOrder}
 use Rattle.lawful_history.specs.declared.line.Line.{Line}
 use Rattle.lawful_history.specs.Lawful.{IsLawful}
-use Rattle.history_laws.specs.Told.{Telling, Tells, Silent, telling_of, side_of}
+use Rattle.history_laws.specs.SideEvents.{LineSideEvent, Tells, Silent, line_side_event_of, side_of}
 
 -- the sessions of peer p after a line that tells this, where they and those of its partner were these, and it was this side
-abbrev pub log_told : Telling → ℕ → Side → Log → Log → Log
-log_told (Tells peer told) p side log others = if peer == p then log_after log others side told else log
-log_told Silent p side log others = log
+abbrev pub log_after_line : LineSideEvent → ℕ → Side → Log → Log → Log
+log_after_line (Tells peer told) p side log others = if peer == p then log_after log others side told else log
+log_after_line Silent p side log others = log
 
 -- the sessions of peer p after these lines, of which the newest is the first
 abbrev pub log_of : List Line → ℕ → Log
 log_of [] p = no_sessions
-log_of (line ∷ older) p = log_told (telling_of line) p (side_of older p) (log_of older p) (log_of older (1 - p))
+log_of (line ∷ older) p = log_after_line (line_side_event_of line) p (side_of older p) (log_of older p) (log_of older (1 - p))
 
 -- so it stands at each moment: after each beginning of a lawful history, through stops and resets
 abbrev pub HistoriesDeliver : Type 0

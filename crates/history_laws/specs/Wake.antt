@@ -2,21 +2,21 @@
 -- Source: VIRTIO 1.1 section 2.6.7, by which an event index asks for a notification; profile for the order of steps.
 use Rattle.std.specs.Prelude.{ℕ, ◌≡◌, ◌≢◌, ◌+◌, ◌-◌, ◌%◌, ◌<◌, true, List, [], ◌∷◌, ◌++◌, length, reverse, All}
 use Rattle.section_map.specs.Geometry.{section_start}
-use Rattle.split_ring.specs.Layout.{has_events, word_place, AvailableEvent}
+use Rattle.split_ring.specs.Layout.{has_events, word_offset, AvailEvent}
 use Rattle.split_ring.specs.Spelling.{low_half}
 use Rattle.scenario_text.specs.Scenario.{World, IsWorld, is_link}
 use Rattle.call_grammar.specs.Steps as mark
 use Rattle.link_machine.specs.LinkMachine.{Gave, Wrote, Marked}
 use Rattle.lawful_history.specs.declared.line.Line.{Line}
 use Rattle.lawful_history.specs.declared.line.Line.TheVariants.{Doorbell, Accept, Look, Done, Over}
-use Rattle.lawful_history.specs.Memory.{last_write, Spares}
+use Rattle.lawful_history.specs.Memory.{last_write, DoesNotWrite}
 use Rattle.lawful_history.specs.Sides.{traffic_vector}
 use Rattle.lawful_history.specs.Lawful.{IsLawful}
-use Rattle.history_laws.specs.Told.{Telling, Tells, Silent, telling_of, side_of}
+use Rattle.history_laws.specs.SideEvents.{LineSideEvent, Tells, Silent, line_side_event_of, side_of}
 
 -- the word in which the event of peer p stands
 abbrev pub event_word : World → ℕ → ℕ
-event_word world p = section_start world.geometry p + word_place world.queue AvailableEvent
+event_word world p = section_start world.geometry p + word_offset world.queue AvailEvent
 
 -- after these lines the event of peer p stands at the frame with this number
 abbrev pub EventIs : World → List Line → (p number : ℕ) → Type 0
@@ -24,14 +24,14 @@ EventIs world past p number = low_half (last_write past (event_word world p)) �
 
 -- the line leaves the event of peer p: it is neither written anew nor cleared
 abbrev pub LeavesEvent : World → ℕ → Line → Type 0
-LeavesEvent world p line = Spares (event_word world p) line
+LeavesEvent world p line = DoesNotWrite (event_word world p) line
 
 -- the doorbell of peer p at its partner
 abbrev pub doorbell_of : World → ℕ → Line
 doorbell_of world p = Doorbell p (1 - p) (traffic_vector world.wiring)
 
 -- an open call of peer p goes on: the line is no mark, no write of the state and no reset of p
-abbrev pub GoesOn : ℕ → Telling → Type 0
+abbrev pub GoesOn : ℕ → LineSideEvent → Type 0
 GoesOn p (Tells peer (Gave value)) = Unit {0}
 GoesOn p (Tells peer _) = peer ≢ p
 GoesOn p Silent = Unit {0}
@@ -41,7 +41,7 @@ abbrev pub IsRungIn : World → ℕ → List Line → Type 0
 IsRungIn world p lines = (earlier later : List Line) × (lines ≡ earlier ++ doorbell_of world p ∷ later)
 
 -- the line is no accept and no write of the state of peer p
-abbrev pub AcceptsNothing : ℕ → Telling → Type 0
+abbrev pub AcceptsNothing : ℕ → LineSideEvent → Type 0
 AcceptsNothing p (Tells peer (Wrote state)) = peer ≢ p
 AcceptsNothing p (Tells peer (Marked (mark.Accept frame))) = peer ≢ p
 AcceptsNothing p (Tells peer _) = Unit {0}
@@ -59,10 +59,10 @@ pub record WakesAreRung : Type 0 where
   pub rung : (world : World) (before since offer after : List Line) (p : ℕ) (frame : List ℕ) → IsWorld world → p < 2 → is_link world (1 - p) ≡ true →
       IsLawful world (before ++ since ++ Accept (1 - p) frame ∷ offer ++ Over (1 - p) ∷ after) →
       EventIs world (reverse before) p (length (side_of (reverse (before ++ since)) (1 - p)).accepted) →
-      All (LeavesEvent world p) since → All (LeavesEvent world p) offer → All (λ line. GoesOn (1 - p) (telling_of line)) offer → IsRungIn world (1 - p) offer
+      All (LeavesEvent world p) since → All (LeavesEvent world p) offer → All (λ line. GoesOn (1 - p) (line_side_event_of line)) offer → IsRungIn world (1 - p) offer
   -- so beside an honest peer one whose poll found nothing, and whose event is left, is rung at the next frame that the other accepts in its session
   pub wakes : (world : World) (before since offer after : List Line) (p : ℕ) (frame : List ℕ) → IsWorld world → has_events world.queue ≡ true →
       p < 2 → is_link world (1 - p) ≡ true →
       IsLawful world (before ++ Look p 0 ∷ Done p ∷ [] ++ since ++ Accept (1 - p) frame ∷ offer ++ Over (1 - p) ∷ after) →
-      All (LeavesEvent world p) since → All (λ line. AcceptsNothing (1 - p) (telling_of line)) since →
-      All (LeavesEvent world p) offer → All (λ line. GoesOn (1 - p) (telling_of line)) offer → IsRungIn world (1 - p) offer
+      All (LeavesEvent world p) since → All (λ line. AcceptsNothing (1 - p) (line_side_event_of line)) since →
+      All (LeavesEvent world p) offer → All (λ line. GoesOn (1 - p) (line_side_event_of line)) offer → IsRungIn world (1 - p) offer

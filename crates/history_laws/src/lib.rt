@@ -1,4 +1,4 @@
-//! What holds of every lawful history of a scenario. It stands on `lawful_history` for the histories and on `ends_pair` for what two ends
+//! What holds of every lawful history of a scenario. It stands on `lawful_history` for the histories and on `link_invariant` for what two ends
 //! keep. It holds no code: each law is the contract of a function that does nothing.
 //!
 //! # Design
@@ -12,7 +12,7 @@
 //! - What a peer has read is what stands since its last mark or reset; a write or a doorbell between two reads breaks nothing. So the
 //!   reads of one item are a list of lines, with no place of a call in it.
 //! - That a refused side writes 0 alone is a row of the link machine, which speaks of one write at a time. `refused_peers_rest` says
-//!   the same of the whole stretch of lines from a refusal to the next reset, with no side in it.
+//!   the same of the whole burst of lines from a refusal to the next reset, with no side in it.
 #![tactic(auto)]
 
 ghost use Rattle.history_laws.specs.Calls.{CallsEndWithinBounds};
@@ -22,7 +22,7 @@ ghost use Rattle.history_laws.specs.Marks.{SessionsAreNumbered};
 ghost use Rattle.history_laws.specs.Polls.{DonePollsDeliverAll};
 ghost use Rattle.history_laws.specs.Quiet.{ResetsAreQuiet};
 ghost use Rattle.history_laws.specs.Reads.{DeliveredFramesAreRead, OutOfRangeIsRefused, RefusedValuesAreRead};
-ghost use Rattle.history_laws.specs.Refusals.{HonestPeersNeverRefuse, RefusedPeersRest, RefusesOutOfRange};
+ghost use Rattle.history_laws.specs.Refusals.{HonestPeersNeverRefuse, RefusedPeersStayInReset, RefusesOutOfRange};
 ghost use Rattle.history_laws.specs.Rows.{HistoriesRunTheMachine};
 ghost use Rattle.history_laws.specs.Sessions.{HistoriesDeliver};
 ghost use Rattle.history_laws.specs.Spelled.{HistoriesSpellAccepted};
@@ -47,7 +47,7 @@ pub fn refused_values_are_out_of_range()
 
 /// A peer that refused sets no state but 0 until its device is reset.
 pub fn refused_peers_rest()
-    ensures { RefusedPeersRest }
+    ensures { RefusedPeersStayInReset }
 {}
 
 /// Between a look and the end of its poll as many frames are delivered as the look found.

@@ -1,3 +1,3 @@
-pub mod Ends
-pub mod MemoryEnds
+pub mod SourceAndSink
+pub mod MemorySourceAndSink
 pub mod Numbers

@@ -1,7 +1,7 @@
 //! Where bytes come from and where they go. A call may give or take less than was asked for, and may
 //! fail, so a whole read and a whole write are loops over calls.
 ghost use Rattle.std.specs.Prelude.{◌≡◌, ◌≢◌, ℕ, ◌+◌, ◌-◌, ◌<◌, ◌≤◌, ◌^◌, [], IfOk, IsOk, IsTrue, OnOk, OnErr, IsErrOf, length, take};
-ghost use Rattle.ivs_base.specs.Ends.{Input, Output, Gave, GaveMany, GaveAtMost, HasEnded, Took, SourceFailed, SinkFailed, LastReadFailed, LastWriteFailed};
+ghost use Rattle.ivs_base.specs.SourceAndSink.{Input, Output, Gave, GaveMany, GaveAtMost, HasEnded, Took, SourceFailed, SinkFailed, LastReadFailed, LastWriteFailed};
 ghost use Rattle.ivs_base.specs.declared.ends.ReadEnd.TheVariants.{ReadFault as SourceFault, NoMemory as OutOfMemory};
 
 use std::alloc::{AllocError, Global};

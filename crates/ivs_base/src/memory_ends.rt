@@ -1,8 +1,8 @@
 //! A source and a sink in memory, which fail at the calls that they were told to fail at. Their calls
 //! are told exactly, so that a test can follow what a fault does to whoever reads or writes.
 ghost use Rattle.std.specs.Prelude.{◌≡◌, ◌<◌, ◌≤◌, ◌+◌, ◌↔◌, ◌⊎◌, [], false, IfOk, IsOk, IsTrue, OnOk, OnErr, IsErr, Contains, length, take};
-ghost use Rattle.ivs_base.specs.Ends.{counted, Gave, HasEnded, Took, SourceFailed, SinkFailed, LastReadFailed, LastWriteFailed};
-ghost use Rattle.ivs_base.specs.MemoryEnds.{input_of, given_count, source_after, source_failed, output_of, taken_count, sink_after, sink_failed};
+ghost use Rattle.ivs_base.specs.SourceAndSink.{counted, Gave, HasEnded, Took, SourceFailed, SinkFailed, LastReadFailed, LastWriteFailed};
+ghost use Rattle.ivs_base.specs.MemorySourceAndSink.{input_of, given_count, source_after, source_failed, output_of, taken_count, sink_after, sink_failed};
 
 use super::ends::{Failed, Sink, Source};
 use super::frames::NoMemory;
@@ -24,7 +24,7 @@ pub struct MemorySource {
 
 impl Model for MemorySource {
     ghost use Rattle.std.specs.Prelude.{◌<◌, ◌≤◌, drop, vec_len};
-    ghost use Rattle.ivs_base.specs.MemoryEnds.{MemoryInput};
+    ghost use Rattle.ivs_base.specs.MemorySourceAndSink.{MemoryInput};
 
     ghost Value = { MemoryInput };
 
@@ -120,7 +120,7 @@ pub struct MemorySink {
 
 impl Model for MemorySink {
     ghost use Rattle.std.specs.Prelude.{◌<◌, ◌≤◌, vec_len, vec_capacity};
-    ghost use Rattle.ivs_base.specs.MemoryEnds.{MemoryOutput};
+    ghost use Rattle.ivs_base.specs.MemorySourceAndSink.{MemoryOutput};
 
     ghost Value = { MemoryOutput };
 

@@ -1,7 +1,7 @@
 //! Standard input and standard output as a source and a sink. Their view passes on what a reader and a
 //! writer tell of their bytes. Standard input and standard output tell nothing: that edge is trusted.
 ghost use Rattle.std.specs.Prelude.{◌≡◌, ◌+◌, ◌<◌, ◌≤◌, ◌↔◌, [], IfOk, IsOk, OnOk, OnErr, IsTrue, false, length, take};
-ghost use Rattle.ivs_base.specs.Ends.{counted, Gave, HasEnded, Took, SourceFailed, SinkFailed, LastReadFailed, LastWriteFailed};
+ghost use Rattle.ivs_base.specs.SourceAndSink.{counted, Gave, HasEnded, Took, SourceFailed, SinkFailed, LastReadFailed, LastWriteFailed};
 
 use super::ends::{Failed, Sink, Source};
 use std::io::{Read, Write};
@@ -18,7 +18,7 @@ pub struct InputSource<R: Read> {
 
 impl<R: Read> Model for InputSource<R> {
     ghost use Rattle.std.specs.Prelude.{false};
-    ghost use Rattle.ivs_base.specs.Ends.{Input};
+    ghost use Rattle.ivs_base.specs.SourceAndSink.{Input};
 
     ghost Value = { Input };
 
@@ -92,7 +92,7 @@ pub struct OutputSink<W: Write> {
 }
 
 impl<W: Write> Model for OutputSink<W> {
-    ghost use Rattle.ivs_base.specs.Ends.{Output};
+    ghost use Rattle.ivs_base.specs.SourceAndSink.{Output};
 
     ghost Value = { Output };
 

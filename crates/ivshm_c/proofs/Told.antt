@@ -12,7 +12,7 @@ use Rattle.link_endpoint.specs.declared.order.Ordering.{Ordering}
 use Rattle.ivshm_c.specs.Sizes.{flag}
 use Rattle.ivshm_c.specs.declared.crossing.Access as crossed_access
 use Rattle.ivshm_c.specs.declared.crossing.Note as crossed_note
-use Rattle.ivshm_c.specs.Crossing.{field_number, order_number, numbered, access_crossed, note_crossed, CrossingsAreTold}
+use Rattle.ivshm_c.specs.Crossing.{field_number, order_number, numbered, access_crossed, note_crossed, CrossingsHaveContracts}
 
 -- an access by its numbers
 abbrev access_back : crossed_access.Access → Access
@@ -109,7 +109,7 @@ note_is_back note.Done = refl
 note_is_back note.Down = refl
 note_is_back (note.Refuse refused) = ap (λ (f : FieldName). note.Refuse (record { field = f; value = refused.value })) (field_is_back refused.field)
 
-pub crossings_told : CrossingsAreTold
+pub crossings_told : CrossingsHaveContracts
 crossings_told = record {
   accesses = λ a b reads writes others more at by e. sym (access_is_back a reads writes at) ∙ ap access_back e ∙ access_is_back b others more by;
   orders = λ a b reads writes others more at by e. sym (ordering_is_back a reads writes at) ∙ ap ordering_back e ∙ ordering_is_back b others more by;

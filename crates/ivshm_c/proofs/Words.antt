@@ -27,10 +27,10 @@ use Rattle.std.specs.contracts.alloc.Global as heap
 use Rattle.std.proofs.alloc.Global.TheLaws as heap_laws
 use Rattle.std.proofs.GlobalToken.{dealloc_token-Testable}
 use Rattle.std.specs.contracts.impls.GlobalAllocator.TheImpl.{ghosts}
-use Rattle.loose_box.proofs.Values.{both}
-use Rattle.ivshm_c.specs.contracts.port.Port as boxed
-use Rattle.ivshm_c.specs.declared.port.Port.{Port}
-use Rattle.ivshm_c.specs.Held.{held}
+use Rattle.raw_box.proofs.Values.{both}
+use Rattle.ivshm_c.specs.contracts.end_state.EndState as boxed
+use Rattle.ivshm_c.specs.declared.end_state.EndState.{EndState}
+use Rattle.ivshm_c.specs.Handle.{held}
 use Rattle.ivshm_c.specs.contracts.held.End as handle
 
 abbrev pub R : RattleType
@@ -60,7 +60,7 @@ tested {𝓤 = 𝓤} 𝓛 alloc p n = let B = sem 𝓛 (box_owns (ghosts.dealloc
 
 module _ {M : Type 1} {𝓤 : Ura M} {𝓛 : Logic 𝓤} {K : Type 0} {Γ : List (Item 𝓤)} {G : Goal 𝓤 𝓛.H} where
   -- a handle holds no end, and is null; or it holds one, whose pointer may be compared with null
-  either_held : K → (at : Ptr) (alloc : Z.Denot) (x : Option Port)
+  either_held : K → (at : Ptr) (alloc : Z.Denot) (x : Option EndState)
       → (x ≡ None → at ≡ null_ptr → Seq K 𝓛 Γ G)
       → ((n : R.Denot) (b o : ℕ) → x ≡ Some n → at ≡ block_ptr b o → Testable (block_ptr b o) → Seq K 𝓛 (‵ (box_owns (ghosts.dealloc_token alloc) R (block_ptr b o) n) ∷ Γ) G)
       → Seq K 𝓛 (‵ (held at alloc x) ∷ Γ) G

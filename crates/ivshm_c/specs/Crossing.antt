@@ -15,17 +15,17 @@ use Rattle.link_endpoint.specs.declared.order.Order.{Order}
 use Rattle.link_endpoint.specs.declared.order.Order.TheVariants.{Relaxed, Acquire, Release}
 use Rattle.link_endpoint.specs.declared.order.Ordering.{Ordering}
 use Rattle.link_endpoint.specs.Engine.{is_busy, delivered}
-use Rattle.tx_engine.specs.declared.ahead.Stretch.{Stretch}
-use Rattle.tx_engine.specs.declared.ahead.Stretches.{Stretches}
+use Rattle.tx_engine.specs.declared.ahead.Burst.{Burst}
+use Rattle.tx_engine.specs.declared.ahead.Bursts.{Bursts}
 use Rattle.ivshm_c.specs.declared.crossing.Access as crossed_access
-use Rattle.ivshm_c.specs.declared.crossing.Stretch as crossed_stretch
-use Rattle.ivshm_c.specs.declared.crossing.Stretches as crossed_stretches
+use Rattle.ivshm_c.specs.declared.crossing.Burst as crossed_burst
+use Rattle.ivshm_c.specs.declared.crossing.Bursts as crossed_bursts
 use Rattle.ivshm_c.specs.declared.crossing.Note as crossed_note
 use Rattle.ivshm_c.specs.declared.crossing.Notes as crossed_notes
 use Rattle.ivshm_c.specs.declared.crossing.View.{View}
-use Rattle.ivshm_c.specs.declared.port.Port.{Port}
-use Rattle.ivshm_c.specs.declared.port.Outcome.{Outcome}
-use Rattle.ivshm_c.specs.declared.port.Outcome.TheVariants as outcome
+use Rattle.ivshm_c.specs.declared.end_state.EndState.{EndState}
+use Rattle.ivshm_c.specs.declared.end_state.Outcome.{Outcome}
+use Rattle.ivshm_c.specs.declared.end_state.Outcome.TheVariants as outcome
 use Rattle.ivshm_c.specs.Sizes.{flag}
 
 -- a call by its number
@@ -74,11 +74,11 @@ access_crossed (access.State value) reads writes ordering = numbered 3 0 value 0
 access_crossed (access.Ring target vector) reads writes ordering = numbered 4 target vector 0 ordering
 
 -- words that come one after the other, and three times such words
-abbrev pub stretch_crossed : Stretch → crossed_stretch.Stretch
-stretch_crossed s = record { word = s.word; count = s.count }
+abbrev pub burst_crossed : Burst → crossed_burst.Burst
+burst_crossed s = record { word = s.word; count = s.count }
 
-abbrev pub stretches_crossed : Stretches → crossed_stretches.Stretches
-stretches_crossed s = record { frame = stretch_crossed s.frame; descriptor = stretch_crossed s.descriptor; entry = stretch_crossed s.entry }
+abbrev pub bursts_crossed : Bursts → crossed_bursts.Bursts
+bursts_crossed s = record { frame = burst_crossed s.frame; descriptor = burst_crossed s.descriptor; entry = burst_crossed s.entry }
 
 -- what was refused
 abbrev pub refusal_crossed : Refused → crossed_note.Note
@@ -125,7 +125,7 @@ value_of None = 0
 value_of (Some refused) = refused.value
 
 -- what an end tells of itself
-abbrev pub view_of : Port → View
+abbrev pub view_of : EndState → View
 view_of port = let end = port.endpoint in record {
   refused_value = value_of end.refused;
   delivered = length (delivered end);
@@ -133,11 +133,11 @@ view_of port = let end = port.endpoint in record {
   state = state_of end.phase;
   busy = flag (is_busy end);
   outcome = outcome_number port.outcome;
-  longest = end.who.sizes.mtu + 18;
+  longest = end.config.sizes.mtu + 18;
 }
 
 -- what crosses is told apart: accesses by their numbers, with their orders, and notes by theirs
-pub record CrossingsAreTold : Type 0 where
+pub record CrossingsHaveContracts : Type 0 where
   pub accesses : (a b : Access) (reads writes others more : ℕ) (at by : Ordering) →
       access_crossed a reads writes at ≡ access_crossed b others more by → a ≡ b
   pub orders : (a b : Access) (reads writes others more : ℕ) (at by : Ordering) →

@@ -1,6 +1,6 @@
-pub mod Held
+pub mod Handle
 pub mod Statuses
 pub mod Crossing
-pub mod Ports
+pub mod EndStates
 pub mod Sizes
 pub mod Answers

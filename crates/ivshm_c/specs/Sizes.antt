@@ -3,7 +3,7 @@ use Rattle.std.specs.Prelude.{ℕ, ◌≡◌, ◌+◌, ◌-◌, ◌%◌, min, Bo
 use Rattle.section_map.specs.Geometry.{Shape, IsShape, section_start}
 use Rattle.section_map.specs.Faults.{shape_of, IsFirstFault}
 use Rattle.section_map.specs.declared.sizes.GeometryFault.{GeometryFault}
-use Rattle.split_ring.specs.Layout.{Sizes, IsQueue, size_of, slot_of, limit_of, payload_of, room_of, word_place, AvailableIndex, Entry, UsedEvent, UsedIndex, Id, AvailableEvent}
+use Rattle.split_ring.specs.Layout.{Sizes, IsQueue, size_of, slot_of, limit_of, data_area_start, data_area_len, word_offset, AvailIndex, AvailEntry, UsedEvent, UsedIndex, UsedId, AvailEvent}
 use Rattle.split_ring.specs.Faults.{IsQueueFault}
 use Rattle.split_ring.specs.declared.faults.QueueFault.{QueueFault}
 use Rattle.pci_space.specs.declared.found.Found as walked
@@ -66,7 +66,7 @@ pub data IsSizeFault (found : Found) (version peers mtu : ℕ) (status : Status)
 
 -- the most bytes that a frame may have which is taken: those of a frame, and of the data area
 abbrev pub longest_delivery : Sizes → ℕ
-longest_delivery q = min 65553 (room_of q)
+longest_delivery q = min 65553 (data_area_len q)
 
 -- the words of a region by name
 abbrev pub layout_of : Shape → Sizes → Layout
@@ -76,13 +76,13 @@ layout_of shape q = record {
   queue_size = size_of q;
   limit = limit_of q;
   slot = slot_of q;
-  data_area = payload_of q;
-  available_index = word_place q AvailableIndex;
-  available_entries = word_place q (Entry 0);
-  used_event = word_place q UsedEvent;
-  used_index = word_place q UsedIndex;
-  used_elements = word_place q (Id 0);
-  available_event = word_place q AvailableEvent;
+  data_area = data_area_start q;
+  available_index = word_offset q AvailIndex;
+  available_entries = word_offset q (AvailEntry 0);
+  used_event = word_offset q UsedEvent;
+  used_index = word_offset q UsedIndex;
+  used_elements = word_offset q (UsedId 0);
+  available_event = word_offset q AvailEvent;
   longest_offer = q.mtu + 18;
   longest_delivery = longest_delivery q;
 }

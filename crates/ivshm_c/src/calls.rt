@@ -3,13 +3,13 @@ ghost use Rattle.std.specs.Prelude.{◌≡◌, ◌*◌, ◌%◌, ◌<◌, ◌≤
 ghost use Rattle.split_ring.specs.Layout.{IsVersion};
 ghost use Rattle.tx_engine.specs.Ahead.{words_of};
 ghost use Rattle.link_endpoint.specs.Engine.{delivered, offered};
-ghost use Rattle.ivshm_c.specs.Answers.{begin_answer, offer_answer, step_answer, count_answer, bytes_answer, reads_answer, words_answer, writes_answer, stretches_answer, tail_answer, stretched_answer, frame_answer, BeginsAnswered, OffersAnswered, TellsNext, TakesAnswered, TakesWords, TellsWords, TakesWritten, TellsStretches, TellsTail, TakesStretches, CopiesFrame, IsNew, RefusesNew};
+ghost use Rattle.ivshm_c.specs.Answers.{begin_answer, offer_answer, step_answer, count_answer, bytes_answer, reads_answer, words_answer, writes_answer, bursts_answer, tail_answer, took_bursts_answer, frame_answer, BeginsAnswered, OffersAnswered, GivesNext, TakesAnswered, TakesWords, GivesWords, TakesWrites, GivesBursts, GivesTail, TakesBursts, CopiesFrame, IsNew, RefusesNew};
 
-use crate::crossing::{access_crossed, call_numbered, notes_crossed, stretches_crossed};
+use crate::crossing::{access_crossed, bursts_crossed, call_numbered, notes_crossed};
 use crate::device::{Found, sized};
-use crate::port::Port;
+use crate::end_state::EndState;
 use crate::status::Status;
-use crate::{Access, Notes, Stretches};
+use crate::{Access, Bursts, Notes};
 use link_endpoint::Endpoint;
 use split_ring::steps;
 use std::alloc::Global;
@@ -23,7 +23,7 @@ pub(crate) fn made(
     me: u32,
     mtu: u32,
     vector: u32,
-) -> Result<Box<Port>, Status>
+) -> Result<Box<EndState>, Status>
     ensures version { IfOk result (λ port. IsVersion version) }
     ensures made { IfOk result (λ port. IsNew found.now version peers me mtu vector port.value) }
     ensures refused { IfErr result (λ status. RefusesNew found.now version peers me mtu status) }
@@ -41,14 +41,14 @@ pub(crate) fn made(
     let Ok(endpoint) = Endpoint::new(alloc, me, &geometry, &queue, vector) else {
         return Err(Status::NoMemory);
     };
-    match Box::new(alloc, Port::of(endpoint)) {
+    match Box::new(alloc, EndState::of(endpoint)) {
         Ok(port) => Ok(port),
         Err(_) => Err(Status::NoMemory),
     }
 }
 
 /// Opens the call of this number.
-pub(crate) fn begun(port: &mut Port, call: u32) -> Status
+pub(crate) fn begun(port: &mut EndState, call: u32) -> Status
     ensures answer { result ≡ begin_answer call port.old }
     ensures step { BeginsAnswered call port.old port.new }
 {
@@ -63,7 +63,7 @@ pub(crate) fn begun(port: &mut Port, call: u32) -> Status
 }
 
 /// Opens an offer of this frame.
-pub(crate) fn offered(port: &mut Port, frame: &[u8]) -> Status
+pub(crate) fn offered(port: &mut EndState, frame: &[u8]) -> Status
     ensures answer { result ≡ offer_answer frame.now port.old }
     ensures step { OffersAnswered frame.now port.old port.new }
 {
@@ -82,7 +82,7 @@ pub(crate) fn offered(port: &mut Port, frame: &[u8]) -> Status
 }
 
 /// Opens an offer of the frame of the last one again.
-pub(crate) fn offered_again(port: &mut Port) -> Status
+pub(crate) fn offered_again(port: &mut EndState) -> Status
     ensures answer { result ≡ offer_answer (offered port.old.endpoint) port.old }
     ensures step { OffersAnswered (offered port.old.endpoint) port.old port.new }
 {
@@ -97,9 +97,9 @@ pub(crate) fn offered_again(port: &mut Port) -> Status
 }
 
 /// Tells the access of the open call.
-pub(crate) fn next(port: &Port, access: &mut Access) -> Status
+pub(crate) fn next(port: &EndState, access: &mut Access) -> Status
     ensures answer { result ≡ step_answer port.now }
-    ensures access { TellsNext port.now access.old access.new }
+    ensures access { GivesNext port.now access.old access.new }
 {
     if !port.endpoint.busy() {
         return Status::NoCall;
@@ -115,7 +115,7 @@ pub(crate) fn next(port: &Port, access: &mut Access) -> Status
 }
 
 /// Takes the step of that access.
-pub(crate) fn took(port: &mut Port, value: u32, notes: &mut Notes) -> Status
+pub(crate) fn took(port: &mut EndState, value: u32, notes: &mut Notes) -> Status
     ensures answer { result ≡ step_answer port.old }
     ensures step { TakesAnswered value notes.old notes.new port.old port.new }
 {
@@ -157,7 +157,7 @@ fn measured(ahead: u32, bytes: usize) -> Status
 }
 
 /// Takes some of the reads that come, whose words are these.
-pub(crate) fn took_words(port: &mut Port, words: &[u8], notes: &mut Notes) -> Status
+pub(crate) fn took_reads(port: &mut EndState, words: &[u8], notes: &mut Notes) -> Status
     ensures answer { result ≡ reads_answer (length words.now) port.old }
     ensures step { TakesWords words.now notes.old notes.new port.old port.new }
 {
@@ -167,16 +167,16 @@ pub(crate) fn took_words(port: &mut Port, words: &[u8], notes: &mut Notes) -> St
     let status = measured(port.endpoint.reads_ahead(), words.len());
     if let Status::Done = status {
         let mut told = steps::Notes::new();
-        port.took_words(words, &mut told);
+        port.took_reads(words, &mut told);
         *notes = notes_crossed(told.as_slice());
     }
     status
 }
 
 /// Tells the words of some of the writes that come.
-pub(crate) fn words(port: &Port, into: &mut [u8]) -> Status
+pub(crate) fn words(port: &EndState, into: &mut [u8]) -> Status
     ensures answer { result ≡ words_answer (length into.old) port.now }
-    ensures words { TellsWords port.now into.old into.new }
+    ensures words { GivesWords port.now into.old into.new }
     ensures sized { length into.new ≡ length into.old }
 {
     if !port.endpoint.busy() {
@@ -190,84 +190,84 @@ pub(crate) fn words(port: &Port, into: &mut [u8]) -> Status
 }
 
 /// Takes so many of the writes that come.
-pub(crate) fn took_written(port: &mut Port, count: u32) -> Status
+pub(crate) fn took_writes(port: &mut EndState, count: u32) -> Status
     ensures answer { result ≡ writes_answer count port.old }
-    ensures step { TakesWritten count port.old port.new }
+    ensures step { TakesWrites count port.old port.new }
 {
     if !port.endpoint.busy() {
         return Status::NoCall;
     }
     let status = counted(port.endpoint.writes_ahead(), count as usize);
     if let Status::Done = status {
-        port.took_written(count);
+        port.took_writes(count);
     }
     status
 }
 
 /// Tells the words that an offer writes before its index, and puts them at the front of the room.
-pub(crate) fn stretches(port: &Port, told: &mut Stretches, room: &mut [u8]) -> Status
-    ensures answer { result ≡ stretches_answer (length room.old) port.now }
-    ensures words { TellsStretches port.now told.old told.new room.old room.new }
+pub(crate) fn bursts(port: &EndState, told: &mut Bursts, room: &mut [u8]) -> Status
+    ensures answer { result ≡ bursts_answer (length room.old) port.now }
+    ensures words { GivesBursts port.now told.old told.new room.old room.new }
 {
     if !port.endpoint.busy() {
         return Status::NoCall;
     }
-    let Some(stretches) = port.endpoint.stretches() else {
+    let Some(bursts) = port.endpoint.bursts() else {
         return Status::OtherAccess;
     };
-    let bytes = bytes_of(&stretches);
+    let bytes = bytes_of(&bursts);
     if room.len() < bytes {
         return Status::ShortRoom;
     }
-    port.endpoint.stretch_words(&mut room[..bytes]);
-    *told = stretches_crossed(stretches);
+    port.endpoint.burst_words(&mut room[..bytes]);
+    *told = bursts_crossed(bursts);
     Status::Done
 }
 
 /// The bytes of these words.
-fn bytes_of(stretches: &link_endpoint::Stretches) -> usize
-    ensures { result ≡ 4 * words_of (Some stretches.now) }
+fn bytes_of(bursts: &link_endpoint::Bursts) -> usize
+    ensures { result ≡ 4 * words_of (Some bursts.now) }
 {
-    let frame = stretches.frame.count as usize;
-    4 * (frame + stretches.descriptor.count as usize + stretches.entry.count as usize)
+    let frame = bursts.frame.count as usize;
+    4 * (frame + bursts.descriptor.count as usize + bursts.entry.count as usize)
 }
 
 /// Tells the same words, and puts those behind the frame alone at the front of the room.
-pub(crate) fn tail(port: &Port, told: &mut Stretches, room: &mut [u8]) -> Status
+pub(crate) fn tail(port: &EndState, told: &mut Bursts, room: &mut [u8]) -> Status
     ensures answer { result ≡ tail_answer (length room.old) port.now }
-    ensures words { TellsTail port.now told.old told.new room.old room.new }
+    ensures words { GivesTail port.now told.old told.new room.old room.new }
 {
     if !port.endpoint.busy() {
         return Status::NoCall;
     }
-    let Some(stretches) = port.endpoint.stretches() else {
+    let Some(bursts) = port.endpoint.bursts() else {
         return Status::OtherAccess;
     };
     if room.len() < 20 {
         return Status::ShortRoom;
     }
     port.endpoint.tail_words(&mut room[..20]);
-    *told = stretches_crossed(stretches);
+    *told = bursts_crossed(bursts);
     Status::Done
 }
 
 /// Takes the steps of all these writes.
-pub(crate) fn took_stretches(port: &mut Port) -> Status
-    ensures answer { result ≡ stretched_answer port.old }
-    ensures step { TakesStretches port.old port.new }
+pub(crate) fn took_bursts(port: &mut EndState) -> Status
+    ensures answer { result ≡ took_bursts_answer port.old }
+    ensures step { TakesBursts port.old port.new }
 {
     if !port.endpoint.busy() {
         return Status::NoCall;
     }
-    if port.endpoint.stretches().is_none() {
+    if port.endpoint.bursts().is_none() {
         return Status::OtherAccess;
     }
-    port.took_stretches();
+    port.took_bursts();
     Status::Done
 }
 
 /// Copies the frame delivered last, where it fits, and tells its length.
-pub(crate) fn framed(port: &Port, room: &mut [u8], size: &mut usize) -> Status
+pub(crate) fn framed(port: &EndState, room: &mut [u8], size: &mut usize) -> Status
     ensures answer { result ≡ frame_answer (length room.old) port.now }
     ensures length { size.new ≡ length (delivered port.now.endpoint) }
     ensures bytes { CopiesFrame port.now room.old room.new }

@@ -1,8 +1,8 @@
 //! What crosses to C of an end.
 ghost use Rattle.std.specs.Prelude.{◌≡◌, ◌≤◌, length};
-ghost use Rattle.ivshm_c.specs.Crossing.{call_numbered, state_of, field_number, outcome_number, order_number, access_crossed, stretch_crossed, stretches_crossed, refusal_crossed, note_crossed, notes_crossed, field_of, value_of, view_of, CrossingsAreTold};
+ghost use Rattle.ivshm_c.specs.Crossing.{call_numbered, state_of, field_number, outcome_number, order_number, access_crossed, burst_crossed, bursts_crossed, refusal_crossed, note_crossed, notes_crossed, field_of, value_of, view_of, CrossingsHaveContracts};
 
-use crate::port::{Outcome, Port};
+use crate::end_state::{EndState, Outcome};
 use link_endpoint::{Call, Order, Ordering};
 use link_handshake::Phase;
 use split_ring::{FieldName, Refused, steps};
@@ -25,7 +25,7 @@ pub struct Access {
 /// Some words of the region, one after the other: the first, and how many.
 #[repr(C)]
 #[derive(Clone, Copy)]
-pub struct Stretch {
+pub struct Burst {
     pub word: u32,
     pub count: u32,
 }
@@ -33,10 +33,10 @@ pub struct Stretch {
 /// The words that an offer writes before its index: those of its frame, of the descriptor and of the entry.
 #[repr(C)]
 #[derive(Clone, Copy)]
-pub struct Stretches {
-    pub frame: Stretch,
-    pub descriptor: Stretch,
-    pub entry: Stretch,
+pub struct Bursts {
+    pub frame: Burst,
+    pub descriptor: Burst,
+    pub entry: Burst,
 }
 
 /// A note of a step. Kind 0 is Over, 1 Saw, 2 Reclaim, 3 Full, 4 Accept, 5 Look, 6 Deliver, 7 Return, 8 Done, 9 Down and 10 Refuse; `field`
@@ -146,22 +146,22 @@ pub(crate) fn access_crossed(
     }
 }
 
-fn stretch_crossed(stretch: link_endpoint::Stretch) -> Stretch
-    ensures { result ≡ stretch_crossed stretch }
+fn burst_crossed(burst: link_endpoint::Burst) -> Burst
+    ensures { result ≡ burst_crossed burst }
 {
-    Stretch {
-        word: stretch.word,
-        count: stretch.count,
+    Burst {
+        word: burst.word,
+        count: burst.count,
     }
 }
 
-pub(crate) fn stretches_crossed(stretches: link_endpoint::Stretches) -> Stretches
-    ensures { result ≡ stretches_crossed stretches }
+pub(crate) fn bursts_crossed(bursts: link_endpoint::Bursts) -> Bursts
+    ensures { result ≡ bursts_crossed bursts }
 {
-    Stretches {
-        frame: stretch_crossed(stretches.frame),
-        descriptor: stretch_crossed(stretches.descriptor),
-        entry: stretch_crossed(stretches.entry),
+    Bursts {
+        frame: burst_crossed(bursts.frame),
+        descriptor: burst_crossed(bursts.descriptor),
+        entry: burst_crossed(bursts.entry),
     }
 }
 
@@ -258,7 +258,7 @@ fn value_of(refused: Option<Refused>) -> u64
     }
 }
 
-pub(crate) fn view_of(port: &Port) -> View
+pub(crate) fn view_of(port: &EndState) -> View
     ensures { result ≡ view_of port.now }
 {
     let endpoint = &port.endpoint;
@@ -276,6 +276,6 @@ pub(crate) fn view_of(port: &Port) -> View
 
 /// Law: the numbers of an access, and those of a note, tell it apart from every other; those of an access tell its order too.
 #[tactic(auto, using(crate::proofs::Told::crossings_told))]
-pub fn crossings_are_told()
-    ensures { CrossingsAreTold }
+pub fn crossings_have_contracts()
+    ensures { CrossingsHaveContracts }
 {}

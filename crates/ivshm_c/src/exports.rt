@@ -4,16 +4,16 @@ ghost use Rattle.ivshm_c.specs.Statuses.{number_of};
 ghost use Rattle.ivshm_c.specs.declared.status.Status.{Status as Answer};
 ghost use Rattle.link_endpoint.specs.Engine.{delivered};
 ghost use Rattle.ivshm_c.specs.Crossing.{view_of};
-ghost use Rattle.ivshm_c.specs.Answers.{answer_at, Leads, begin_answer, offer_answer, again_answer, step_answer, reads_answer, words_answer, writes_answer, stretches_answer, tail_answer, stretched_answer, frame_answer, done_answer, BeginsAnswered, OffersAnswered, OffersAgain, TellsNext, TakesAnswered, TakesWords, TellsWords, TakesWritten, TellsStretches, TellsTail, TakesStretches, CopiesFrame, Renews, MakesAnswered};
+ghost use Rattle.ivshm_c.specs.Answers.{answer_at, Leads, begin_answer, offer_answer, again_answer, step_answer, reads_answer, words_answer, writes_answer, bursts_answer, tail_answer, took_bursts_answer, frame_answer, done_answer, BeginsAnswered, OffersAnswered, OffersAgain, GivesNext, TakesAnswered, TakesWords, GivesWords, TakesWrites, GivesBursts, GivesTail, TakesBursts, CopiesFrame, Renews, MakesAnswered};
 
 use crate::calls::{
-    begun, framed, made, next, offered, offered_again, stretches, tail, took, took_stretches,
-    took_words, took_written, words,
+    begun, bursts, framed, made, next, offered, offered_again, tail, took, took_bursts, took_reads,
+    took_writes, words,
 };
 use crate::crossing::view_of;
 use crate::device::Found;
 use crate::status::Status;
-use crate::{Access, End, Notes, Stretches, View};
+use crate::{Access, Bursts, End, Notes, View};
 use std::alloc::Global;
 
 /// Makes the end of peer `me` of a region of these sizes, with so many peers, for frames of this MTU; its doorbells have the vector
@@ -122,7 +122,7 @@ pub extern "C" fn ivshm_end_offer_again(alloc: Global, end: &mut End) -> u32
 #[unsafe(no_mangle)]
 pub extern "C" fn ivshm_end_next(alloc: Global, end: &mut End, access: &mut Access) -> u32
     ensures answer { result ≡ number_of (answer_at end.old.port step_answer) }
-    ensures access { IfSome end.old.port (λ port. TellsNext port access.old access.new) }
+    ensures access { IfSome end.old.port (λ port. GivesNext port access.old access.new) }
     ensures untouched { end.old.port ≡ None → access.new ≡ access.old }
     ensures kept { end.new.port ≡ end.old.port }
 {
@@ -152,7 +152,7 @@ pub extern "C" fn ivshm_end_took(alloc: Global, end: &mut End, value: u32, notes
 /// Takes some of the steps of the reads that `ivshm_end_next` told, 1 up to its `count`, at once: `words` has what each read gave as four
 /// bytes, the lowest first. Where these are all the words of a frame, the frame delivered is their first bytes.
 #[unsafe(no_mangle)]
-pub extern "C" fn ivshm_end_took_words(
+pub extern "C" fn ivshm_end_took_reads(
     alloc: Global,
     end: &mut End,
     words: &[u8],
@@ -165,7 +165,7 @@ pub extern "C" fn ivshm_end_took_words(
     let Some(mut port) = end.take(alloc) else {
         return Status::NoEnd.number();
     };
-    let status = took_words(&mut port, words, notes);
+    let status = took_reads(&mut port, words, notes);
     end.put(port);
     status.number()
 }
@@ -174,7 +174,7 @@ pub extern "C" fn ivshm_end_took_words(
 #[unsafe(no_mangle)]
 pub extern "C" fn ivshm_end_words(alloc: Global, end: &mut End, into: &mut [u8]) -> u32
     ensures answer { result ≡ number_of (answer_at end.old.port (words_answer (length into.old))) }
-    ensures words { IfSome end.old.port (λ port. TellsWords port into.old into.new) }
+    ensures words { IfSome end.old.port (λ port. GivesWords port into.old into.new) }
     ensures untouched { end.old.port ≡ None → into.new ≡ into.old }
     ensures kept { end.new.port ≡ end.old.port }
 {
@@ -188,51 +188,51 @@ pub extern "C" fn ivshm_end_words(alloc: Global, end: &mut End, into: &mut [u8])
 
 /// Takes the steps of so many of the writes that `ivshm_end_next` told, 1 up to its `count`, at once. None of them has a note.
 #[unsafe(no_mangle)]
-pub extern "C" fn ivshm_end_took_written(alloc: Global, end: &mut End, count: u32) -> u32
+pub extern "C" fn ivshm_end_took_writes(alloc: Global, end: &mut End, count: u32) -> u32
     ensures answer { result ≡ number_of (answer_at end.old.port (writes_answer count)) }
-    ensures step { Leads end.old.port (TakesWritten count) end.new.port }
+    ensures step { Leads end.old.port (TakesWrites count) end.new.port }
 {
     let Some(mut port) = end.take(alloc) else {
         return Status::NoEnd.number();
     };
-    let status = took_written(&mut port, count);
+    let status = took_writes(&mut port, count);
     end.put(port);
     status.number()
 }
 
-/// Tells the words that an offer writes before its index, from the next one on: three stretches, those of the frame, of the descriptor and of the
-/// entry. The words stand at the front of `room` then, one stretch behind the other, each as four bytes, the lowest first.
+/// Tells the words that an offer writes before its index, from the next one on: three bursts, those of the frame, of the descriptor and of the
+/// entry. The words stand at the front of `room` then, one burst behind the other, each as four bytes, the lowest first.
 #[unsafe(no_mangle)]
-pub extern "C" fn ivshm_end_stretches(
+pub extern "C" fn ivshm_end_bursts(
     alloc: Global,
     end: &mut End,
-    told: &mut Stretches,
+    told: &mut Bursts,
     room: &mut [u8],
 ) -> u32
-    ensures answer { result ≡ number_of (answer_at end.old.port (stretches_answer (length room.old))) }
-    ensures words { IfSome end.old.port (λ port. TellsStretches port told.old told.new room.old room.new) }
+    ensures answer { result ≡ number_of (answer_at end.old.port (bursts_answer (length room.old))) }
+    ensures words { IfSome end.old.port (λ port. GivesBursts port told.old told.new room.old room.new) }
     ensures untouched { end.old.port ≡ None → (told.new ≡ told.old) × (room.new ≡ room.old) }
     ensures kept { end.new.port ≡ end.old.port }
 {
     let Some(port) = end.take(alloc) else {
         return Status::NoEnd.number();
     };
-    let status = stretches(&port, told, room);
+    let status = bursts(&port, told, room);
     end.put(port);
     status.number()
 }
 
-/// Tells the same three stretches. The words of the descriptor and of the entry alone stand at the front of `room` then, in 20 bytes: those of the
+/// Tells the same three bursts. The words of the descriptor and of the entry alone stand at the front of `room` then, in 20 bytes: those of the
 /// frame are the last words of the frame that was offered, with 0 after its last byte.
 #[unsafe(no_mangle)]
 pub extern "C" fn ivshm_end_tail(
     alloc: Global,
     end: &mut End,
-    told: &mut Stretches,
+    told: &mut Bursts,
     room: &mut [u8],
 ) -> u32
     ensures answer { result ≡ number_of (answer_at end.old.port (tail_answer (length room.old))) }
-    ensures words { IfSome end.old.port (λ port. TellsTail port told.old told.new room.old room.new) }
+    ensures words { IfSome end.old.port (λ port. GivesTail port told.old told.new room.old room.new) }
     ensures untouched { end.old.port ≡ None → (told.new ≡ told.old) × (room.new ≡ room.old) }
     ensures kept { end.new.port ≡ end.old.port }
 {
@@ -246,14 +246,14 @@ pub extern "C" fn ivshm_end_tail(
 
 /// Takes the steps of all these writes at once. None of them has a note.
 #[unsafe(no_mangle)]
-pub extern "C" fn ivshm_end_took_stretches(alloc: Global, end: &mut End) -> u32
-    ensures answer { result ≡ number_of (answer_at end.old.port stretched_answer) }
-    ensures step { Leads end.old.port TakesStretches end.new.port }
+pub extern "C" fn ivshm_end_took_bursts(alloc: Global, end: &mut End) -> u32
+    ensures answer { result ≡ number_of (answer_at end.old.port took_bursts_answer) }
+    ensures step { Leads end.old.port TakesBursts end.new.port }
 {
     let Some(mut port) = end.take(alloc) else {
         return Status::NoEnd.number();
     };
-    let status = took_stretches(&mut port);
+    let status = took_bursts(&mut port);
     end.put(port);
     status.number()
 }

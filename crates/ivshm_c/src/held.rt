@@ -1,9 +1,9 @@
 //! The handle by which a program in C holds an end.
 ghost use Rattle.std.specs.Prelude.{◌≡◌, Option, Some, None, MatchOption};
-ghost use Rattle.ivshm_c.specs.declared.port.Port.{Port as Held};
+ghost use Rattle.ivshm_c.specs.declared.end_state.EndState.{EndState as Held};
 
-use crate::port::Port;
-use loose_box::Loose;
+use crate::end_state::EndState;
+use raw_box::Loose;
 use std::alloc::Global;
 use std::marker::Model;
 
@@ -18,7 +18,7 @@ pub struct End {
 }
 
 impl Model for End {
-    ghost use Rattle.ivshm_c.specs.Held.{held};
+    ghost use Rattle.ivshm_c.specs.Handle.{held};
 
     ghost also_owns = { λ h. held h.at h.alloc h.port };
 }
@@ -37,7 +37,7 @@ impl End {
         }
     }
 
-    fn of(loose: Loose<Port, Global>) -> End
+    fn of(loose: Loose<EndState, Global>) -> End
         ensures { result.port ≡ Some loose.value }
     {
         let Loose { at, alloc } = loose;
@@ -47,7 +47,7 @@ impl End {
         }
     }
 
-    fn into_loose(self) -> Option<Loose<Port, Global>>
+    fn into_loose(self) -> Option<Loose<EndState, Global>>
         ensures { MatchOption result (self.port ≡ None) (λ l. self.port ≡ Some l.value) }
     {
         let End { at, alloc } = self;
@@ -55,14 +55,14 @@ impl End {
             None
         } else {
             Some(Loose {
-                at: at as *mut Port,
+                at: at as *mut EndState,
                 alloc,
             })
         }
     }
 
     /// Takes the end out, where there is one.
-    pub(crate) fn take(&mut self, alloc: Global) -> Option<Box<Port>>
+    pub(crate) fn take(&mut self, alloc: Global) -> Option<Box<EndState>>
         ensures port { MatchOption result (self.old.port ≡ None) (λ b. self.old.port ≡ Some b.value) }
         ensures empty { self.new.port ≡ None }
     {
@@ -73,7 +73,7 @@ impl End {
     }
 
     /// Puts an end in, where there is none.
-    pub(crate) fn put(&mut self, port: Box<Port>)
+    pub(crate) fn put(&mut self, port: Box<EndState>)
         requires { self.old.port ≡ None }
         ensures { self.new.port ≡ Some port.value }
     {

@@ -1,5 +1,5 @@
 //! An end of the link for programs in C. It stands on `link_endpoint` for the end, on `pci_space` for the walk over a device's configuration
-//! space, and on `loose_box` for the pointer that a program in C holds. Each export makes one call of an endpoint, and its contract states
+//! space, and on `raw_box` for the pointer that a program in C holds. Each export makes one call of an endpoint, and its contract states
 //! the endpoint's clauses again: the exact answer for each argument, and what the call does. What a program in C might break is tested,
 //! but for the pointers themselves.
 #![tactic(auto)]
@@ -7,13 +7,13 @@
 mod calls;
 mod crossing;
 mod device;
+mod end_state;
 mod exports;
 mod held;
-mod port;
 mod status;
 mod tables;
 
-pub use crossing::{Access, Note, Notes, Stretch, Stretches, View, crossings_are_told};
+pub use crossing::{Access, Burst, Bursts, Note, Notes, View, crossings_have_contracts};
 pub use device::{Found, Layout, Limits};
 pub use held::End;
 

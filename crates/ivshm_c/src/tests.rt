@@ -2,13 +2,13 @@
 ghost use Rattle.std.specs.Prelude.{◌≡◌};
 
 use crate::exports::{
-    ivshm_end_begin, ivshm_end_frame, ivshm_end_free, ivshm_end_new, ivshm_end_new_version,
-    ivshm_end_next, ivshm_end_offer, ivshm_end_offer_again, ivshm_end_reset, ivshm_end_stretches,
-    ivshm_end_tail, ivshm_end_took, ivshm_end_took_stretches, ivshm_end_took_words,
-    ivshm_end_took_written, ivshm_end_view, ivshm_end_words,
+    ivshm_end_begin, ivshm_end_bursts, ivshm_end_frame, ivshm_end_free, ivshm_end_new,
+    ivshm_end_new_version, ivshm_end_next, ivshm_end_offer, ivshm_end_offer_again, ivshm_end_reset,
+    ivshm_end_tail, ivshm_end_took, ivshm_end_took_bursts, ivshm_end_took_reads,
+    ivshm_end_took_writes, ivshm_end_view, ivshm_end_words,
 };
 use crate::tables::{ivshm_layout, ivshm_limits, ivshm_walk};
-use crate::{Access, End, Found, Layout, Limits, Note, Notes, Stretch, Stretches, View};
+use crate::{Access, Burst, Bursts, End, Found, Layout, Limits, Note, Notes, View};
 use std::alloc::Global;
 use std::test::Fail;
 
@@ -112,11 +112,11 @@ fn a_section_cleared_at_once(rt: HostRuntime) -> Result<(), Fail> {
     let mut access = NO_ACCESS;
     let mut notes = NO_NOTES;
     let mut words = [1; 8];
-    assert_eq!(rt; ivshm_end_took_written(alloc, &mut end, 1), 1);
+    assert_eq!(rt; ivshm_end_took_writes(alloc, &mut end, 1), 1);
     assert_eq!(rt; ivshm_end_new(alloc, &mut end, &FOUND, 2, 0, 256, 1), 0);
-    assert_eq!(rt; ivshm_end_took_written(alloc, &mut end, 1), 26);
+    assert_eq!(rt; ivshm_end_took_writes(alloc, &mut end, 1), 26);
     assert_eq!(rt; ivshm_end_took(alloc, &mut end, 0, &mut notes), 0);
-    assert_eq!(rt; ivshm_end_took_written(alloc, &mut end, 1), 4);
+    assert_eq!(rt; ivshm_end_took_writes(alloc, &mut end, 1), 4);
     for _ in 0..2 {
         assert_eq!(rt; ivshm_end_begin(alloc, &mut end, 0), 0);
         assert_eq!(rt; ivshm_end_took(alloc, &mut end, 1, &mut notes), 0);
@@ -129,16 +129,16 @@ fn a_section_cleared_at_once(rt: HostRuntime) -> Result<(), Fail> {
     assert_eq!(rt; access.count, 4_096);
     assert_eq!(rt; access.order, 0);
     assert_eq!(rt;
-        ivshm_end_took_words(alloc, &mut end, &[0; 4], &mut notes),
+        ivshm_end_took_reads(alloc, &mut end, &[0; 4], &mut notes),
         26
     );
     assert_eq!(rt; ivshm_end_words(alloc, &mut end, &mut [1; 6]), 27);
     assert_eq!(rt; ivshm_end_words(alloc, &mut end, &mut words), 0);
     assert!(rt; words == [0; 8]);
-    assert_eq!(rt; ivshm_end_took_written(alloc, &mut end, 2), 0);
-    assert_eq!(rt; ivshm_end_took_written(alloc, &mut end, 0), 27);
-    assert_eq!(rt; ivshm_end_took_written(alloc, &mut end, 4_095), 27);
-    assert_eq!(rt; ivshm_end_took_written(alloc, &mut end, 4_094), 0);
+    assert_eq!(rt; ivshm_end_took_writes(alloc, &mut end, 2), 0);
+    assert_eq!(rt; ivshm_end_took_writes(alloc, &mut end, 0), 27);
+    assert_eq!(rt; ivshm_end_took_writes(alloc, &mut end, 4_095), 27);
+    assert_eq!(rt; ivshm_end_took_writes(alloc, &mut end, 4_094), 0);
     assert_eq!(rt; ivshm_end_next(alloc, &mut end, &mut access), 0);
     assert_eq!(rt; access.kind, 3);
     assert_eq!(rt; access.value, 2);
@@ -155,12 +155,12 @@ fn lead_to_run(alloc: Global, end: &mut End) {
         let _ = ivshm_end_took(alloc, end, 0, &mut notes);
         let _ = ivshm_end_begin(alloc, end, 0);
         let _ = ivshm_end_took(alloc, end, state, &mut notes);
-        let _ = ivshm_end_took_written(alloc, end, 4_096);
+        let _ = ivshm_end_took_writes(alloc, end, 4_096);
     }
     let _ = ivshm_end_took(alloc, end, 0, &mut notes);
 }
 
-const NO_STRETCH: Stretch = Stretch { word: 0, count: 0 };
+const NO_STRETCH: Burst = Burst { word: 0, count: 0 };
 
 /// Of an offer of 14 bytes the four words of the frame, the four of its descriptor and the one of its entry are told and taken at once, and the
 /// index comes after them. No end, no call, another access and a room that is too short are answered so.
@@ -170,27 +170,27 @@ fn an_offer_at_once(rt: HostRuntime) -> Result<(), Fail> {
     let mut end = End::empty(alloc);
     let mut access = NO_ACCESS;
     let mut notes = NO_NOTES;
-    let mut told = Stretches {
+    let mut told = Bursts {
         frame: NO_STRETCH,
         descriptor: NO_STRETCH,
         entry: NO_STRETCH,
     };
     let mut room = [9; 40];
-    let answer = ivshm_end_stretches(alloc, &mut end, &mut told, &mut room);
+    let answer = ivshm_end_bursts(alloc, &mut end, &mut told, &mut room);
     assert_eq!(rt; answer, 1);
-    assert_eq!(rt; ivshm_end_took_stretches(alloc, &mut end), 1);
+    assert_eq!(rt; ivshm_end_took_bursts(alloc, &mut end), 1);
     assert_eq!(rt; ivshm_end_new(alloc, &mut end, &FOUND, 2, 0, 256, 1), 0);
-    assert_eq!(rt; ivshm_end_took_stretches(alloc, &mut end), 26);
+    assert_eq!(rt; ivshm_end_took_bursts(alloc, &mut end), 26);
     lead_to_run(alloc, &mut end);
-    assert_eq!(rt; ivshm_end_took_stretches(alloc, &mut end), 4);
+    assert_eq!(rt; ivshm_end_took_bursts(alloc, &mut end), 4);
     assert_eq!(rt; ivshm_end_offer(alloc, &mut end, &[7; 14]), 0);
-    let answer = ivshm_end_stretches(alloc, &mut end, &mut told, &mut room);
+    let answer = ivshm_end_bursts(alloc, &mut end, &mut told, &mut room);
     assert_eq!(rt; answer, 26);
     assert_eq!(rt; ivshm_end_took(alloc, &mut end, 0, &mut notes), 0);
-    let answer = ivshm_end_stretches(alloc, &mut end, &mut told, &mut room[..35]);
+    let answer = ivshm_end_bursts(alloc, &mut end, &mut told, &mut room[..35]);
     assert_eq!(rt; answer, 9);
     assert!(rt; room == [9; 40]);
-    let answer = ivshm_end_stretches(alloc, &mut end, &mut told, &mut room);
+    let answer = ivshm_end_bursts(alloc, &mut end, &mut told, &mut room);
     assert_eq!(rt; answer, 0);
     assert_eq!(rt; told.frame.word, 1_472);
     assert_eq!(rt; told.frame.count, 4);
@@ -203,12 +203,12 @@ fn an_offer_at_once(rt: HostRuntime) -> Result<(), Fail> {
         0, 0, 0, 0, 0, 0, 9, 9, 9, 9,
     ];
     assert!(rt; room == words);
-    assert_eq!(rt; ivshm_end_took_stretches(alloc, &mut end), 0);
+    assert_eq!(rt; ivshm_end_took_bursts(alloc, &mut end), 0);
     assert_eq!(rt; ivshm_end_next(alloc, &mut end, &mut access), 0);
     assert_eq!(rt; access.word, 1_280);
     assert_eq!(rt; access.value, 65_536);
     assert_eq!(rt; access.order, 2);
-    assert_eq!(rt; ivshm_end_took_stretches(alloc, &mut end), 26);
+    assert_eq!(rt; ivshm_end_took_bursts(alloc, &mut end), 26);
     assert_eq!(rt; ivshm_end_free(alloc, &mut end), 0);
     Ok(())
 }
@@ -220,7 +220,7 @@ fn an_offer_by_its_tail(rt: HostRuntime) -> Result<(), Fail> {
     let alloc = rt.alloc();
     let mut end = End::empty(alloc);
     let mut notes = NO_NOTES;
-    let mut told = Stretches {
+    let mut told = Bursts {
         frame: NO_STRETCH,
         descriptor: NO_STRETCH,
         entry: NO_STRETCH,

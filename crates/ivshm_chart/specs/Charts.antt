@@ -1,6 +1,6 @@
 -- What the top call owes: the cause of each status, and what was written.
 use Rattle.std.specs.Prelude.{ℕ, ◌≡◌, ◌+◌, ◌⊎◌, List, codes, Option, Some, None, Err}
-use Rattle.ivs_base.specs.Ends.{Input, Output, Gave, GaveMany, HasEnded, Took, SourceFailed, SinkFailed}
+use Rattle.ivs_base.specs.SourceAndSink.{Input, Output, Gave, GaveMany, HasEnded, Took, SourceFailed, SinkFailed}
 use Rattle.record_text.specs.declared.faults.RecordFault.{RecordFault}
 use Rattle.record_text.specs.Spelling.{Record, IsSpelling}
 use Rattle.record_text.specs.Judge.{answer}

@@ -1,6 +1,6 @@
 -- The words of the program (profile).
 use Rattle.std.specs.Prelude.{ℕ, ◌^◌, ◌-◌, ◌&&◌, nat_le, if◌then◌else◌, List, [], ◌∷◌, Option, Some, None}
-use Rattle.line_text.specs.Numbers.{number_of}
+use Rattle.line_format.specs.Numbers.{number_of}
 use Rattle.ivshm_chart.specs.declared.words.Span.{Span}
 
 -- from a line to a line of the history, counted from 1

@@ -1,7 +1,7 @@
 //! The top call.
 ghost use Rattle.std.specs.Prelude.{◌≡◌, ◌≢◌, ◌⊎◌, ◌≤◌, ℕ, None, Some, IfOk, IsErrOf, map, take, length};
 ghost use Rattle.std.specs.String.{string_bytes};
-ghost use Rattle.ivs_base.specs.Ends.{Took, SinkFailed};
+ghost use Rattle.ivs_base.specs.SourceAndSink.{Took, SinkFailed};
 ghost use Rattle.ivshm_chart.specs.Forms.{form_of};
 ghost use Rattle.ivshm_chart.specs.Refusals.{line_of};
 ghost use Rattle.ivshm_chart.specs.Charts.{HasCause, IsReply};

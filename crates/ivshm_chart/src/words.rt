@@ -3,7 +3,7 @@ ghost use Rattle.std.specs.Prelude.{◌≡◌, ◌≤◌, map, IfSome};
 ghost use Rattle.std.specs.String.{string_bytes};
 ghost use Rattle.ivshm_chart.specs.Forms.{span_of, form_of};
 
-use line_text::number;
+use line_format::number;
 
 /// Which lines of the history are drawn: from this one to that one, counted from 1.
 #[derive(Clone, Copy, Debug, PartialEq, Eq)]

@@ -3,13 +3,13 @@ use Rattle.std.proofs.Common.{◌≡◌, ℕ, ◌≤◌, ◌+◌, List, [], ◌�
 use Rattle.std.specs.Prelude.{All, map, Bool, true, false, if◌then◌else◌, ◌==◌, ◌&&◌}
 use Rattle.std.proofs.lemmas.List.{length-take, length-map, length_push, append_assoc}
 use Rattle.std.proofs.lemmas.List.Elements.{All-nil, All-cons, All-head, All-tail, All-append}
-use Rattle.line_text.specs.Forms.{Piece, line_of}
-use Rattle.line_text.specs.Rows.{Row, fields_of_row, row, line_of_row, text_of}
+use Rattle.line_format.specs.Forms.{Piece, line_of}
+use Rattle.line_format.specs.Rows.{Row, fields_of_row, row, line_of_row, text_of}
 use Rattle.scenario_text.specs.Scenario.{World, IsWorld, is_link}
 use Rattle.scenario_text.specs.Spelling as scenario
 use Rattle.lawful_history.specs.declared.line.Line.{Line}
 use Rattle.lawful_history.specs.declared.line.Line.TheVariants.{Deliver, Over}
-use Rattle.lawful_history.specs.Sessions.{enters_run, session_mark, marks_before, with_sessions, told_in}
+use Rattle.lawful_history.specs.Sessions.{enters_run, session_mark, marks_before, with_sessions, recorded_in}
 use Rattle.lawful_history.specs.Lawful.{IsLawful, IsLawfulIn}
 use Rattle.history_laws.specs.Reads.{DeliveredFramesAreRead}
 use Rattle.record_text.specs.declared.forms.LineForm.TheVariants.{Count}

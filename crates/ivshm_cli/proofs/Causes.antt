@@ -1,8 +1,8 @@
 -- The cause of each status, from what the work promises.
 use Rattle.std.proofs.Common.{◌≡◌, ◌<◌, ◌⊎◌, ℕ, List, [], length, take, refl, sym, subst, inl, inr}
 use Rattle.std.specs.Prelude.{Option, Some, None, Result, Ok, IfOk, true, IsTrue, IsSome}
-use Rattle.ivs_base.specs.Ends.{Input, Output, Took, SourceFailed, SinkFailed, LastReadFailed, LastWriteFailed}
-use Rattle.ivshm_cli.specs.declared.words.Form.{Form}
+use Rattle.ivs_base.specs.SourceAndSink.{Input, Output, Took, SourceFailed, SinkFailed, LastReadFailed, LastWriteFailed}
+use Rattle.ivshm_cli.specs.declared.words.Command.{Command}
 use Rattle.ivshm_cli.specs.declared.refusals.Fault.{Fault}
 use Rattle.ivshm_cli.specs.declared.exit.Status.{Status}
 use Rattle.ivshm_cli.specs.declared.exit.Status.TheVariants.{Done, Differs, Usage, Refused, ReadFault, WriteFault, NoMemory}
@@ -12,7 +12,7 @@ use Rattle.ivshm_cli.specs.Due.{Follows, IsDue, limit_for, has_reply, writes_not
 use Rattle.ivshm_cli.proofs.Replaying.{answer_of}
 use Rattle.ivshm_cli.proofs.Complete.{not_refused, due_usage}
 
-refusal_of : (form : Form) (before now : Input) (before' now' : Output) (ran : Option Ran) → WritesReply (Some form) before now before' now' ran Refused → WritesRefusal form before now before' now'
+refusal_of : (form : Command) (before now : Input) (before' now' : Output) (ran : Option Ran) → WritesReply (Some form) before now before' now' ran Refused → WritesRefusal form before now before' now'
 refusal_of form before now before' now' ran w = from w.due.0 w.due.1 w.due.2 where
   from : (found : Option Fault) → IsVerdict form w.bytes found → Follows form w.bytes Refused w.text found → WritesRefusal form before now before' now'
   from None verdict follows = absurd (not_refused form w.bytes w.text follows)
@@ -29,7 +29,7 @@ usage_alone : (status : Status) (before now : Input) (before' now' : Output) (ra
 usage_alone status before now before' now' ran w = w.due.0
 
 -- what the work promises of a status
-pub record Work (form : Option Form) (before now : Input) (before' now' : Output) (ran : Option Ran) (result : Status) : Type 0 where
+pub record Work (form : Option Command) (before now : Input) (before' now' : Output) (ran : Option Ran) (result : Status) : Type 0 where
   pub reply : IsTrue (has_reply result) → WritesReply form before now before' now' ran result
   pub write_fault : result ≡ WriteFault → SinkFailed before' now' × WritesFront form before now before' now' ran
   pub last_write : result ≡ WriteFault → LastWriteFailed before' now'
@@ -40,7 +40,7 @@ pub record Work (form : Option Form) (before now : Input) (before' now' : Output
   pub nothing_left : writes_nothing result ≡ true → ran ≡ None
 
 module _ (before now : Input) (before' now' : Output) (ran : Option Ran) where
-  pub caused : (result : Status) (form : Option Form) → Work form before now before' now' ran result → HasCause result form before now before' now' ran
+  pub caused : (result : Status) (form : Option Command) → Work form before now before' now' ran result → HasCause result form before now before' now' ran
   caused Done (Some form) work = answer_of form Done before now before' now' ran (λ e. cc) (work.reply refl)
   caused Done None work = absurd (let e = usage_alone Done before now before' now' ran (work.reply refl) in cc)
   caused Differs (Some form) work = answer_of form Differs before now before' now' ran (λ e. cc) (work.reply refl)

@@ -49,8 +49,8 @@ line_more began now later lines i line inside is so_far next =
 
 -- what was counted of all lines is their summary
 pub counted : (count : ℕ) (world : World) (began counts : Counts) (lines : List Line) → began ≡ none_of world → HasCounted began counts lines → lines_of_counts count counts ≡ summary_of count world lines
-counted count world began counts lines is heard =
-    let from = subst (λ (b : Counts). HasCounted b counts lines) is heard in
+counted count world began counts lines is received =
+    let from = subst (λ (b : Counts). HasCounted b counts lines) is received in
     let accepted : counts.accepted ≡ count_by is_accept lines = from.accepted ∙ zero-add (count_by is_accept lines) in
     let delivered : counts.delivered ≡ count_by is_deliver lines = from.delivered ∙ zero-add (count_by is_deliver lines) in
     let refused : counts.refused ≡ count_by is_refuse lines = from.refused ∙ zero-add (count_by is_refuse lines) in

@@ -10,7 +10,7 @@ use Rattle.history_laws.specs.Polls.{DonePollsDeliverAll}
 use Rattle.history_laws.specs.Quiet.{ResetsAreQuiet}
 use Rattle.history_laws.specs.Rows.{HistoriesRunTheMachine}
 use Rattle.history_laws.specs.Reads.{DeliveredFramesAreRead, OutOfRangeIsRefused, RefusedValuesAreRead}
-use Rattle.history_laws.specs.Refusals.{HonestPeersNeverRefuse, RefusedPeersRest, RefusesOutOfRange}
+use Rattle.history_laws.specs.Refusals.{HonestPeersNeverRefuse, RefusedPeersStayInReset, RefusesOutOfRange}
 use Rattle.history_laws.specs.Sessions.{HistoriesDeliver}
 use Rattle.history_laws.specs.Marks.{SessionsAreNumbered}
 use Rattle.history_laws.specs.Spelled.{HistoriesSpellAccepted}
@@ -33,7 +33,7 @@ pub record Laws : Type 0 where
   pub refuse : OutOfRangeIsRefused
   pub beyond : RefusesOutOfRange
   pub value : RefusedValuesAreRead
-  pub rest : RefusedPeersRest
+  pub rest : RefusedPeersStayInReset
   pub never : HonestPeersNeverRefuse
   pub order : HistoriesDeliver
   pub marked : HasMarksInTwo

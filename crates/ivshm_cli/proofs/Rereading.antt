@@ -3,7 +3,7 @@ use Rattle.std.proofs.Common.{◌≡◌, ◌∙◌, ap, Result, Ok, Err, ℕ, �
 use Rattle.std.proofs.lemmas.Bool.{le-ltb, ltb-false}
 use Rattle.std.specs.Prelude.{Some, MatchBool, false}
 use Rattle.scenario_text.specs.Spelling as scenario
-use Rattle.line_text.specs.Machine.{Wrong}
+use Rattle.line_format.specs.Machine.{Wrong}
 use Rattle.record_text.specs.declared.faults.RecordCause.{RecordCause}
 use Rattle.record_text.specs.declared.faults.RecordFault.{RecordFault}
 use Rattle.record_text.specs.Judge.{Part, reading, faulted, record_in, answer_in}
@@ -11,7 +11,7 @@ use Rattle.record_text.specs.Spelling.{Record, IsSpelling}
 use Rattle.record_text.proofs.BackLaws.{Reads, is_read}
 use Rattle.record_sizes.specs.Sizes.{RecordsAreWithinLimit}
 use Rattle.trace_replay.specs.declared.verdict.Verdict.TheVariants.{Same}
-use Rattle.ivshm_cli.specs.declared.words.Form.TheVariants.{Sim, Replay}
+use Rattle.ivshm_cli.specs.declared.words.Command.TheVariants.{Sim, Replay}
 use Rattle.ivshm_cli.specs.declared.refusals.Fault.TheVariants.{TooLong}
 use Rattle.ivshm_cli.specs.declared.exit.Status.{Status}
 use Rattle.ivshm_cli.specs.declared.exit.Status.TheVariants.{Done, Differs}

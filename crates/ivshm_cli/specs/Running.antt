@@ -1,6 +1,6 @@
 -- What `run` promises: the running record of peers in threads of their own, by the accesses that the pass of their words holds.
 use Rattle.std.specs.Prelude.{ℕ, ◌≡◌, List, Option, Some, None}
-use Rattle.ivs_base.specs.Ends.{Input, Output, Gave, HasEnded, Took}
+use Rattle.ivs_base.specs.SourceAndSink.{Input, Output, Gave, HasEnded, Took}
 use Rattle.scenario_text.specs.Scenario.{World}
 use Rattle.scenario_text.specs.Spelling.{IsSpelling}
 use Rattle.scenario_text.specs.Running.{not_running}

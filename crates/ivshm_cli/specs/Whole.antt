@@ -1,22 +1,22 @@
 -- The headline whole: what holds of every record that `sim` writes, law by law.
 use Rattle.std.specs.Prelude.{ℕ, ◌≡◌, ◌≢◌, ◌-◌, ◌<◌, true, Some, List, [], ◌∷◌, ◌++◌, length, reverse, All}
-use Rattle.split_ring.specs.Layout.{has_events, AvailableIndex, UsedIndex}
+use Rattle.split_ring.specs.Layout.{has_events, AvailIndex, UsedIndex}
 use Rattle.section_map.specs.MayWrite.{MayWrite}
 use Rattle.split_ring.specs.declared.ranges.Refused.{Refused}
-use Rattle.ivs_base.specs.Ends.{Input, Output}
+use Rattle.ivs_base.specs.SourceAndSink.{Input, Output}
 use Rattle.scenario_text.specs.Scenario.{World, is_link}
 use Rattle.lawful_history.specs.declared.line.Line.{Line}
 use Rattle.lawful_history.specs.declared.line.Line.TheVariants as line
 use Rattle.lawful_history.specs.Memory.{WasWrittenLast}
-use Rattle.lawful_history.specs.Sides.{who_of}
-use Rattle.lawful_history.specs.Entries.{Entry, own}
+use Rattle.lawful_history.specs.Sides.{config_of}
+use Rattle.lawful_history.specs.EventRecords.{EventRecord, own}
 use Rattle.lawful_history.specs.Sessions.{without_sessions}
 use Rattle.lawful_history.specs.Lawful.{IsLawfulBy}
 use Rattle.link_machine.specs.LinkMachine.{DeliversInOrder}
 use Rattle.history_laws.specs.Calls.{MakesCalls}
 use Rattle.history_laws.specs.Indexes.{IsIndexRead, IsLoneIndex}
 use Rattle.history_laws.specs.Polls.{deliver_count, IsWithin}
-use Rattle.history_laws.specs.Told.{telling_of, side_of}
+use Rattle.history_laws.specs.SideEvents.{line_side_event_of, side_of}
 use Rattle.history_laws.specs.Wake.{EventIs, LeavesEvent, GoesOn, AcceptsNothing, IsRungIn}
 use Rattle.history_laws.specs.Rows.{KeepsRows}
 use Rattle.history_laws.specs.Reads.{got, reads_of, IsReadFrame, IsReadBeyond}
@@ -25,7 +25,7 @@ use Rattle.history_laws.specs.Sessions.{log_of}
 use Rattle.history_laws.specs.Marks.{IsNumbered}
 use Rattle.history_laws.specs.Spelled.{SpellsNext}
 use Rattle.trace_replay.specs.declared.verdict.Verdict.TheVariants.{Same}
-use Rattle.ivshm_cli.specs.declared.words.Form.TheVariants.{Sim, Replay}
+use Rattle.ivshm_cli.specs.declared.words.Command.TheVariants.{Sim, Replay}
 use Rattle.ivshm_cli.specs.declared.exit.Status.{Status}
 use Rattle.ivshm_cli.specs.declared.exit.Status.TheVariants.{Done}
 use Rattle.ivshm_cli.specs.Due.{IsDue}
@@ -35,15 +35,15 @@ use Rattle.ivshm_cli.specs.Replay.{verdict_line}
 -- each look, each reclaim and each refusal of an index has a read of that index of its own, which is the line right before it
 pub record ReadsIndexesOnce (world : World) (history : List Line) : Type 0 where
   pub looks : (before after : List Line) (p count : ℕ) → history ≡ before ++ line.Look p count ∷ after →
-      IsIndexRead (who_of world p) p (reverse before) AvailableIndex (length (side_of (reverse before) p).delivered) count
+      IsIndexRead (config_of world p) p (reverse before) AvailIndex (length (side_of (reverse before) p).delivered) count
   pub reclaims : (before after : List Line) (p count : ℕ) → history ≡ before ++ line.Reclaim p count ∷ after →
-      IsIndexRead (who_of world p) p (reverse before) UsedIndex (side_of (reverse before) p).freed count
+      IsIndexRead (config_of world p) p (reverse before) UsedIndex (side_of (reverse before) p).freed count
   pub refusals : (before after : List Line) (p : ℕ) (refused : Refused) → history ≡ before ++ line.Refuse p refused ∷ after →
-      IsLoneIndex (who_of world p) p (reverse before) refused.field refused.value
+      IsLoneIndex (config_of world p) p (reverse before) refused.field refused.value
 
 -- in a link with events a poll that is done and found nothing leaves its peer's event at the next frame, which is the next that an honest other accepts; an
 -- honest peer rings where the other's event stands at the frame that it accepts; so a peer whose poll found nothing is rung at the next frame
-pub record RingsWhoWaits (world : World) (history : List Line) : Type 0 where
+pub record WaitingPeersAreRung (world : World) (history : List Line) : Type 0 where
   pub armed : (before after : List Line) (p : ℕ) → has_events world.queue ≡ true → history ≡ before ++ line.Look p 0 ∷ line.Done p ∷ after →
       EventIs world (reverse before) p (length (side_of (reverse before) p).delivered)
   pub next : (before after : List Line) (p : ℕ) → is_link world (1 - p) ≡ true → history ≡ before ++ line.Look p 0 ∷ after →
@@ -51,11 +51,11 @@ pub record RingsWhoWaits (world : World) (history : List Line) : Type 0 where
   pub rung : (before since offer after : List Line) (p : ℕ) (frame : List ℕ) → p < 2 → is_link world (1 - p) ≡ true →
       history ≡ before ++ since ++ line.Accept (1 - p) frame ∷ offer ++ line.Over (1 - p) ∷ after →
       EventIs world (reverse before) p (length (side_of (reverse (before ++ since)) (1 - p)).accepted) →
-      All (LeavesEvent world p) since → All (LeavesEvent world p) offer → All (λ found. GoesOn (1 - p) (telling_of found)) offer → IsRungIn world (1 - p) offer
+      All (LeavesEvent world p) since → All (LeavesEvent world p) offer → All (λ found. GoesOn (1 - p) (line_side_event_of found)) offer → IsRungIn world (1 - p) offer
   pub wakes : (before since offer after : List Line) (p : ℕ) (frame : List ℕ) → has_events world.queue ≡ true → p < 2 → is_link world (1 - p) ≡ true →
       history ≡ before ++ line.Look p 0 ∷ line.Done p ∷ [] ++ since ++ line.Accept (1 - p) frame ∷ offer ++ line.Over (1 - p) ∷ after →
-      All (LeavesEvent world p) since → All (λ found. AcceptsNothing (1 - p) (telling_of found)) since →
-      All (LeavesEvent world p) offer → All (λ found. GoesOn (1 - p) (telling_of found)) offer → IsRungIn world (1 - p) offer
+      All (LeavesEvent world p) since → All (λ found. AcceptsNothing (1 - p) (line_side_event_of found)) since →
+      All (LeavesEvent world p) offer → All (λ found. GoesOn (1 - p) (line_side_event_of found)) offer → IsRungIn world (1 - p) offer
 
 -- A history that keeps the laws
 pub record KeepsTheLaws (world : World) (history : List Line) : Type 0 where
@@ -65,30 +65,30 @@ pub record KeepsTheLaws (world : World) (history : List Line) : Type 0 where
   -- each line of a link peer has its row of the link machine
   pub rows : KeepsRows world (reverse history)
   -- the turn steps of an honest link peer since its last reset are finished calls in their order, each within its bound, and then a beginning of one
-  pub calls : (entries before after : List Entry) (p : ℕ) → IsLawfulBy world history entries → is_link world p ≡ true → own p entries ≡ before ++ after →
+  pub calls : (entries before after : List EventRecord) (p : ℕ) → IsLawfulBy world history entries → is_link world p ≡ true → own p entries ≡ before ++ after →
       MakesCalls world p (reverse before)
   -- a delivered frame is the one that was read for its item, each field once and in range; an accepted one stands in its peer's section
   pub once : (before after : List Line) (p : ℕ) (frame : List ℕ) → history ≡ before ++ line.Deliver p frame ∷ after →
-      IsReadFrame (who_of world p) (length (side_of (reverse before) p).delivered) (reads_of (reverse before) p) frame
+      IsReadFrame (config_of world p) (length (side_of (reverse before) p).delivered) (reads_of (reverse before) p) frame
   pub spelled : (before after : List Line) (p : ℕ) (frame : List ℕ) → history ≡ before ++ line.Accept p frame ∷ after
       → SpellsNext world (reverse before) p frame
   pub indexes : ReadsIndexesOnce world history
   -- between a look and the end of its poll as many frames are delivered as the look found
   pub done : (before between after : List Line) (p count : ℕ) → history ≡ before ++ line.Look p count ∷ between ++ line.Done p ∷ after →
-      All (λ found. IsWithin p (telling_of found)) between → deliver_count p between ≡ count
+      All (λ found. IsWithin p (line_side_event_of found)) between → deliver_count p between ≡ count
   -- an honest link peer in RESET writes nothing to its section
   pub quiet : (before after : List Line) (p word value : ℕ) → is_link world p ≡ true → history ≡ before ++ line.Write p word value ∷ after →
       (side_of (reverse before) p).state ≢ 0
   -- who sleeps after a poll that found nothing is rung at the next frame
-  pub wakes : RingsWhoWaits world history
+  pub wakes : WaitingPeersAreRung world history
   -- a value read out of range refuses the link at once, by its field; nothing else is refused, and the end stays refused until its reset
   pub refused : (before after : List Line) (p word value : ℕ) (refused : Refused) → is_link world p ≡ true
       → history ≡ before ++ line.Read p word value ∷ after →
-      IsReadBeyond (who_of world p) (side_of (reverse before) p) (reads_of (reverse before) p ++ got word value ∷ []) refused.field refused.value →
+      IsReadBeyond (config_of world p) (side_of (reverse before) p) (reads_of (reverse before) p ++ got word value ∷ []) refused.field refused.value →
       (rest : List Line) × (after ≡ line.Refuse p refused ∷ rest)
   pub cause : (before after : List Line) (p : ℕ) (refused : Refused) → history ≡ before ++ line.Refuse p refused ∷ after →
       IsRefusal world (reverse before) p refused
-      × IsReadBeyond (who_of world p) (side_of (reverse before) p) (reads_of (reverse before) p) refused.field refused.value
+      × IsReadBeyond (config_of world p) (side_of (reverse before) p) (reads_of (reverse before) p) refused.field refused.value
   pub stays : (before between after : List Line) (p value : ℕ) (refused : Refused)
       → history ≡ before ++ line.Refuse p refused ∷ between ++ line.State p value ∷ after →
       All (λ found. found ≢ line.Reset p) between → value ≡ 0
@@ -99,14 +99,14 @@ pub record KeepsTheLaws (world : World) (history : List Line) : Type 0 where
       DeliversInOrder (side_of (reverse before) p) (side_of (reverse before) (1 - p)) (log_of (reverse before) p) (log_of (reverse before) (1 - p))
 
 -- The lines of a record of version 2: without the marks of sessions they keep the laws, and each mark numbers the sessions of both link peers
-pub record TellsTheLaws (world : World) (lines : List Line) : Type 0 where
+pub record RecordKeepsLaws (world : World) (lines : List Line) : Type 0 where
   pub laws : KeepsTheLaws world (without_sessions lines)
   pub marks : (before after : List Line) (p opened other : ℕ) → lines ≡ before ++ line.Session p opened other ∷ after →
       IsNumbered world (reverse before) p opened other
 
 -- so it is of whatever record `sim` wrote
 abbrev pub RecordsKeepTheLaws : Type 0
-RecordsKeepTheLaws = (before now : Input) (before' now' : Output) → (s : Simulates before now before' now') → TellsTheLaws s.world s.history
+RecordsKeepTheLaws = (before now : Input) (before' now' : Output) → (s : Simulates before now before' now') → RecordKeepsLaws s.world s.history
 
 -- whatever `sim` wrote, one text alone is due to `replay` for it: the line `same`. So it is never too long for `replay`, nor refused, and never differs
 abbrev pub WrittenRecordsReplayAsSame : Type 0

@@ -8,7 +8,7 @@ ghost use Rattle.frame_capture.specs.CaptureFile.{IsCaptureFile};
 ghost use Rattle.frame_capture.specs.Deliveries.{capture_of};
 ghost use Rattle.ivshm_cli.specs.Forms.{IsTextVerdict};
 ghost use Rattle.ivshm_cli.specs.Capture.{file_of, IsFeedOf};
-ghost use Rattle.ivshm_cli.specs.declared.words.Form.{Form};
+ghost use Rattle.ivshm_cli.specs.declared.words.Command.{Command};
 ghost use Rattle.ivshm_cli.specs.declared.refusals.Fault.{Fault};
 
 use crate::refusals::Fault;
@@ -36,7 +36,7 @@ pub(crate) fn capture_file(alloc: Global, peer: u32, trace: &Trace) -> Result<Ve
 /// The capture that the bytes are a file of.
 fn capture_in(alloc: Global, bytes: &[u8]) -> Result<Capture, NoReply>
     ensures file { IfOk result (λ capture. IsCaptureFile capture bytes.now) }
-    ensures refused { (peer : ℕ) → (fault : Fault) → IsErrOf result (NoReply.Refused fault) → IsTextVerdict (Form.Feed peer) bytes.now (Some fault) }
+    ensures refused { (peer : ℕ) → (fault : Fault) → IsErrOf result (NoReply.Refused fault) → IsTextVerdict (Command.Feed peer) bytes.now (Some fault) }
 {
     match parse(alloc, bytes) {
         Ok(capture) => Ok(capture),
@@ -48,9 +48,9 @@ fn capture_in(alloc: Global, bytes: &[u8]) -> Result<Capture, NoReply>
 /// The text of the scenario in which the peer, 0 or 1, offers the frames of the capture file that the bytes are.
 pub(crate) fn fed(alloc: Global, peer: u32, bytes: &[u8]) -> Result<Vec<u8>, NoReply>
     requires { peer < 2 }
-    ensures accepted { OnOk result (IsTextVerdict (Form.Feed peer) bytes.now None) }
+    ensures accepted { OnOk result (IsTextVerdict (Command.Feed peer) bytes.now None) }
     ensures text { IfOk result (λ text. IsFeedOf peer bytes.now text.items) }
-    ensures refused { (fault : Fault) → IsErrOf result (NoReply.Refused fault) → IsTextVerdict (Form.Feed peer) bytes.now (Some fault) }
+    ensures refused { (fault : Fault) → IsErrOf result (NoReply.Refused fault) → IsTextVerdict (Command.Feed peer) bytes.now (Some fault) }
 {
     let capture = capture_in(alloc, bytes)?;
     match scenario_of(alloc, &capture, peer) {

@@ -1,7 +1,7 @@
 //! What is due to a form and to the bytes that it read.
 
 ghost use Rattle.std.specs.Prelude.{◌≡◌, ◌≢◌, ◌^◌, ◌<◌, ◌≤◌, ℕ, List, true, false, Option, Some, None, Ok, IsSome, IsTrue, IfOk, OnOk, IsErrOf, length};
-ghost use Rattle.ivs_base.specs.Ends.{SourceFailed, LastReadFailed};
+ghost use Rattle.ivs_base.specs.SourceAndSink.{SourceFailed, LastReadFailed};
 ghost use Rattle.ivshm_cli.specs.Forms.{limit_of, passes, scenario_fault, IsInRange, IsTextVerdict, Replies, IsLeft};
 ghost use Rattle.ivshm_cli.specs.Due.{IsDue, HasRead, has_reply};
 ghost use Rattle.scenario_text.specs.Scenario.{World};
@@ -24,7 +24,7 @@ use crate::refusals::{Fault, refusal_line};
 use crate::runs::{Ran, RunReply, run};
 use crate::summary::{Counts, summary};
 use crate::verdicts::{difference_text, verdict_text};
-use crate::words::{Form, limit};
+use crate::words::{Command, limit};
 use bridge_text::{BridgeFault, spelled_is_read};
 use frame_bridge::bridge;
 use ivs_base::{NoMemory, ReadEnd, Source, read_all};
@@ -79,7 +79,7 @@ impl From<AllocError> for NoReply {
 /// What a form reads, to its end.
 pub(crate) fn read_for<S: Source>(
     alloc: Global,
-    form: Form,
+    form: Command,
     source: &mut S,
 ) -> Result<Vec<u8>, ReadEnd>
     ensures read { IfOk result (λ v. HasRead (limit_of form) (S.input source.old) (S.input source.new) v.items) }
@@ -116,9 +116,9 @@ pub(crate) fn scenario_in(alloc: Global, bytes: &[u8]) -> Result<Scenario, NoRep
 
 /// The record of the scenario that the bytes spell and of its lawful history.
 fn simulated(alloc: Global, bytes: &[u8]) -> Result<Vec<u8>, NoReply>
-    ensures accepted { OnOk result (IsTextVerdict Form.Sim bytes.now None) }
+    ensures accepted { OnOk result (IsTextVerdict Command.Sim bytes.now None) }
     ensures record { IfOk result (λ text. IsRecordOf bytes.now text.items) }
-    ensures refused { (fault : Fault) → IsErrOf result (NoReply.Refused fault) → IsTextVerdict Form.Sim bytes.now (Some fault) }
+    ensures refused { (fault : Fault) → IsErrOf result (NoReply.Refused fault) → IsTextVerdict Command.Sim bytes.now (Some fault) }
 {
     let scenario = scenario_in(alloc, bytes)?;
     Ok(simulate_text(alloc, &scenario)?)
@@ -126,10 +126,10 @@ fn simulated(alloc: Global, bytes: &[u8]) -> Result<Vec<u8>, NoReply>
 
 /// The record that the bytes spell.
 fn record_in(alloc: Global, bytes: &[u8]) -> Result<Trace, NoReply>
-    ensures accepted { OnOk result (IsTextVerdict Form.Replay bytes.now None) }
+    ensures accepted { OnOk result (IsTextVerdict Command.Replay bytes.now None) }
     ensures spelled { IfOk result (λ trace. Spells bytes.now (world_of trace.scenario) trace.version trace.lines) }
     ensures few { IfOk result (λ trace. length trace.lines ≤ length bytes.now) }
-    ensures refused { (fault : Fault) → IsErrOf result (NoReply.Refused fault) → IsTextVerdict Form.Replay bytes.now (Some fault) }
+    ensures refused { (fault : Fault) → IsErrOf result (NoReply.Refused fault) → IsTextVerdict Command.Replay bytes.now (Some fault) }
 {
     match parse_record(alloc, bytes) {
         Ok(trace) => Ok(trace),
@@ -150,10 +150,10 @@ fn verdict_status(verdict: Verdict) -> Status
 
 /// Whether the history of the record that the bytes spell is the lawful one, or where it differs.
 fn replayed(alloc: Global, bytes: &[u8]) -> Result<Reply, NoReply>
-    ensures accepted { OnOk result (IsTextVerdict Form.Replay bytes.now None) }
-    ensures verdict { IfOk result (λ r. Replies Form.Replay bytes.now r.status r.text.items) }
+    ensures accepted { OnOk result (IsTextVerdict Command.Replay bytes.now None) }
+    ensures verdict { IfOk result (λ r. Replies Command.Replay bytes.now r.status r.text.items) }
     ensures left { IfOk result (λ r. r.ran ≡ None) }
-    ensures refused { (fault : Fault) → IsErrOf result (NoReply.Refused fault) → IsTextVerdict Form.Replay bytes.now (Some fault) }
+    ensures refused { (fault : Fault) → IsErrOf result (NoReply.Refused fault) → IsTextVerdict Command.Replay bytes.now (Some fault) }
 {
     let verdict = match replay_text(alloc, bytes) {
         Ok(verdict) => verdict,
@@ -170,10 +170,10 @@ fn replayed(alloc: Global, bytes: &[u8]) -> Result<Reply, NoReply>
 
 /// The record of version 2 that tells the lawful history of the record that the bytes spell, or where that history differs.
 fn renewed(alloc: Global, bytes: &[u8]) -> Result<Reply, NoReply>
-    ensures accepted { OnOk result (IsTextVerdict Form.Renew bytes.now None) }
-    ensures verdict { IfOk result (λ r. Replies Form.Renew bytes.now r.status r.text.items) }
+    ensures accepted { OnOk result (IsTextVerdict Command.Renew bytes.now None) }
+    ensures verdict { IfOk result (λ r. Replies Command.Renew bytes.now r.status r.text.items) }
     ensures left { IfOk result (λ r. r.ran ≡ None) }
-    ensures refused { (fault : Fault) → IsErrOf result (NoReply.Refused fault) → IsTextVerdict Form.Renew bytes.now (Some fault) }
+    ensures refused { (fault : Fault) → IsErrOf result (NoReply.Refused fault) → IsTextVerdict Command.Renew bytes.now (Some fault) }
 {
     one_history();
     let trace = record_in(alloc, bytes)?;
@@ -188,10 +188,10 @@ fn renewed(alloc: Global, bytes: &[u8]) -> Result<Reply, NoReply>
 fn captured(alloc: Global, peer: u32, bytes: &[u8]) -> Result<Reply, NoReply>
     requires peer { peer < 2 }
     requires short { length bytes.now < 2 ^ 32 }
-    ensures accepted { OnOk result (IsTextVerdict (Form.Capture peer) bytes.now None) }
-    ensures verdict { IfOk result (λ r. Replies (Form.Capture peer) bytes.now r.status r.text.items) }
+    ensures accepted { OnOk result (IsTextVerdict (Command.Capture peer) bytes.now None) }
+    ensures verdict { IfOk result (λ r. Replies (Command.Capture peer) bytes.now r.status r.text.items) }
     ensures left { IfOk result (λ r. r.ran ≡ None) }
-    ensures refused { (fault : Fault) → IsErrOf result (NoReply.Refused fault) → IsTextVerdict (Form.Capture peer) bytes.now (Some fault) }
+    ensures refused { (fault : Fault) → IsErrOf result (NoReply.Refused fault) → IsTextVerdict (Command.Capture peer) bytes.now (Some fault) }
 {
     let trace = record_in(alloc, bytes)?;
     match replay(alloc, &trace)? {
@@ -202,9 +202,9 @@ fn captured(alloc: Global, peer: u32, bytes: &[u8]) -> Result<Reply, NoReply>
 
 /// The listing of the image that the bytes are.
 fn listed(alloc: Global, bytes: &[u8]) -> Result<Vec<u8>, NoReply>
-    ensures accepted { OnOk result (IsTextVerdict Form.Dump bytes.now None) }
+    ensures accepted { OnOk result (IsTextVerdict Command.Dump bytes.now None) }
     ensures listing { IfOk result (λ text. IsListing bytes.now text.items) }
-    ensures refused { (fault : Fault) → IsErrOf result (NoReply.Refused fault) → IsTextVerdict Form.Dump bytes.now (Some fault) }
+    ensures refused { (fault : Fault) → IsErrOf result (NoReply.Refused fault) → IsTextVerdict Command.Dump bytes.now (Some fault) }
 {
     match dump(alloc, bytes) {
         Ok(text) => Ok(text),
@@ -215,9 +215,9 @@ fn listed(alloc: Global, bytes: &[u8]) -> Result<Vec<u8>, NoReply>
 
 /// The record of the schedule of ports that the bytes spell.
 fn sampled(alloc: Global, bytes: &[u8]) -> Result<Vec<u8>, NoReply>
-    ensures accepted { OnOk result (IsTextVerdict Form.Ports bytes.now None) }
+    ensures accepted { OnOk result (IsTextVerdict Command.Ports bytes.now None) }
     ensures record { IfOk result (λ text. IsPortRecord bytes.now text.items) }
-    ensures refused { (fault : Fault) → IsErrOf result (NoReply.Refused fault) → IsTextVerdict Form.Ports bytes.now (Some fault) }
+    ensures refused { (fault : Fault) → IsErrOf result (NoReply.Refused fault) → IsTextVerdict Command.Ports bytes.now (Some fault) }
 {
     printed_is_read_again();
     match ports(alloc, bytes) {
@@ -229,9 +229,9 @@ fn sampled(alloc: Global, bytes: &[u8]) -> Result<Vec<u8>, NoReply>
 
 /// The output of the run of a bridge that the bytes spell.
 fn bridged(alloc: Global, bytes: &[u8]) -> Result<Vec<u8>, NoReply>
-    ensures accepted { OnOk result (IsTextVerdict Form.Bridge bytes.now None) }
+    ensures accepted { OnOk result (IsTextVerdict Command.Bridge bytes.now None) }
     ensures output { IfOk result (λ text. IsBridged bytes.now text.items) }
-    ensures refused { (fault : Fault) → IsErrOf result (NoReply.Refused fault) → IsTextVerdict Form.Bridge bytes.now (Some fault) }
+    ensures refused { (fault : Fault) → IsErrOf result (NoReply.Refused fault) → IsTextVerdict Command.Bridge bytes.now (Some fault) }
 {
     spelled_is_read();
     match bridge(alloc, bytes) {
@@ -243,9 +243,9 @@ fn bridged(alloc: Global, bytes: &[u8]) -> Result<Vec<u8>, NoReply>
 
 /// The configuration space of this peer's device, in the world that the bytes spell.
 fn configured(alloc: Global, peer: u32, bytes: &[u8]) -> Result<Vec<u8>, NoReply>
-    ensures accepted { OnOk result (IsTextVerdict (Form.Config peer) bytes.now None) }
+    ensures accepted { OnOk result (IsTextVerdict (Command.Config peer) bytes.now None) }
     ensures configuration { IfOk result (λ text. IsConfigurationOf bytes.now text.items) }
-    ensures refused { (fault : Fault) → IsErrOf result (NoReply.Refused fault) → IsTextVerdict (Form.Config peer) bytes.now (Some fault) }
+    ensures refused { (fault : Fault) → IsErrOf result (NoReply.Refused fault) → IsTextVerdict (Command.Config peer) bytes.now (Some fault) }
 {
     let scenario = scenario_in(alloc, bytes)?;
     if peer >= scenario.geometry.peers() {
@@ -308,7 +308,7 @@ fn ran(reply: RunReply) -> Reply
 fn reply_for<R: Threads + Sync, G: Gate + Sync>(
     rt: &R,
     alloc: Global,
-    form: Form,
+    form: Command,
     bytes: &[u8],
     gate: &G,
 ) -> Result<Reply, NoReply>
@@ -320,17 +320,17 @@ fn reply_for<R: Threads + Sync, G: Gate + Sync>(
     ensures refused { (fault : Fault) → IsErrOf result (NoReply.Refused fault) → IsTextVerdict form bytes.now (Some fault) }
 {
     match form {
-        Form::Sim => Ok(done(simulated(alloc, bytes)?)),
-        Form::Run => Ok(ran(run(rt, alloc, bytes, gate)?)),
-        Form::Replay => replayed(alloc, bytes),
-        Form::Renew => renewed(alloc, bytes),
-        Form::Dump => Ok(done(listed(alloc, bytes)?)),
-        Form::Config(peer) => Ok(done(configured(alloc, peer, bytes)?)),
-        Form::Load(count) => Ok(done(loaded(alloc, count)?)),
-        Form::Capture(peer) => captured(alloc, peer, bytes),
-        Form::Feed(peer) => Ok(done(fed(alloc, peer, bytes)?)),
-        Form::Ports => Ok(done(sampled(alloc, bytes)?)),
-        Form::Bridge => Ok(done(bridged(alloc, bytes)?)),
+        Command::Sim => Ok(done(simulated(alloc, bytes)?)),
+        Command::Run => Ok(ran(run(rt, alloc, bytes, gate)?)),
+        Command::Replay => replayed(alloc, bytes),
+        Command::Renew => renewed(alloc, bytes),
+        Command::Dump => Ok(done(listed(alloc, bytes)?)),
+        Command::Config(peer) => Ok(done(configured(alloc, peer, bytes)?)),
+        Command::Load(count) => Ok(done(loaded(alloc, count)?)),
+        Command::Capture(peer) => captured(alloc, peer, bytes),
+        Command::Feed(peer) => Ok(done(fed(alloc, peer, bytes)?)),
+        Command::Ports => Ok(done(sampled(alloc, bytes)?)),
+        Command::Bridge => Ok(done(bridged(alloc, bytes)?)),
     }
 }
 
@@ -338,7 +338,7 @@ fn reply_for<R: Threads + Sync, G: Gate + Sync>(
 pub(crate) fn reply_to<R: Threads + Sync, G: Gate + Sync>(
     rt: &R,
     alloc: Global,
-    form: Form,
+    form: Command,
     bytes: &[u8],
     gate: &G,
 ) -> Result<Reply, NoMemory>

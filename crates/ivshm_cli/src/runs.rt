@@ -6,7 +6,7 @@ ghost use Rattle.scenario_text.specs.Spelling.{IsSpelling, world_of};
 ghost use Rattle.scenario_text.specs.Running.{not_running as first_break};
 ghost use Rattle.ivshm_cli.specs.Forms.{IsTextVerdict};
 ghost use Rattle.ivshm_cli.specs.Running.{IsRunBy};
-ghost use Rattle.ivshm_cli.specs.declared.words.Form.{Form};
+ghost use Rattle.ivshm_cli.specs.declared.words.Command.{Command};
 ghost use Rattle.ivshm_cli.specs.declared.refusals.Fault.{Fault};
 
 use crate::refusals::Fault;
@@ -38,8 +38,8 @@ pub(crate) struct RunReply {
 fn running_in(alloc: Global, bytes: &[u8]) -> Result<Scenario, NoReply>
     ensures spelled { IfOk result (λ scenario. IsSpelling (world_of scenario) bytes.now) }
     ensures running { IfOk result (λ scenario. first_break (world_of scenario) ≡ None) }
-    ensures accepted { OnOk result (IsTextVerdict Form.Run bytes.now None) }
-    ensures refused { (fault : Fault) → IsErrOf result (NoReply.Refused fault) → IsTextVerdict Form.Run bytes.now (Some fault) }
+    ensures accepted { OnOk result (IsTextVerdict Command.Run bytes.now None) }
+    ensures refused { (fault : Fault) → IsErrOf result (NoReply.Refused fault) → IsTextVerdict Command.Run bytes.now (Some fault) }
 {
     let scenario = scenario_in(alloc, bytes)?;
     if let Some(line) = not_running(&scenario) {
@@ -55,9 +55,9 @@ pub(crate) fn run<R: Threads + Sync, G: Gate + Sync>(
     bytes: &[u8],
     gate: &G,
 ) -> Result<RunReply, NoReply>
-    ensures accepted { OnOk result (IsTextVerdict Form.Run bytes.now None) }
+    ensures accepted { OnOk result (IsTextVerdict Command.Run bytes.now None) }
     ensures run { IfOk result (λ r. IsRunBy r.ran bytes.now r.text.items) }
-    ensures refused { (fault : Fault) → IsErrOf result (NoReply.Refused fault) → IsTextVerdict Form.Run bytes.now (Some fault) }
+    ensures refused { (fault : Fault) → IsErrOf result (NoReply.Refused fault) → IsTextVerdict Command.Run bytes.now (Some fault) }
 {
     let scenario = running_in(alloc, bytes)?;
     let (words, mut pass) = words_for(alloc, &scenario)?;

@@ -79,9 +79,9 @@ impl Counts {
 }
 
 impl Listener for Counts {
-    ghost heard = { HasCounted };
+    ghost received = { HasCounted };
 
-    fn hear(&mut self, lines: &[Line]) -> Result<(), Stopped> {
+    fn take_lines(&mut self, lines: &[Line]) -> Result<(), Stopped> {
         self.count_all(lines)
     }
 }

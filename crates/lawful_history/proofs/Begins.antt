@@ -6,34 +6,34 @@ use Rattle.scenario_text.specs.declared.acts.Act.{Act}
 use Rattle.scenario_text.specs.Scenario.{World}
 use Rattle.lawful_history.specs.declared.line.Line.{Line}
 use Rattle.lawful_history.specs.Schedule.{Event, schedule}
-use Rattle.lawful_history.specs.Entries.{lines_of}
+use Rattle.lawful_history.specs.EventRecords.{lines_of}
 use Rattle.lawful_history.specs.Lawful.{HasOneHistory}
-use Rattle.lawful_history.specs.History.{Moment, entry_of, happens, run, beginning, history, HistoryIsLawful, CutHistoriesBegin}
+use Rattle.lawful_history.specs.History.{HistoryState, entry_of, after_event, run, initial_state, history, HistoryIsLawful, CutHistoriesBegin}
 
 -- what happens doesn't depend on the acts to come
-run_same : (world : World) (acts : List Act) (events : List Event) (moment : Moment) → run (record world { acts = acts }) events moment ≡ run world events moment
+run_same : (world : World) (acts : List Act) (events : List Event) (moment : HistoryState) → run (record world { acts = acts }) events moment ≡ run world events moment
 run_same world acts [] moment = refl
-run_same world acts (event ∷ events) moment = run_same world acts events (happens world moment event)
+run_same world acts (event ∷ events) moment = run_same world acts events (after_event world moment event)
 
-pub run_on : (world : World) (events more : List Event) (moment : Moment) → run world (events ++ more) moment ≡ run world more (run world events moment)
+pub run_on : (world : World) (events more : List Event) (moment : HistoryState) → run world (events ++ more) moment ≡ run world more (run world events moment)
 run_on world [] more moment = refl
-run_on world (event ∷ events) more moment = run_on world events more (happens world moment event)
+run_on world (event ∷ events) more moment = run_on world events more (after_event world moment event)
 
 -- the lines only grow
-pub grows : (world : World) (events : List Event) (moment : Moment) → (new : List Line) × ((run world events moment).past ≡ new ++ moment.past)
+pub grows : (world : World) (events : List Event) (moment : HistoryState) → (new : List Line) × ((run world events moment).past ≡ new ++ moment.past)
 grows world [] moment = ([], refl)
 grows world (event ∷ events) moment =
-    let rest = grows world events (happens world moment event) in
+    let rest = grows world events (after_event world moment event) in
     let lines = reverse (lines_of (entry_of world moment event)) in
     (rest.0 ++ lines, rest.1 ∙ sym (append_assoc rest.0 lines moment.past))
 
 pub begins_lem : HasOneHistory → HistoryIsLawful → CutHistoriesBegin
 begins_lem one exists world acts more lines others is longer_is scheduled lawful longer_lawful =
     let longer : World = record world { acts = acts } in
-    let short = run world (schedule world.acts) (beginning world) in
+    let short = run world (schedule world.acts) (initial_state world) in
     let new = grows world more short in
     let first : lines ≡ reverse short.past = one world lines (history world) lawful (exists world is) in
     let whole : others ≡ history longer = one longer others (history longer) longer_lawful (exists longer longer_is) in
-    let runs : run longer (schedule acts) (beginning longer) ≡ run world more short =
-    run_same world acts (schedule acts) (beginning world) ∙ ap (λ es. run world es (beginning world)) scheduled ∙ run_on world (schedule world.acts) more (beginning world) in
-    (reverse new.0, whole ∙ ap (λ (m : Moment). reverse m.past) runs ∙ ap reverse new.1 ∙ reverse-append new.0 short.past ∙ ap (λ ls. ls ++ reverse new.0) (sym first))
+    let runs : run longer (schedule acts) (initial_state longer) ≡ run world more short =
+    run_same world acts (schedule acts) (initial_state world) ∙ ap (λ es. run world es (initial_state world)) scheduled ∙ run_on world (schedule world.acts) more (initial_state world) in
+    (reverse new.0, whole ∙ ap (λ (m : HistoryState). reverse m.past) runs ∙ ap reverse new.1 ∙ reverse-append new.0 short.past ∙ ap (λ ls. ls ++ reverse new.0) (sym first))

@@ -10,7 +10,7 @@ use Rattle.section_map.specs.Geometry.{Shape, section_start}
 use Rattle.section_map.specs.MayWrite.{MayWrite}
 use Rattle.split_ring.specs.declared.steps.Access.{Access}
 use Rattle.split_ring.specs.declared.steps.Access.TheVariants as access
-use Rattle.split_ring.specs.Layout.{Sizes, IsQueue, payload_of}
+use Rattle.split_ring.specs.Layout.{Sizes, IsQueue, data_area_start}
 use Rattle.split_ring.proofs.Bounds.{bounds}
 use Rattle.scenario_text.specs.Scenario.{World, IsWorld}
 use Rattle.doorbell_irq.specs.declared.effect.Delivery.{Delivery}
@@ -18,29 +18,29 @@ use Rattle.doorbell_irq.specs.Events as device
 use Rattle.doorbell_irq.specs.DeviceRules.{effect_of}
 use Rattle.call_grammar.specs.Steps.{Mark, Step, step_of}
 use Rattle.call_grammar.specs.Trees.{CallTree, Ended, Does, Reads}
-use Rattle.call_grammar.specs.Calls.{Who, Call, Tick, Stop, Offer, Poll}
+use Rattle.call_grammar.specs.Calls.{EndConfig, Call, Tick, Stop, Offer, Poll}
 use Rattle.call_grammar.specs.Automatic.{Choice, ChoosesTick, ChoosesOffer, ChoosesPoll, IsFinished}
-use Rattle.call_grammar.specs.Reach.{MayDo, StaysInReach, HasSections, IsGiven, CallsStayInReach}
+use Rattle.call_grammar.specs.Reach.{MayDo, StaysInReach, HasSections, IsPermittedCall, CallsStayInReach}
 use Rattle.lawful_history.specs.declared.line.Line.{Line}
 use Rattle.lawful_history.specs.declared.line.Line.TheVariants as line
-use Rattle.lawful_history.specs.Memory.{MemoryLaw, last_write, touch_of}
-use Rattle.lawful_history.specs.Schedule.{Event, Asked, Automated, Stormed, Turned, Acted, WasReset, Reached, Loses, Repeated, event_peer, schedule, DeviceAccess, ReadsConfig, WritesConfig, ReadsRegister, WritesRegister, ReadsMsix, WritesMsix}
-use Rattle.lawful_history.specs.Sides.{who_of}
+use Rattle.lawful_history.specs.Memory.{MemoryLaw, last_write, memory_effect_of}
+use Rattle.lawful_history.specs.Schedule.{Event, CallQueued, AutoStarted, StormStarted, TurnTaken, RegionAccessed, DeviceReset, DeviceAccessed, InterruptDropped, InterruptRepeated, event_peer, schedule, DeviceAccess, ReadsConfig, WritesConfig, ReadsRegister, WritesRegister, ReadsMsix, WritesMsix}
+use Rattle.lawful_history.specs.Sides.{config_of}
 use Rattle.lawful_history.specs.Storm.{next_number, draw, drawn_access, storm_step}
-use Rattle.lawful_history.specs.Entries.{Entry, event_of, owner, mark_line, access_lines, step_lines, turn_lines, acted_lines, lines_by, lines_of, own}
-use Rattle.lawful_history.specs.Peers.{Auto, Driver, Waits, Chooses, Storms, Peer, at_start, asked_by, cut, with_choice, chosen, opened_by, opened, driver_after}
-use Rattle.lawful_history.specs.Order.{Progress, outset, Acts, noted, Serves}
-use Rattle.lawful_history.specs.Device.{devices_of, device_events, arrival, arrived, arrivals_by, lost_count, told_by, brought_by, step_interrupts, reached_line, device_lines, DeviceRules}
-use Rattle.lawful_history.specs.History.{Moment, driven_step, driven, step_by, moved_by, may_write, acted_step, step_in, peer_in, peer_at, step_of_event, entry_of, peer_after, kept_of, IsWithin, happens, run, beginning, HistoryIsLawful}
+use Rattle.lawful_history.specs.EventRecords.{EventRecord, event_of, owner, mark_line, access_lines, step_lines, turn_lines, region_access_lines, lines_by, lines_of, own}
+use Rattle.lawful_history.specs.Peers.{Auto, Driver, Waits, Chooses, Storms, Peer, at_start, with_call_by, cut, with_choice, chosen, opened_by, opened, driver_after}
+use Rattle.lawful_history.specs.Order.{Progress, initial_progress, EventStep, noted, IsCallSequence}
+use Rattle.lawful_history.specs.Device.{devices_of, device_events, arrival, arrived, arrivals_by, lost_count, device_event_of, brought_by, step_interrupts, device_access_line, device_lines, DeviceRules}
+use Rattle.lawful_history.specs.History.{HistoryState, driven_step, driven, step_by, moved_by, may_write, acted_step, step_in, peer_in, peer_at, step_of_event, entry_of, peer_after, peer_of_progress, IsWithin, after_event, run, initial_state, HistoryIsLawful}
 use Rattle.lawful_history.proofs.InOrder.{keeps_order}
 use Rattle.lawful_history.proofs.Left.{HoldsOfOffer, choice_offers, left_keeps}
 use Rattle.lawful_history.proofs.Owners.{is_same, is_other, not_below}
 use Rattle.lawful_history.proofs.Apart.{Harmless, harmless_law, marks_harmless}
-use Rattle.lawful_history.specs.Given.{IsThere}
+use Rattle.lawful_history.specs.Permitted.{IsPermittedEvent}
 use Rattle.lawful_history.proofs.There.{there_below, all_there}
 
 abbrev AllHarmless : Shape → List Line → Type 0
-AllHarmless g lines = AllByRecursion (λ line. Harmless g (touch_of line)) lines
+AllHarmless g lines = AllByRecursion (λ line. Harmless g (memory_effect_of line)) lines
 
 all_harmless : (g : Shape) (lines others : List Line) → AllHarmless g lines → AllHarmless g others → AllHarmless g (lines ++ others)
 all_harmless g [] others first rest = rest
@@ -48,7 +48,7 @@ all_harmless g (line ∷ lines) others first rest = (first.0, all_harmless g lin
 
 -- The lines of the devices say nothing of a word
 
-arrival_harmless : (g : Shape) (b : Bool) (p vector : ℕ) → Harmless g (touch_of (if b then line.Lost p vector else line.Interrupt p vector))
+arrival_harmless : (g : Shape) (b : Bool) (p vector : ℕ) → Harmless g (memory_effect_of (if b then line.Lost p vector else line.Interrupt p vector))
 arrival_harmless g true p vector = tt
 arrival_harmless g false p vector = tt
 
@@ -63,13 +63,13 @@ arrivals_harmless world older losses line (Some event) = arrived_harmless world.
 
 brought_harmless : (world : World) (older : List Line) (losses : ℕ → ℕ) (lines : List Line) → AllHarmless world.geometry (brought_by world older losses lines)
 brought_harmless world older losses [] = tt
-brought_harmless world older losses (line ∷ lines) = arrivals_harmless world older losses line (told_by line)
+brought_harmless world older losses (line ∷ lines) = arrivals_harmless world older losses line (device_event_of line)
 
 step_harmless : (world : World) (older : List Line) (losses : ℕ → ℕ) (p : ℕ) (went : Option Step) → AllHarmless world.geometry (step_interrupts world older losses p went)
 step_harmless world older losses p None = tt
 step_harmless world older losses p (Some step) = brought_harmless world older losses (access_lines p step.access step.value)
 
-reached_harmless : (world : World) (older : List Line) (p : ℕ) (a : DeviceAccess) → Harmless world.geometry (touch_of (reached_line world older p a))
+reached_harmless : (world : World) (older : List Line) (p : ℕ) (a : DeviceAccess) → Harmless world.geometry (memory_effect_of (device_access_line world older p a))
 reached_harmless world older p (ReadsConfig offset width) = tt
 reached_harmless world older p (WritesConfig offset width value) = tt
 reached_harmless world older p (ReadsRegister offset) = tt
@@ -78,20 +78,20 @@ reached_harmless world older p (ReadsMsix offset) = tt
 reached_harmless world older p (WritesMsix offset value) = tt
 
 device_harmless : (world : World) (older : List Line) (losses : ℕ → ℕ) (event : Event) (went : Option Step) → AllHarmless world.geometry (device_lines world older losses event went)
-device_harmless world older losses (Asked p call) went = tt
-device_harmless world older losses (Automated p expected) went = tt
-device_harmless world older losses (Stormed p seed) went = tt
-device_harmless world older losses (Turned p) went = step_harmless world older losses p went
-device_harmless world older losses (Acted p a) went = step_harmless world older losses p went
-device_harmless world older losses (WasReset p) went = arrivals_harmless world older losses (line.Reset p) (told_by (line.Reset p))
-device_harmless world older losses (Reached p a) went = (reached_harmless world older p a, tt)
-device_harmless world older losses (Loses p) went = tt
-device_harmless world older losses (Repeated p vector) went = (tt, tt)
+device_harmless world older losses (CallQueued p call) went = tt
+device_harmless world older losses (AutoStarted p expected) went = tt
+device_harmless world older losses (StormStarted p seed) went = tt
+device_harmless world older losses (TurnTaken p) went = step_harmless world older losses p went
+device_harmless world older losses (RegionAccessed p a) went = step_harmless world older losses p went
+device_harmless world older losses (DeviceReset p) went = arrivals_harmless world older losses (line.Reset p) (device_event_of (line.Reset p))
+device_harmless world older losses (DeviceAccessed p a) went = (reached_harmless world older p a, tt)
+device_harmless world older losses (InterruptDropped p) went = tt
+device_harmless world older losses (InterruptRepeated p vector) went = (tt, tt)
 
 -- Steps keep the memory law
 
 -- the lines of an access that needs no value keep the law
-do_harmless : (world : World) (p : ℕ) (a : Access) (marks : List Mark) (dev : List Line) → MayDo (who_of world p) a → AllHarmless world.geometry dev →
+do_harmless : (world : World) (p : ℕ) (a : Access) (marks : List Mark) (dev : List Line) → MayDo (config_of world p) a → AllHarmless world.geometry dev →
     AllHarmless world.geometry (step_lines p (step_of a 0 marks) dev)
 do_harmless world p (access.Read word) marks dev may harmless = absurd may
 do_harmless world p (access.Write word written) marks dev may harmless = (inl may, all_harmless world.geometry dev _ harmless (marks_harmless world.geometry p marks))
@@ -108,19 +108,19 @@ read_law g p word others past harmless law =
     rw e (harmless_law g others (first ∷ past) harmless (refl, law))
 
 -- what a storm does, as a call may do it
-pub storm_does : (world : World) (p kind place value : ℕ) (b c d : Bool) → (kind % 4 == 0) ≡ b → (kind % 4 == 1) ≡ c → (kind % 4 == 2) ≡ d → 0 < world.geometry.out → 0 < payload_of world.queue / 4 →
-    payload_of world.queue / 4 ≤ world.geometry.out → (P : Access → Type 0) →
+pub storm_does : (world : World) (p kind place value : ℕ) (b c d : Bool) → (kind % 4 == 0) ≡ b → (kind % 4 == 1) ≡ c → (kind % 4 == 2) ≡ d → 0 < world.geometry.out → 0 < data_area_start world.queue / 4 →
+    data_area_start world.queue / 4 ≤ world.geometry.out → (P : Access → Type 0) →
     ((word : ℕ) → section_start world.geometry p ≤ word → word < section_start world.geometry p + world.geometry.out → P (access.Write word value)) → ((state : ℕ) → P (access.State state)) →
     ((target vector : ℕ) → P (access.Ring target vector)) → P (drawn_access world p kind place value)
 storm_does world p kind place value true c d is is' is'' some ring within P writes states rings =
     let small : place % world.geometry.out < world.geometry.out = mod-lt place some in rw is (writes _ (omega arith) (omega arith))
 storm_does world p kind place value false true d is is' is'' some ring within P writes states rings =
-    let small : place % (payload_of world.queue / 4) < payload_of world.queue / 4 = mod-lt place ring in rw (is, is') (writes _ (omega arith) (omega arith))
+    let small : place % (data_area_start world.queue / 4) < data_area_start world.queue / 4 = mod-lt place ring in rw (is, is') (writes _ (omega arith) (omega arith))
 storm_does world p kind place value false false true is is' is'' some ring within P writes states rings = rw (is, is', is'') (states _)
 storm_does world p kind place value false false false is is' is'' some ring within P writes states rings = rw (is, is', is'') (rings _ _)
 
 -- the ring part has a word, and is smaller than the section
-pub ring_words : (q : Sizes) → IsQueue q → (4 ≤ payload_of q) × (8 * payload_of q < q.out)
+pub ring_words : (q : Sizes) → IsQueue q → (4 ≤ data_area_start q) × (8 * data_area_start q < q.out)
 ring_words q is = let b = bounds q is in let least = b.size_least in (omega arith, b.rings)
 
 storm_harmless : (world : World) (p kind place value : ℕ) (dev : List Line) → IsWorld world → AllHarmless world.geometry dev →
@@ -142,7 +142,7 @@ driven_law world p (Chooses auto) dev past is harmless law = harmless_law world.
 driven_law world p (Storms x) dev past is harmless law = harmless_law world.geometry (step_lines p (storm_step world p x) dev) past (storm_harmless world p (draw (next_number x)) (draw (next_number (next_number x))) (draw (next_number (next_number (next_number x)))) dev is harmless) law
 
 -- a turn by which a call in reach goes on keeps the law
-turn_law : (world : World) (p : ℕ) (driver : Driver) (tree : CallTree) (dev past : List Line) → IsWorld world → StaysInReach (who_of world p) tree → AllHarmless world.geometry dev → MemoryLaw world.geometry past →
+turn_law : (world : World) (p : ℕ) (driver : Driver) (tree : CallTree) (dev past : List Line) → IsWorld world → StaysInReach (config_of world p) tree → AllHarmless world.geometry dev → MemoryLaw world.geometry past →
     MemoryLaw world.geometry (reverse (turn_lines p (step_by world p driver tree past) dev) ++ past)
 turn_law world p driver Ended dev past is stays harmless law = driven_law world p driver dev past is harmless law
 turn_law world p driver (Does a marks rest) dev past is stays harmless law = harmless_law world.geometry (step_lines p (step_of a 0 marks) dev) past (do_harmless world p a marks dev stays.0 harmless) law
@@ -171,13 +171,13 @@ may_not g p word is = λ may. elim may [
 ]
 
 write_law : (world : World) (p word value : ℕ) (b : Bool) (dev past : List Line) → may_write world.geometry p word ≡ b → AllHarmless world.geometry dev → MemoryLaw world.geometry past →
-    MemoryLaw world.geometry (reverse (acted_lines p (access.Write word value) (if b then Some (step_of (access.Write word value) 0 []) else None) dev) ++ past)
+    MemoryLaw world.geometry (reverse (region_access_lines p (access.Write word value) (if b then Some (step_of (access.Write word value) 0 []) else None) dev) ++ past)
 write_law world p word value true dev past is harmless law =
     harmless_law world.geometry (line.Write p word value ∷ dev ++ []) past (may world.geometry p word is, all_harmless world.geometry dev [] harmless tt) law
 write_law world p word value false dev past is harmless law = harmless_law world.geometry (line.Denied p word ∷ dev) past (may_not world.geometry p word is, harmless) law
 
 acted_law : (world : World) (p : ℕ) (a : Access) (dev past : List Line) → AllHarmless world.geometry dev → MemoryLaw world.geometry past →
-    MemoryLaw world.geometry (reverse (acted_lines p a (acted_step world p a past) dev) ++ past)
+    MemoryLaw world.geometry (reverse (region_access_lines p a (acted_step world p a past) dev) ++ past)
 acted_law world p (access.Read word) dev past harmless law = read_law world.geometry p word (dev ++ []) past (all_harmless world.geometry dev [] harmless tt) law
 acted_law world p (access.Write word value) dev past harmless law = write_law world p word value (may_write world.geometry p word) dev past refl harmless law
 acted_law world p (access.State state) dev past harmless law = harmless_law world.geometry (line.State p state ∷ dev ++ []) past (tt, all_harmless world.geometry dev [] harmless tt) law
@@ -186,158 +186,158 @@ acted_law world p access.Nothing dev past harmless law = harmless_law world.geom
 
 -- Calls that may be given stay in reach
 
-pub has_sections : (world : World) (p : ℕ) → IsWorld world → HasSections (who_of world p)
+pub has_sections : (world : World) (p : ℕ) → IsWorld world → HasSections (config_of world p)
 has_sections world p is = record { queue = is.queue; words = is.out }
 
 -- the frames of an automatic peer may be offered
-abbrev pub AreGiven : Who → Driver → Type 0
-AreGiven who Waits = Unit {0}
-AreGiven who (Chooses auto) = AllByRecursion (λ frame. IsGiven who (Offer frame)) auto.frames
-AreGiven who (Storms x) = Unit {0}
+abbrev pub AreGiven : EndConfig → Driver → Type 0
+AreGiven config Waits = Unit {0}
+AreGiven config (Chooses auto) = AllByRecursion (λ frame. IsPermittedCall config (Offer frame)) auto.frames
+AreGiven config (Storms x) = Unit {0}
 
 -- what is known of a peer: its open call stays in reach, and the calls to come may be given
-pub record IsFit (who : Who) (peer : Peer) : Type 0 where
-  pub stays : StaysInReach who peer.left
-  pub given : AllByRecursion (IsGiven who) peer.waiting
-  pub frames : AreGiven who peer.driver
+pub record IsFit (config : EndConfig) (peer : Peer) : Type 0 where
+  pub stays : StaysInReach config peer.left
+  pub given : AllByRecursion (IsPermittedCall config) peer.waiting
+  pub frames : AreGiven config peer.driver
 
-with_choice_fits : CallsStayInReach → (who : Who) (peer : Peer) (auto : Auto) (choice : Choice) → HasSections who → HoldsOfOffer (λ frame. IsGiven who (Offer frame)) choice → AllByRecursion (λ frame. IsGiven who (Offer frame)) auto.frames → IsFit who peer →
-    IsFit who (with_choice who peer auto choice)
-with_choice_fits reach who peer auto ChoosesTick has fits given fit = record { stays = reach.calls who peer.end Tick has tt; given = fit.given; frames = given }
-with_choice_fits reach who peer auto (ChoosesOffer frame) has fits given fit = record { stays = reach.calls who peer.end (Offer frame) has fits; given = fit.given; frames = given }
-with_choice_fits reach who peer auto ChoosesPoll has fits given fit = record { stays = reach.calls who peer.end Poll has tt; given = fit.given; frames = given }
-with_choice_fits reach who peer auto IsFinished has fits given fit = fit
+with_choice_fits : CallsStayInReach → (config : EndConfig) (peer : Peer) (auto : Auto) (choice : Choice) → HasSections config → HoldsOfOffer (λ frame. IsPermittedCall config (Offer frame)) choice → AllByRecursion (λ frame. IsPermittedCall config (Offer frame)) auto.frames → IsFit config peer →
+    IsFit config (with_choice config peer auto choice)
+with_choice_fits reach config peer auto ChoosesTick has fits given fit = record { stays = reach.calls config peer.end Tick has tt; given = fit.given; frames = given }
+with_choice_fits reach config peer auto (ChoosesOffer frame) has fits given fit = record { stays = reach.calls config peer.end (Offer frame) has fits; given = fit.given; frames = given }
+with_choice_fits reach config peer auto ChoosesPoll has fits given fit = record { stays = reach.calls config peer.end Poll has tt; given = fit.given; frames = given }
+with_choice_fits reach config peer auto IsFinished has fits given fit = fit
 
-chosen_fits : CallsStayInReach → (who : Who) (peer : Peer) (driver : Driver) → HasSections who → AreGiven who driver → IsFit who peer → IsFit who (chosen who peer driver)
-chosen_fits reach who peer Waits has given fit = fit
-chosen_fits reach who peer (Chooses auto) has given fit =
-    with_choice_fits reach who peer auto _ has (choice_offers (λ frame. IsGiven who (Offer frame)) peer.end.handshake.phase auto.round auto.frames auto.delivered auto.expected given) given fit
-chosen_fits reach who peer (Storms x) has given fit = fit
+chosen_fits : CallsStayInReach → (config : EndConfig) (peer : Peer) (driver : Driver) → HasSections config → AreGiven config driver → IsFit config peer → IsFit config (chosen config peer driver)
+chosen_fits reach config peer Waits has given fit = fit
+chosen_fits reach config peer (Chooses auto) has given fit =
+    with_choice_fits reach config peer auto _ has (choice_offers (λ frame. IsPermittedCall config (Offer frame)) peer.end.handshake.phase auto.round auto.frames auto.delivered auto.expected given) given fit
+chosen_fits reach config peer (Storms x) has given fit = fit
 
-opened_by_fits : CallsStayInReach → (who : Who) (peer : Peer) (tree : CallTree) (waiting : List Call) → HasSections who → AllByRecursion (IsGiven who) waiting → IsFit who peer → IsFit who (opened_by who peer tree waiting)
-opened_by_fits reach who peer Ended [] has given fit = chosen_fits reach who peer peer.driver has fit.frames fit
-opened_by_fits reach who peer Ended (call ∷ waiting) has given fit = record { stays = reach.calls who peer.end call has given.0; given = given.1; frames = fit.frames }
-opened_by_fits reach who peer (Does a marks rest) waiting has given fit = fit
-opened_by_fits reach who peer (Reads word marks rest) waiting has given fit = fit
+opened_by_fits : CallsStayInReach → (config : EndConfig) (peer : Peer) (tree : CallTree) (waiting : List Call) → HasSections config → AllByRecursion (IsPermittedCall config) waiting → IsFit config peer → IsFit config (opened_by config peer tree waiting)
+opened_by_fits reach config peer Ended [] has given fit = chosen_fits reach config peer peer.driver has fit.frames fit
+opened_by_fits reach config peer Ended (call ∷ waiting) has given fit = record { stays = reach.calls config peer.end call has given.0; given = given.1; frames = fit.frames }
+opened_by_fits reach config peer (Does a marks rest) waiting has given fit = fit
+opened_by_fits reach config peer (Reads word marks rest) waiting has given fit = fit
 
-pub opened_fits : CallsStayInReach → (who : Who) (peer : Peer) → HasSections who → IsFit who peer → IsFit who (opened who peer)
-opened_fits reach who peer has fit = opened_by_fits reach who peer peer.left peer.waiting has fit.given fit
+pub opened_fits : CallsStayInReach → (config : EndConfig) (peer : Peer) → HasSections config → IsFit config peer → IsFit config (opened config peer)
+opened_fits reach config peer has fit = opened_by_fits reach config peer peer.left peer.waiting has fit.given fit
 
-driver_given : (who : Who) (driver : Driver) (marks : List Mark) → AreGiven who driver → AreGiven who (driver_after driver marks)
-driver_given who Waits marks given = tt
-driver_given who (Chooses auto) marks given = left_keeps (λ frame. IsGiven who (Offer frame)) auto marks given
-driver_given who (Storms x) marks given = tt
+driver_given : (config : EndConfig) (driver : Driver) (marks : List Mark) → AreGiven config driver → AreGiven config (driver_after driver marks)
+driver_given config Waits marks given = tt
+driver_given config (Chooses auto) marks given = left_keeps (λ frame. IsPermittedCall config (Offer frame)) auto marks given
+driver_given config (Storms x) marks given = tt
 
-driven_fits : (who : Who) (peer : Peer) (driver : Driver) → IsFit who peer → IsFit who (driven peer driver)
-driven_fits who peer Waits fit = fit
-driven_fits who peer (Chooses auto) fit = fit
-driven_fits who peer (Storms x) fit = record { stays = fit.stays; given = fit.given; frames = tt }
+driven_fits : (config : EndConfig) (peer : Peer) (driver : Driver) → IsFit config peer → IsFit config (driven peer driver)
+driven_fits config peer Waits fit = fit
+driven_fits config peer (Chooses auto) fit = fit
+driven_fits config peer (Storms x) fit = record { stays = fit.stays; given = fit.given; frames = tt }
 
-moved_fits : (who : Who) (peer : Peer) (tree : CallTree) (past : List Line) → StaysInReach who tree → IsFit who peer → IsFit who (moved_by peer tree past)
-moved_fits who peer Ended past stays fit = driven_fits who peer peer.driver fit
-moved_fits who peer (Does a marks rest) past stays fit = record { stays = stays.1; given = fit.given; frames = driver_given who peer.driver marks fit.frames }
-moved_fits who peer (Reads word marks rest) past stays fit =
-    let v = last_write past word in record { stays = stays.1 v; given = fit.given; frames = driver_given who peer.driver (marks v) fit.frames }
+moved_fits : (config : EndConfig) (peer : Peer) (tree : CallTree) (past : List Line) → StaysInReach config tree → IsFit config peer → IsFit config (moved_by peer tree past)
+moved_fits config peer Ended past stays fit = driven_fits config peer peer.driver fit
+moved_fits config peer (Does a marks rest) past stays fit = record { stays = stays.1; given = fit.given; frames = driver_given config peer.driver marks fit.frames }
+moved_fits config peer (Reads word marks rest) past stays fit =
+    let v = last_write past word in record { stays = stays.1 v; given = fit.given; frames = driver_given config peer.driver (marks v) fit.frames }
 
-waiting_given : (who : Who) (waiting : List Call) (call : Call) → AllByRecursion (IsGiven who) waiting → IsGiven who call → AllByRecursion (IsGiven who) (waiting ++ call ∷ [])
-waiting_given who [] call given this = (this, tt)
-waiting_given who (other ∷ waiting) call given this = (given.0, waiting_given who waiting call given.1 this)
+waiting_given : (config : EndConfig) (waiting : List Call) (call : Call) → AllByRecursion (IsPermittedCall config) waiting → IsPermittedCall config call → AllByRecursion (IsPermittedCall config) (waiting ++ call ∷ [])
+waiting_given config [] call given this = (this, tt)
+waiting_given config (other ∷ waiting) call given this = (given.0, waiting_given config waiting call given.1 this)
 
-frames_given : (who : Who) (frames : List (List ℕ)) (frame : List ℕ) → AllByRecursion (λ f. IsGiven who (Offer f)) frames → IsGiven who (Offer frame) → AllByRecursion (λ f. IsGiven who (Offer f)) (frames ++ frame ∷ [])
-frames_given who [] frame given this = (this, tt)
-frames_given who (other ∷ frames) frame given this = (given.0, frames_given who frames frame given.1 this)
+frames_given : (config : EndConfig) (frames : List (List ℕ)) (frame : List ℕ) → AllByRecursion (λ f. IsPermittedCall config (Offer f)) frames → IsPermittedCall config (Offer frame) → AllByRecursion (λ f. IsPermittedCall config (Offer f)) (frames ++ frame ∷ [])
+frames_given config [] frame given this = (this, tt)
+frames_given config (other ∷ frames) frame given this = (given.0, frames_given config frames frame given.1 this)
 
-queued_fits : (who : Who) (peer : Peer) (call : Call) → IsGiven who call → IsFit who peer → IsFit who (record peer { waiting = peer.waiting ++ call ∷ [] })
-queued_fits who peer call this fit = record { stays = fit.stays; given = waiting_given who peer.waiting call fit.given this; frames = fit.frames }
+queued_fits : (config : EndConfig) (peer : Peer) (call : Call) → IsPermittedCall config call → IsFit config peer → IsFit config (record peer { waiting = peer.waiting ++ call ∷ [] })
+queued_fits config peer call this fit = record { stays = fit.stays; given = waiting_given config peer.waiting call fit.given this; frames = fit.frames }
 
-asked_fits : (who : Who) (peer : Peer) (driver : Driver) (call : Call) → AreGiven who driver → IsGiven who call → IsFit who peer → IsFit who (asked_by peer driver call)
-asked_fits who peer (Chooses auto) (Offer frame) given this fit = record { stays = fit.stays; given = fit.given; frames = frames_given who auto.frames frame given this }
-asked_fits who peer (Chooses auto) Tick given this fit = queued_fits who peer Tick this fit
-asked_fits who peer (Chooses auto) Stop given this fit = queued_fits who peer Stop this fit
-asked_fits who peer (Chooses auto) Poll given this fit = queued_fits who peer Poll this fit
-asked_fits who peer Waits Tick given this fit = queued_fits who peer Tick this fit
-asked_fits who peer Waits Stop given this fit = queued_fits who peer Stop this fit
-asked_fits who peer Waits (Offer frame) given this fit = queued_fits who peer (Offer frame) this fit
-asked_fits who peer Waits Poll given this fit = queued_fits who peer Poll this fit
-asked_fits who peer (Storms x) Tick given this fit = queued_fits who peer Tick this fit
-asked_fits who peer (Storms x) Stop given this fit = queued_fits who peer Stop this fit
-asked_fits who peer (Storms x) (Offer frame) given this fit = queued_fits who peer (Offer frame) this fit
-asked_fits who peer (Storms x) Poll given this fit = queued_fits who peer Poll this fit
+asked_fits : (config : EndConfig) (peer : Peer) (driver : Driver) (call : Call) → AreGiven config driver → IsPermittedCall config call → IsFit config peer → IsFit config (with_call_by peer driver call)
+asked_fits config peer (Chooses auto) (Offer frame) given this fit = record { stays = fit.stays; given = fit.given; frames = frames_given config auto.frames frame given this }
+asked_fits config peer (Chooses auto) Tick given this fit = queued_fits config peer Tick this fit
+asked_fits config peer (Chooses auto) Stop given this fit = queued_fits config peer Stop this fit
+asked_fits config peer (Chooses auto) Poll given this fit = queued_fits config peer Poll this fit
+asked_fits config peer Waits Tick given this fit = queued_fits config peer Tick this fit
+asked_fits config peer Waits Stop given this fit = queued_fits config peer Stop this fit
+asked_fits config peer Waits (Offer frame) given this fit = queued_fits config peer (Offer frame) this fit
+asked_fits config peer Waits Poll given this fit = queued_fits config peer Poll this fit
+asked_fits config peer (Storms x) Tick given this fit = queued_fits config peer Tick this fit
+asked_fits config peer (Storms x) Stop given this fit = queued_fits config peer Stop this fit
+asked_fits config peer (Storms x) (Offer frame) given this fit = queued_fits config peer (Offer frame) this fit
+asked_fits config peer (Storms x) Poll given this fit = queued_fits config peer Poll this fit
 
-cut_given : (who : Who) (driver : Driver) → AreGiven who driver → AreGiven who (cut driver)
-cut_given who Waits given = tt
-cut_given who (Chooses auto) given = given
-cut_given who (Storms x) given = tt
+cut_given : (config : EndConfig) (driver : Driver) → AreGiven config driver → AreGiven config (cut driver)
+cut_given config Waits given = tt
+cut_given config (Chooses auto) given = given
+cut_given config (Storms x) given = tt
 
 -- what is known of a moment
-pub record Good (world : World) (moment : Moment) : Type 0 where
+pub record Good (world : World) (moment : HistoryState) : Type 0 where
   pub law : MemoryLaw world.geometry moment.past
-  pub fits : (p : ℕ) → IsFit (who_of world p) (peer_at moment p)
+  pub fits : (p : ℕ) → IsFit (config_of world p) (peer_at moment p)
   pub count : length moment.peers ≡ world.geometry.peers
 
 -- the peer of an event after it, and the others
-pub peer_same : (world : World) (moment : Moment) (event : Event) → event_peer event < length moment.peers → peer_at (happens world moment event) (event_peer event) ≡ peer_after world moment event
+pub peer_same : (world : World) (moment : HistoryState) (event : Event) → event_peer event < length moment.peers → peer_at (after_event world moment event) (event_peer event) ≡ peer_after world moment event
 peer_same world moment event below = get_or-set_same moment.peers (event_peer event) (peer_after world moment event) at_start below
 
-pub peer_other : (world : World) (moment : Moment) (event : Event) (q : ℕ) → q ≢ event_peer event → peer_at (happens world moment event) q ≡ peer_at moment q
+pub peer_other : (world : World) (moment : HistoryState) (event : Event) (q : ℕ) → q ≢ event_peer event → peer_at (after_event world moment event) q ≡ peer_at moment q
 peer_other world moment event q other = get_or-set_other moment.peers (event_peer event) q (peer_after world moment event) at_start other
 
-lines_law : CallsStayInReach → (world : World) (peer : Peer) (past dev : List Line) (event : Event) → IsWorld world → IsFit (who_of world (event_peer event)) peer → AllHarmless world.geometry dev → MemoryLaw world.geometry past →
+lines_law : CallsStayInReach → (world : World) (peer : Peer) (past dev : List Line) (event : Event) → IsWorld world → IsFit (config_of world (event_peer event)) peer → AllHarmless world.geometry dev → MemoryLaw world.geometry past →
     MemoryLaw world.geometry (reverse (lines_by event (step_in world peer past event) dev) ++ past)
-lines_law reach world peer past dev (Asked p call) is fit harmless law = harmless_law world.geometry dev past harmless law
-lines_law reach world peer past dev (Automated p expected) is fit harmless law = harmless_law world.geometry dev past harmless law
-lines_law reach world peer past dev (Stormed p seed) is fit harmless law = harmless_law world.geometry dev past harmless law
-lines_law reach world peer past dev (Turned p) is fit harmless law =
-    let who = who_of world p in turn_law world p (opened who peer).driver (opened who peer).left dev past is (opened_fits reach who peer (has_sections world p is) fit).stays harmless law
-lines_law reach world peer past dev (Acted p a) is fit harmless law = acted_law world p a dev past harmless law
-lines_law reach world peer past dev (WasReset p) is fit harmless law = harmless_law world.geometry (line.Reset p ∷ dev) past (tt, harmless) law
-lines_law reach world peer past dev (Reached p a) is fit harmless law = harmless_law world.geometry dev past harmless law
-lines_law reach world peer past dev (Loses p) is fit harmless law = harmless_law world.geometry dev past harmless law
-lines_law reach world peer past dev (Repeated p vector) is fit harmless law = harmless_law world.geometry dev past harmless law
+lines_law reach world peer past dev (CallQueued p call) is fit harmless law = harmless_law world.geometry dev past harmless law
+lines_law reach world peer past dev (AutoStarted p expected) is fit harmless law = harmless_law world.geometry dev past harmless law
+lines_law reach world peer past dev (StormStarted p seed) is fit harmless law = harmless_law world.geometry dev past harmless law
+lines_law reach world peer past dev (TurnTaken p) is fit harmless law =
+    let config = config_of world p in turn_law world p (opened config peer).driver (opened config peer).left dev past is (opened_fits reach config peer (has_sections world p is) fit).stays harmless law
+lines_law reach world peer past dev (RegionAccessed p a) is fit harmless law = acted_law world p a dev past harmless law
+lines_law reach world peer past dev (DeviceReset p) is fit harmless law = harmless_law world.geometry (line.Reset p ∷ dev) past (tt, harmless) law
+lines_law reach world peer past dev (DeviceAccessed p a) is fit harmless law = harmless_law world.geometry dev past harmless law
+lines_law reach world peer past dev (InterruptDropped p) is fit harmless law = harmless_law world.geometry dev past harmless law
+lines_law reach world peer past dev (InterruptRepeated p vector) is fit harmless law = harmless_law world.geometry dev past harmless law
 
-event_law : CallsStayInReach → (world : World) (moment : Moment) (event : Event) → IsWorld world → Good world moment → MemoryLaw world.geometry (happens world moment event).past
+event_law : CallsStayInReach → (world : World) (moment : HistoryState) (event : Event) → IsWorld world → Good world moment → MemoryLaw world.geometry (after_event world moment event).past
 event_law reach world moment event is good =
     lines_law reach world (peer_at moment (event_peer event)) moment.past _ event is (good.fits (event_peer event)) (device_harmless world moment.past moment.losses event (step_of_event world moment event)) good.law
 
-peer_fits : CallsStayInReach → (world : World) (peer : Peer) (past : List Line) (event : Event) → IsWorld world → IsThere world event → IsFit (who_of world (event_peer event)) peer →
-    IsFit (who_of world (event_peer event)) (peer_in world peer past event)
-peer_fits reach world peer past (Asked p call) is there fit = asked_fits (who_of world p) peer peer.driver call fit.frames there.1 fit
-peer_fits reach world peer past (Automated p expected) is there fit = record { stays = fit.stays; given = fit.given; frames = tt }
-peer_fits reach world peer past (Stormed p seed) is there fit = record { stays = fit.stays; given = fit.given; frames = tt }
-peer_fits reach world peer past (Turned p) is there fit =
-    let opened_fit = opened_fits reach (who_of world p) peer (has_sections world p is) fit in
-    moved_fits (who_of world p) (opened (who_of world p) peer) (opened (who_of world p) peer).left past opened_fit.stays opened_fit
-peer_fits reach world peer past (Acted p a) is there fit = fit
-peer_fits reach world peer past (WasReset p) is there fit = record { stays = tt; given = tt; frames = cut_given (who_of world p) peer.driver fit.frames }
-peer_fits reach world peer past (Reached p a) is there fit = fit
-peer_fits reach world peer past (Loses p) is there fit = fit
-peer_fits reach world peer past (Repeated p vector) is there fit = fit
+peer_fits : CallsStayInReach → (world : World) (peer : Peer) (past : List Line) (event : Event) → IsWorld world → IsPermittedEvent world event → IsFit (config_of world (event_peer event)) peer →
+    IsFit (config_of world (event_peer event)) (peer_in world peer past event)
+peer_fits reach world peer past (CallQueued p call) is there fit = asked_fits (config_of world p) peer peer.driver call fit.frames there.1 fit
+peer_fits reach world peer past (AutoStarted p expected) is there fit = record { stays = fit.stays; given = fit.given; frames = tt }
+peer_fits reach world peer past (StormStarted p seed) is there fit = record { stays = fit.stays; given = fit.given; frames = tt }
+peer_fits reach world peer past (TurnTaken p) is there fit =
+    let opened_fit = opened_fits reach (config_of world p) peer (has_sections world p is) fit in
+    moved_fits (config_of world p) (opened (config_of world p) peer) (opened (config_of world p) peer).left past opened_fit.stays opened_fit
+peer_fits reach world peer past (RegionAccessed p a) is there fit = fit
+peer_fits reach world peer past (DeviceReset p) is there fit = record { stays = tt; given = tt; frames = cut_given (config_of world p) peer.driver fit.frames }
+peer_fits reach world peer past (DeviceAccessed p a) is there fit = fit
+peer_fits reach world peer past (InterruptDropped p) is there fit = fit
+peer_fits reach world peer past (InterruptRepeated p vector) is there fit = fit
 
 -- what holds of each peer holds after an event
-pub stays_on : (P : ℕ → Peer → Type 0) (world : World) (moment : Moment) (event : Event) → event_peer event < length moment.peers → P (event_peer event) (peer_after world moment event) →
-    (q : ℕ) (b : Bool) → (event_peer event == q) ≡ b → P q (peer_at moment q) → P q (peer_at (happens world moment event) q)
+pub stays_on : (P : ℕ → Peer → Type 0) (world : World) (moment : HistoryState) (event : Event) → event_peer event < length moment.peers → P (event_peer event) (peer_after world moment event) →
+    (q : ℕ) (b : Bool) → (event_peer event == q) ≡ b → P q (peer_at moment q) → P q (peer_at (after_event world moment event) q)
 stays_on P world moment event below here q true is there =
-    let now : P (event_peer event) (peer_at (happens world moment event) (event_peer event)) = subst (λ (x : Peer). P (event_peer event) x) (sym (peer_same world moment event below)) here in
-    subst (λ (k : ℕ). P k (peer_at (happens world moment event) k)) (is_same (event_peer event) q is) now
+    let now : P (event_peer event) (peer_at (after_event world moment event) (event_peer event)) = subst (λ (x : Peer). P (event_peer event) x) (sym (peer_same world moment event below)) here in
+    subst (λ (k : ℕ). P k (peer_at (after_event world moment event) k)) (is_same (event_peer event) q is) now
 stays_on P world moment event below here q false is there = subst (λ (x : Peer). P q x) (sym (peer_other world moment event q (is_other (event_peer event) q is))) there
 
-pub good_on : CallsStayInReach → (world : World) (moment : Moment) (event : Event) → IsWorld world → IsThere world event → Good world moment → Good world (happens world moment event)
+pub good_on : CallsStayInReach → (world : World) (moment : HistoryState) (event : Event) → IsWorld world → IsPermittedEvent world event → Good world moment → Good world (after_event world moment event)
 good_on reach world moment event is there good =
     let below : event_peer event < length moment.peers = omega (arith, good.count, there_below world event there) in
     record {
       law = event_law reach world moment event is good;
       fits = λ q.
-          stays_on (λ k x. IsFit (who_of world k) x) world moment event below (peer_fits reach world (peer_at moment (event_peer event)) moment.past event is there (good.fits (event_peer event))) q (event_peer event == q) refl (good.fits q);
+          stays_on (λ k x. IsFit (config_of world k) x) world moment event below (peer_fits reach world (peer_at moment (event_peer event)) moment.past event is there (good.fits (event_peer event))) q (event_peer event == q) refl (good.fits q);
       count = length-set moment.peers (event_peer event) (peer_after world moment event) ∙ good.count;
     }
 
 -- the entries of events from a moment on
-abbrev entries_of : World → List Event → Moment → List Entry
+abbrev entries_of : World → List Event → HistoryState → List EventRecord
 entries_of world [] moment = []
-entries_of world (event ∷ events) moment = entry_of world moment event ∷ entries_of world events (happens world moment event)
+entries_of world (event ∷ events) moment = entry_of world moment event ∷ entries_of world events (after_event world moment event)
 
 -- what is known of them
-record Found (world : World) (events : List Event) (moment : Moment) : Type 0 where
+record Found (world : World) (events : List Event) (moment : HistoryState) : Type 0 where
   scheduled : map event_of (entries_of world events moment) ≡ events
   owners : AllByRecursion (λ entry. owner entry < world.geometry.peers) (entries_of world events moment)
   lines : reverse (flat_map lines_of (entries_of world events moment)) ++ moment.past ≡ (run world events moment).past
@@ -348,30 +348,30 @@ lines_go : (s new : List Line) (past all : List Line) → reverse new ++ (revers
 lines_go s new past all is = ap (λ r. r ++ past) (reverse-append s new) ∙ append_assoc (reverse new) (reverse s) past ∙ is
 
 -- the peer of a moment, and what is kept of it
-record Keeps (moment : Moment) (q : ℕ) (peer : Progress) : Type 0 where
-  is : peer_at moment q ≡ kept_of peer
+record Keeps (moment : HistoryState) (q : ℕ) (peer : Progress) : Type 0 where
+  is : peer_at moment q ≡ peer_of_progress peer
   within : IsWithin peer
 
 -- the entry of an event of the peer itself
-own_event : (world : World) (moment : Moment) (event : Event) (peer : Progress) → event_peer event < length moment.peers → Keeps moment (event_peer event) peer →
-    (mid : Progress) × Acts world (event_peer event) peer event (step_of_event world moment event) mid
-    × Keeps (happens world moment event) (event_peer event) (noted mid (entry_of world moment event))
+own_event : (world : World) (moment : HistoryState) (event : Event) (peer : Progress) → event_peer event < length moment.peers → Keeps moment (event_peer event) peer →
+    (mid : Progress) × EventStep world (event_peer event) peer event (step_of_event world moment event) mid
+    × Keeps (after_event world moment event) (event_peer event) (noted mid (entry_of world moment event))
 own_event world moment event peer below keeps =
     let p = event_peer event in
-    let on = keeps_order world peer moment.past event (device_lines world moment.past moment.losses event (step_in world (kept_of peer) moment.past event)) keeps.within in
+    let on = keeps_order world peer moment.past event (device_lines world moment.past moment.losses event (step_in world (peer_of_progress peer) moment.past event)) keeps.within in
     let here = subst (λ (x : Peer).
-    (mid : Progress) × Acts world p peer event (step_in world x moment.past event) mid
-    × (peer_in world x moment.past event ≡ kept_of (noted mid (record { event = event; went = step_in world x moment.past event; device = device_lines world moment.past moment.losses event (step_in world x moment.past event) })))
+    (mid : Progress) × EventStep world p peer event (step_in world x moment.past event) mid
+    × (peer_in world x moment.past event ≡ peer_of_progress (noted mid (record { event = event; went = step_in world x moment.past event; device = device_lines world moment.past moment.losses event (step_in world x moment.past event) })))
     × IsWithin (noted mid (record { event = event; went = step_in world x moment.past event; device = device_lines world moment.past moment.losses event (step_in world x moment.past event) }))) (sym keeps.is) on in
     (here.0, here.1, record { is = peer_same world moment event below ∙ here.2; within = here.3 })
 
 -- the entry of an event and those after it, for a peer
-serves_from : (world : World) (moment : Moment) (event : Event) (others : List Entry) (q : ℕ) (peer : Progress) → event_peer event < length moment.peers → Keeps moment q peer →
-    ((next : Progress) → Keeps (happens world moment event) q next → (end : Progress) × Serves world q next (own q others) end) → (b : Bool) → (event_peer event == q) ≡ b →
-    (end : Progress) × Serves world q peer (if b then entry_of world moment event ∷ own q others else own q others) end
+serves_from : (world : World) (moment : HistoryState) (event : Event) (others : List EventRecord) (q : ℕ) (peer : Progress) → event_peer event < length moment.peers → Keeps moment q peer →
+    ((next : Progress) → Keeps (after_event world moment event) q next → (end : Progress) × IsCallSequence world q next (own q others) end) → (b : Bool) → (event_peer event == q) ≡ b →
+    (end : Progress) × IsCallSequence world q peer (if b then entry_of world moment event ∷ own q others else own q others) end
 serves_from world moment event others q peer below keeps rest true is =
     let same : event_peer event ≡ q = is_same (event_peer event) q is in
-    let on = subst (λ (k : ℕ). (mid : Progress) × Acts world k peer event (step_of_event world moment event) mid × Keeps (happens world moment event) k (noted mid (entry_of world moment event))) same
+    let on = subst (λ (k : ℕ). (mid : Progress) × EventStep world k peer event (step_of_event world moment event) mid × Keeps (after_event world moment event) k (noted mid (entry_of world moment event))) same
     (own_event world moment event peer below (subst (λ (k : ℕ). Keeps moment k peer) (sym same) keeps)) in
     let others_served = rest (noted on.0 (entry_of world moment event)) on.2 in
     (others_served.0, (on.0, on.1, others_served.1))
@@ -379,50 +379,50 @@ serves_from world moment event others q peer below keeps rest false is =
     rest peer (record { is = peer_other world moment event q (is_other (event_peer event) q is) ∙ keeps.is; within = keeps.within })
 
 -- the entries of events from a moment on are a peer's calls in their order
-served : (world : World) (events : List Event) (moment : Moment) (q : ℕ) (peer : Progress) → AllByRecursion (IsThere world) events → length moment.peers ≡ world.geometry.peers → Keeps moment q peer →
-    (end : Progress) × Serves world q peer (own q (entries_of world events moment)) end
+served : (world : World) (events : List Event) (moment : HistoryState) (q : ℕ) (peer : Progress) → AllByRecursion (IsPermittedEvent world) events → length moment.peers ≡ world.geometry.peers → Keeps moment q peer →
+    (end : Progress) × IsCallSequence world q peer (own q (entries_of world events moment)) end
 served world [] moment q peer there count keeps = (peer, refl)
 served world (event ∷ events) moment q peer there count keeps =
-    serves_from world moment event (entries_of world events (happens world moment event)) q peer (omega (arith, count, there_below world event there.0)) keeps
-    (λ next kept. served world events (happens world moment event) q next there.1 (length-set moment.peers (event_peer event) (peer_after world moment event) ∙ count) kept) (event_peer event == q) refl
+    serves_from world moment event (entries_of world events (after_event world moment event)) q peer (omega (arith, count, there_below world event there.0)) keeps
+    (λ next kept. served world events (after_event world moment event) q next there.1 (length-set moment.peers (event_peer event) (peer_after world moment event) ∙ count) kept) (event_peer event == q) refl
 
-found : CallsStayInReach → (world : World) (events : List Event) (moment : Moment) → IsWorld world → AllByRecursion (IsThere world) events → Good world moment → Found world events moment
+found : CallsStayInReach → (world : World) (events : List Event) (moment : HistoryState) → IsWorld world → AllByRecursion (IsPermittedEvent world) events → Good world moment → Found world events moment
 found reach world [] moment is there good = record { scheduled = refl; owners = tt; lines = refl; law = good.law; device = tt }
 found reach world (event ∷ events) moment is there good =
-    let rest = found reach world events (happens world moment event) is there.1 (good_on reach world moment event is there.0 good) in
+    let rest = found reach world events (after_event world moment event) is there.1 (good_on reach world moment event is there.0 good) in
     let here : event_peer event < world.geometry.peers = there_below world event there.0 in
     record {
       scheduled = ap (λ es. event ∷ es) rest.scheduled;
       owners = (here, rest.owners);
-      lines = lines_go (lines_of (entry_of world moment event)) (flat_map lines_of (entries_of world events (happens world moment event))) moment.past _ rest.lines;
+      lines = lines_go (lines_of (entry_of world moment event)) (flat_map lines_of (entries_of world events (after_event world moment event))) moment.past _ rest.lines;
       law = rest.law;
       device = (refl, rest.device);
     }
 
-pub at_beginning : (world : World) (p : ℕ) (b : Bool) → nat_lt p world.geometry.peers ≡ b → peer_at (beginning world) p ≡ at_start
+pub at_beginning : (world : World) (p : ℕ) (b : Bool) → nat_lt p world.geometry.peers ≡ b → peer_at (initial_state world) p ≡ at_start
 at_beginning world p true is = get_or-replicate world.geometry.peers p at_start at_start (grind (arith, nat_tests))
 at_beginning world p false is = get_or_past (replicate world.geometry.peers at_start) p at_start (omega (arith, length-replicate world.geometry.peers at_start, not_below p world.geometry.peers is))
 
-pub good_at_first : (world : World) → Good world (beginning world)
+pub good_at_first : (world : World) → Good world (initial_state world)
 good_at_first world = record {
   law = tt;
-  fits = λ p. subst (λ (x : Peer). IsFit (who_of world p) x) (sym (at_beginning world p (nat_lt p world.geometry.peers) refl)) (record { stays = tt; given = tt; frames = tt });
+  fits = λ p. subst (λ (x : Peer). IsFit (config_of world p) x) (sym (at_beginning world p (nat_lt p world.geometry.peers) refl)) (record { stays = tt; given = tt; frames = tt });
   count = length-replicate world.geometry.peers at_start;
 }
 
 pub history_lem : CallsStayInReach → HistoryIsLawful
 history_lem reach world is =
     let events = schedule world.acts in
-    let f = found reach world events (beginning world) is (all_there world is) (good_at_first world) in
-    let entries = entries_of world events (beginning world) in (
+    let f = found reach world events (initial_state world) is (all_there world is) (good_at_first world) in
+    let entries = entries_of world events (initial_state world) in (
       entries,
       record {
         events = f.scheduled;
-        owners = All-from_recursion (λ (entry : Entry). owner entry < world.geometry.peers) entries f.owners;
+        owners = All-from_recursion (λ (entry : EventRecord). owner entry < world.geometry.peers) entries f.owners;
         told = sym (reverse-reverse (flat_map lines_of entries)) ∙ ap reverse (sym (append-nil (reverse (flat_map lines_of entries))) ∙ f.lines);
         memory = rw reverse-reverse f.law;
         device = f.device;
-        calls = λ p below. served world events (beginning world) p outset (all_there world is) (good_at_first world).count
+        calls = λ p below. served world events (initial_state world) p initial_progress (all_there world is) (good_at_first world).count
             (record { is = at_beginning world p (nat_lt p world.geometry.peers) refl; within = omega arith });
       },
     )

@@ -15,11 +15,11 @@ use Rattle.doorbell_irq.specs.DeviceRules.{effect_of}
 use Rattle.call_grammar.specs.Steps.{Mark, Saw, Reclaim, Full, Accept, Look, Deliver, Return, Done, Down, Refuse, Over, Step}
 use Rattle.lawful_history.specs.declared.line.Line.{Line}
 use Rattle.lawful_history.specs.declared.line.Line.TheVariants as line
-use Rattle.lawful_history.specs.Schedule.{Event, Asked, Automated, Stormed, Turned, Acted, WasReset, Reached, Loses, Repeated, DeviceAccess, ReadsConfig, WritesConfig, ReadsRegister, WritesRegister, ReadsMsix, WritesMsix, events_of, schedule}
-use Rattle.lawful_history.specs.Entries.{mark_line, access_lines, step_lines, turn_lines, denied_lines, acted_lines, lines_by, lines_of}
-use Rattle.lawful_history.specs.Device.{devices_of, device_events, arrival, arrived, arrivals_by, lost_count, told_by, brought_by, step_interrupts, reached_line, device_lines}
+use Rattle.lawful_history.specs.Schedule.{Event, CallQueued, AutoStarted, StormStarted, TurnTaken, RegionAccessed, DeviceReset, DeviceAccessed, InterruptDropped, InterruptRepeated, DeviceAccess, ReadsConfig, WritesConfig, ReadsRegister, WritesRegister, ReadsMsix, WritesMsix, events_of, schedule}
+use Rattle.lawful_history.specs.EventRecords.{mark_line, access_lines, step_lines, turn_lines, denied_lines, region_access_lines, lines_by, lines_of}
+use Rattle.lawful_history.specs.Device.{devices_of, device_events, arrival, arrived, arrivals_by, lost_count, device_event_of, brought_by, step_interrupts, device_access_line, device_lines}
 use Rattle.lawful_history.specs.Sessions.{writes_state, opened_in}
-use Rattle.lawful_history.specs.History.{Moment, entry_of, step_of_event, happens, run, beginning}
+use Rattle.lawful_history.specs.History.{HistoryState, entry_of, step_of_event, after_event, run, initial_state}
 
 -- How often lines open a session
 
@@ -66,13 +66,13 @@ none_arrivals p world older losses line (Some event) = none_arrived p (line ∷ 
 
 none_brought : (p : ℕ) (world : World) (older : List Line) (losses : ℕ → ℕ) (lines : List Line) → OpensNone p (brought_by world older losses lines)
 none_brought p world older losses [] = refl
-none_brought p world older losses (line ∷ lines) = none_arrivals p world older losses line (told_by line)
+none_brought p world older losses (line ∷ lines) = none_arrivals p world older losses line (device_event_of line)
 
 none_interrupts : (p : ℕ) (world : World) (older : List Line) (losses : ℕ → ℕ) (q : ℕ) (went : Option Step) → OpensNone p (step_interrupts world older losses q went)
 none_interrupts p world older losses q None = refl
 none_interrupts p world older losses q (Some step) = none_brought p world older losses (access_lines q step.access step.value)
 
-none_reached : (p : ℕ) (world : World) (older : List Line) (q : ℕ) (a : DeviceAccess) → OpensNone p (reached_line world older q a ∷ [])
+none_reached : (p : ℕ) (world : World) (older : List Line) (q : ℕ) (a : DeviceAccess) → OpensNone p (device_access_line world older q a ∷ [])
 none_reached p world older q (ReadsConfig offset width) = refl
 none_reached p world older q (WritesConfig offset width value) = refl
 none_reached p world older q (ReadsRegister offset) = refl
@@ -81,15 +81,15 @@ none_reached p world older q (ReadsMsix offset) = refl
 none_reached p world older q (WritesMsix offset value) = refl
 
 none_device : (p : ℕ) (world : World) (older : List Line) (losses : ℕ → ℕ) (event : Event) (went : Option Step) → OpensNone p (device_lines world older losses event went)
-none_device p world older losses (Asked q call) went = refl
-none_device p world older losses (Automated q expected) went = refl
-none_device p world older losses (Stormed q seed) went = refl
-none_device p world older losses (Turned q) went = none_interrupts p world older losses q went
-none_device p world older losses (Acted q a) went = none_interrupts p world older losses q went
-none_device p world older losses (WasReset q) went = none_arrivals p world older losses (line.Reset q) (told_by (line.Reset q))
-none_device p world older losses (Reached q a) went = none_reached p world older q a
-none_device p world older losses (Loses q) went = refl
-none_device p world older losses (Repeated q vector) went = refl
+none_device p world older losses (CallQueued q call) went = refl
+none_device p world older losses (AutoStarted q expected) went = refl
+none_device p world older losses (StormStarted q seed) went = refl
+none_device p world older losses (TurnTaken q) went = none_interrupts p world older losses q went
+none_device p world older losses (RegionAccessed q a) went = none_interrupts p world older losses q went
+none_device p world older losses (DeviceReset q) went = none_arrivals p world older losses (line.Reset q) (device_event_of (line.Reset q))
+none_device p world older losses (DeviceAccessed q a) went = none_reached p world older q a
+none_device p world older losses (InterruptDropped q) went = refl
+none_device p world older losses (InterruptRepeated q vector) went = refl
 
 none_mark : (p q : ℕ) (mark : Mark) (lines : List Line) → OpensNone p lines → OpensNone p (mark_line q mark ∷ lines)
 none_mark p q (Saw value) lines rest = rest
@@ -138,22 +138,22 @@ none_denied p q (access.State state) = refl
 none_denied p q (access.Ring target vector) = refl
 none_denied p q access.Nothing = refl
 
-one_acted : (p q : ℕ) (a : Access) (went : Option Step) (dev : List Line) → OpensNone p dev → opened_in (acted_lines q a went dev) p ≤ 1
+one_acted : (p q : ℕ) (a : Access) (went : Option Step) (dev : List Line) → OpensNone p dev → opened_in (region_access_lines q a went dev) p ≤ 1
 one_acted p q a None dev none = let whole = none_append p (denied_lines q a) dev (none_denied p q a) none in omega arith
 one_acted p q a (Some step) dev none = one_step p q step dev none
 
 one_by : (p : ℕ) (event : Event) (went : Option Step) (dev : List Line) → OpensNone p dev → opened_in (lines_by event went dev) p ≤ 1
-one_by p (Asked q call) went dev none = omega arith
-one_by p (Automated q expected) went dev none = omega arith
-one_by p (Stormed q seed) went dev none = omega arith
-one_by p (Turned q) went dev none = one_turn p q went dev none
-one_by p (Acted q a) went dev none = one_acted p q a went dev none
-one_by p (WasReset q) went dev none = omega arith
-one_by p (Reached q a) went dev none = omega arith
-one_by p (Loses q) went dev none = omega arith
-one_by p (Repeated q vector) went dev none = omega arith
+one_by p (CallQueued q call) went dev none = omega arith
+one_by p (AutoStarted q expected) went dev none = omega arith
+one_by p (StormStarted q seed) went dev none = omega arith
+one_by p (TurnTaken q) went dev none = one_turn p q went dev none
+one_by p (RegionAccessed q a) went dev none = one_acted p q a went dev none
+one_by p (DeviceReset q) went dev none = omega arith
+one_by p (DeviceAccessed q a) went dev none = omega arith
+one_by p (InterruptDropped q) went dev none = omega arith
+one_by p (InterruptRepeated q vector) went dev none = omega arith
 
-one_event : (p : ℕ) (world : World) (moment : Moment) (event : Event) → opened_in (happens world moment event).past p ≤ opened_in moment.past p + 1
+one_event : (p : ℕ) (world : World) (moment : HistoryState) (event : Event) → opened_in (after_event world moment event).past p ≤ opened_in moment.past p + 1
 one_event p world moment event =
     let lines = lines_of (entry_of world moment event) in
     let whole = opened_append p (reverse lines) moment.past in
@@ -162,16 +162,16 @@ one_event p world moment event =
     (none_device p world moment.past moment.losses event (step_of_event world moment event)) in omega arith
 
 -- so many events open no more sessions
-pub opened_run : (p : ℕ) (world : World) (events : List Event) (moment : Moment) → opened_in (run world events moment).past p ≤ opened_in moment.past p + length events
+pub opened_run : (p : ℕ) (world : World) (events : List Event) (moment : HistoryState) → opened_in (run world events moment).past p ≤ opened_in moment.past p + length events
 opened_run p world [] moment = omega arith
 opened_run p world (event ∷ events) moment =
     let first = one_event p world moment event in
-    let rest = opened_run p world events (happens world moment event) in omega arith
+    let rest = opened_run p world events (after_event world moment event) in omega arith
 
 -- The events of a scenario
 
 cost_is : (a : Act) → length (events_of a) ≡ cost a
-cost_is (act.Turn peer steps) = length-replicate steps (Turned peer)
+cost_is (act.Turn peer steps) = length-replicate steps (TurnTaken peer)
 cost_is (act.MmioWrite peer offset value) = refl
 cost_is _ = refl
 
@@ -184,9 +184,9 @@ count_is (a ∷ acts) =
     let rest = count_is acts in omega arith
 
 -- after each beginning of a scenario's schedule the number of a peer's sessions has 32 bits
-pub sessions_few : (world : World) (events more : List Event) → IsWorld world → schedule world.acts ≡ events ++ more → (p : ℕ) → opened_in (run world events (beginning world)).past p < 2 ^ 32
+pub sessions_few : (world : World) (events more : List Event) → IsWorld world → schedule world.acts ≡ events ++ more → (p : ℕ) → opened_in (run world events (initial_state world)).past p < 2 ^ 32
 sessions_few world events more is all p =
-    let opened = opened_run p world events (beginning world) in
+    let opened = opened_run p world events (initial_state world) in
     let whole : length (schedule world.acts) ≡ length (events ++ more) = ap length all in
     let parts = length-append events more in
     let count = count_is world.acts in

@@ -13,11 +13,11 @@ use Rattle.doorbell_irq.specs.DeviceRules.{effect_of}
 use Rattle.call_grammar.specs.Steps.{Mark, Saw, Reclaim, Full, Accept, Look, Deliver, Return, Done, Down, Refuse, Over, Step}
 use Rattle.lawful_history.specs.declared.line.Line.{Line}
 use Rattle.lawful_history.specs.declared.line.Line.TheVariants as line
-use Rattle.lawful_history.specs.Schedule.{Event, Asked, Automated, Stormed, Turned, Acted, WasReset, Reached, Loses, Repeated, DeviceAccess, ReadsConfig, WritesConfig, ReadsRegister, WritesRegister, ReadsMsix, WritesMsix}
-use Rattle.lawful_history.specs.Entries.{Entry, mark_line, access_lines, step_lines, turn_lines, denied_lines, acted_lines, lines_by, lines_of}
-use Rattle.lawful_history.specs.Device.{devices_of, device_events, arrival, arrived, arrivals_by, lost_count, told_by, brought_by, step_interrupts, reached_line, device_lines, losses_with, DeviceRules}
-use Rattle.lawful_history.specs.Sessions.{enters_run, session_mark, marks_before, with_sessions, told_line, told_in, without_sessions, is_session}
-use Rattle.lawful_history.specs.Lawful.{IsLawful, HasOneHistory, HasOneHistoryIn, HasNoMarksInOne, HasMarksInTwo, IsToldInTwo}
+use Rattle.lawful_history.specs.Schedule.{Event, CallQueued, AutoStarted, StormStarted, TurnTaken, RegionAccessed, DeviceReset, DeviceAccessed, InterruptDropped, InterruptRepeated, DeviceAccess, ReadsConfig, WritesConfig, ReadsRegister, WritesRegister, ReadsMsix, WritesMsix}
+use Rattle.lawful_history.specs.EventRecords.{EventRecord, mark_line, access_lines, step_lines, turn_lines, denied_lines, region_access_lines, lines_by, lines_of}
+use Rattle.lawful_history.specs.Device.{devices_of, device_events, arrival, arrived, arrivals_by, lost_count, device_event_of, brought_by, step_interrupts, device_access_line, device_lines, losses_with, DeviceRules}
+use Rattle.lawful_history.specs.Sessions.{enters_run, session_mark, marks_before, with_sessions, recorded_line, recorded_in, without_sessions, is_session}
+use Rattle.lawful_history.specs.Lawful.{IsLawful, HasOneHistory, HasOneHistoryIn, HasNoMarksInOne, HasMarksInTwo, HasRecordInTwo}
 use Rattle.lawful_history.specs.History.{history, HistoryIsLawful, HistoryIsLawfulIn}
 
 -- The marks of one list after another
@@ -41,7 +41,7 @@ told_by_test world past line false = reverse-append (line ∷ []) past
 
 -- what a record tells of a history grows by what it tells of the newest line
 pub told_in-more : (world : World) (version : ℕ) (past : List Line) (line : Line) →
-    told_in world version (reverse (line ∷ past)) ≡ told_in world version (reverse past) ++ told_line world version past line
+    recorded_in world version (reverse (line ∷ past)) ≡ recorded_in world version (reverse past) ++ recorded_line world version past line
 told_in-more world version past line = told_by_test world past line (version == 2)
 
 -- A record without its marks of sessions
@@ -88,13 +88,13 @@ bare_arrivals world older losses line (Some event) = bare_arrived (line ∷ olde
 
 bare_brought : (world : World) (older : List Line) (losses : ℕ → ℕ) (lines : List Line) → IsBare (brought_by world older losses lines)
 bare_brought world older losses [] = refl
-bare_brought world older losses (line ∷ lines) = bare_arrivals world older losses line (told_by line)
+bare_brought world older losses (line ∷ lines) = bare_arrivals world older losses line (device_event_of line)
 
 bare_interrupts : (world : World) (older : List Line) (losses : ℕ → ℕ) (p : ℕ) (went : Option Step) → IsBare (step_interrupts world older losses p went)
 bare_interrupts world older losses p None = refl
 bare_interrupts world older losses p (Some step) = bare_brought world older losses (access_lines p step.access step.value)
 
-bare_reached : (world : World) (older : List Line) (p : ℕ) (a : DeviceAccess) → IsBare (reached_line world older p a ∷ [])
+bare_reached : (world : World) (older : List Line) (p : ℕ) (a : DeviceAccess) → IsBare (device_access_line world older p a ∷ [])
 bare_reached world older p (ReadsConfig offset width) = refl
 bare_reached world older p (WritesConfig offset width value) = refl
 bare_reached world older p (ReadsRegister offset) = refl
@@ -103,15 +103,15 @@ bare_reached world older p (ReadsMsix offset) = refl
 bare_reached world older p (WritesMsix offset value) = refl
 
 bare_device : (world : World) (older : List Line) (losses : ℕ → ℕ) (event : Event) (went : Option Step) → IsBare (device_lines world older losses event went)
-bare_device world older losses (Asked p call) went = refl
-bare_device world older losses (Automated p expected) went = refl
-bare_device world older losses (Stormed p seed) went = refl
-bare_device world older losses (Turned p) went = bare_interrupts world older losses p went
-bare_device world older losses (Acted p a) went = bare_interrupts world older losses p went
-bare_device world older losses (WasReset p) went = bare_arrivals world older losses (line.Reset p) (told_by (line.Reset p))
-bare_device world older losses (Reached p a) went = bare_reached world older p a
-bare_device world older losses (Loses p) went = refl
-bare_device world older losses (Repeated p vector) went = refl
+bare_device world older losses (CallQueued p call) went = refl
+bare_device world older losses (AutoStarted p expected) went = refl
+bare_device world older losses (StormStarted p seed) went = refl
+bare_device world older losses (TurnTaken p) went = bare_interrupts world older losses p went
+bare_device world older losses (RegionAccessed p a) went = bare_interrupts world older losses p went
+bare_device world older losses (DeviceReset p) went = bare_arrivals world older losses (line.Reset p) (device_event_of (line.Reset p))
+bare_device world older losses (DeviceAccessed p a) went = bare_reached world older p a
+bare_device world older losses (InterruptDropped p) went = refl
+bare_device world older losses (InterruptRepeated p vector) went = refl
 
 bare_mark : (p : ℕ) (mark : Mark) (lines : List Line) → IsBare lines → IsBare (mark_line p mark ∷ lines)
 bare_mark p (Saw value) lines rest = ap (λ ls. line.Saw p value ∷ ls) rest
@@ -153,22 +153,22 @@ bare_denied p (access.State state) = refl
 bare_denied p (access.Ring target vector) = refl
 bare_denied p access.Nothing = refl
 
-bare_acted : (p : ℕ) (a : Access) (went : Option Step) (dev : List Line) → IsBare dev → IsBare (acted_lines p a went dev)
+bare_acted : (p : ℕ) (a : Access) (went : Option Step) (dev : List Line) → IsBare dev → IsBare (region_access_lines p a went dev)
 bare_acted p a None dev bare = bare_append (denied_lines p a) dev (bare_denied p a) bare
 bare_acted p a (Some step) dev bare = bare_step p step dev bare
 
 bare_by : (event : Event) (went : Option Step) (dev : List Line) → IsBare dev → IsBare (lines_by event went dev)
-bare_by (Asked p call) went dev bare = bare
-bare_by (Automated p expected) went dev bare = bare
-bare_by (Stormed p seed) went dev bare = bare
-bare_by (Turned p) went dev bare = bare_turn p went dev bare
-bare_by (Acted p a) went dev bare = bare_acted p a went dev bare
-bare_by (WasReset p) went dev bare = ap (λ ls. line.Reset p ∷ ls) bare
-bare_by (Reached p a) went dev bare = bare
-bare_by (Loses p) went dev bare = bare
-bare_by (Repeated p vector) went dev bare = bare
+bare_by (CallQueued p call) went dev bare = bare
+bare_by (AutoStarted p expected) went dev bare = bare
+bare_by (StormStarted p seed) went dev bare = bare
+bare_by (TurnTaken p) went dev bare = bare_turn p went dev bare
+bare_by (RegionAccessed p a) went dev bare = bare_acted p a went dev bare
+bare_by (DeviceReset p) went dev bare = ap (λ ls. line.Reset p ∷ ls) bare
+bare_by (DeviceAccessed p a) went dev bare = bare
+bare_by (InterruptDropped p) went dev bare = bare
+bare_by (InterruptRepeated p vector) went dev bare = bare
 
-bare_entries : (world : World) (older : List Line) (losses : ℕ → ℕ) (entries : List Entry) → DeviceRules world older losses entries → IsBare (flat_map lines_of entries)
+bare_entries : (world : World) (older : List Line) (losses : ℕ → ℕ) (entries : List EventRecord) → DeviceRules world older losses entries → IsBare (flat_map lines_of entries)
 bare_entries world older losses [] rules = refl
 bare_entries world older losses (entry ∷ entries) rules =
     let dev : IsBare entry.device = subst IsBare (sym rules.0) (bare_device world older losses entry.event entry.went) in
@@ -183,7 +183,7 @@ lawful_is_bare world lines lawful = subst IsBare lawful.1.told (bare_entries wor
 
 pub one_in_lem : HasOneHistory → HasOneHistoryIn
 one_in_lem one world version lines others first second =
-    first.2 ∙ ap (told_in world version) (one world first.0 second.0 first.1 second.1) ∙ sym second.2
+    first.2 ∙ ap (recorded_in world version) (one world first.0 second.0 first.1 second.1) ∙ sym second.2
 
 pub lawful_in_lem : HistoryIsLawful → HistoryIsLawfulIn
 lawful_in_lem exists world version is = (history world, exists world is, refl)
@@ -196,5 +196,5 @@ two_lem world lines is =
     let bare : without_sessions lines ≡ is.0 = ap without_sessions is.2 ∙ without_with world [] is.0 ∙ lawful_is_bare world is.0 is.1 in
     (subst (IsLawful world) (sym bare) is.1, is.2 ∙ ap (with_sessions world []) (sym bare))
 
-pub told_lem : IsToldInTwo
+pub told_lem : HasRecordInTwo
 told_lem world lines lawful = ((lines, lawful, refl), without_with world [] lines ∙ lawful_is_bare world lines lawful)

@@ -2,7 +2,7 @@
 use Rattle.std.proofs.Common.{◌≡◌, ◌≢◌, ℕ, ◌<◌, ◌≤◌, true, false, List, ◌∷◌, refl, arith}
 use Rattle.std.proofs.lemmas.Bool.Decides.{nat_tests}
 use Rattle.std.specs.Prelude.{◌==◌, nat_lt}
-use Rattle.lawful_history.specs.Entries.{Entry, owner, own}
+use Rattle.lawful_history.specs.EventRecords.{EventRecord, owner, own}
 
 pub is_same : (a b : ℕ) → (a == b) ≡ true → a ≡ b
 is_same a b is = grind (arith, nat_tests)
@@ -10,7 +10,7 @@ is_same a b is = grind (arith, nat_tests)
 pub same_test : (a : ℕ) → (a == a) ≡ true
 same_test a = grind (arith, nat_tests)
 
-pub own_first : (entry : Entry) (entries : List Entry) → own (owner entry) (entry ∷ entries) ≡ entry ∷ own (owner entry) entries
+pub own_first : (entry : EventRecord) (entries : List EventRecord) → own (owner entry) (entry ∷ entries) ≡ entry ∷ own (owner entry) entries
 own_first entry entries = rw (same_test (owner entry)) refl
 
 pub is_other : (a b : ℕ) → (a == b) ≡ false → b ≢ a

@@ -9,8 +9,8 @@ use Rattle.scenario_text.specs.Scenario.{World}
 use Rattle.call_grammar.specs.Steps.{Step}
 use Rattle.lawful_history.specs.declared.line.Line.{Line}
 use Rattle.lawful_history.specs.declared.line.Line.TheVariants as line
-use Rattle.lawful_history.specs.Schedule.{Event, Asked, Automated, Stormed, Turned, Acted, WasReset, Reached, Loses, Repeated, DeviceAccess, ReadsConfig, WritesConfig, ReadsRegister, WritesRegister, ReadsMsix, WritesMsix}
-use Rattle.lawful_history.specs.Entries.{Entry, access_lines, lines_of}
+use Rattle.lawful_history.specs.Schedule.{Event, CallQueued, AutoStarted, StormStarted, TurnTaken, RegionAccessed, DeviceReset, DeviceAccessed, InterruptDropped, InterruptRepeated, DeviceAccess, ReadsConfig, WritesConfig, ReadsRegister, WritesRegister, ReadsMsix, WritesMsix}
+use Rattle.lawful_history.specs.EventRecords.{EventRecord, access_lines, lines_of}
 
 -- the scenario's world, as its devices are
 abbrev pub devices_of : World → device.Devices
@@ -18,23 +18,23 @@ devices_of world = record { shape = world.geometry; wiring = world.wiring }
 
 -- what a line tells the devices: a write of State, of the Doorbell or of another register, of the configuration space or of the MSI-X region,
 -- or a reset
-abbrev pub told_by : Line → Option device.Event
-told_by (line.State peer value) = Some (device.RegisterWritten peer device.state_register value)
-told_by (line.Doorbell peer target vector) = Some (device.RegisterWritten peer device.doorbell_register (device.doorbell_word target vector))
-told_by (line.Reset peer) = Some (device.WasReset peer)
-told_by (line.ConfigWrite peer offset width value) = Some (device.ConfigWritten peer offset width value)
-told_by (line.RegisterWrite peer offset value) = Some (device.RegisterWritten peer offset value)
-told_by (line.MsixWrite peer offset value) = Some (device.MsixWritten peer offset value)
-told_by _ = None
+abbrev pub device_event_of : Line → Option device.Event
+device_event_of (line.State peer value) = Some (device.RegisterWritten peer device.state_register value)
+device_event_of (line.Doorbell peer target vector) = Some (device.RegisterWritten peer device.doorbell_register (device.doorbell_word target vector))
+device_event_of (line.Reset peer) = Some (device.WasReset peer)
+device_event_of (line.ConfigWrite peer offset width value) = Some (device.ConfigWritten peer offset width value)
+device_event_of (line.RegisterWrite peer offset value) = Some (device.RegisterWritten peer offset value)
+device_event_of (line.MsixWrite peer offset value) = Some (device.MsixWritten peer offset value)
+device_event_of _ = None
 
-abbrev pub told_before : Option device.Event → List device.Event → List device.Event
-told_before None events = events
-told_before (Some event) events = event ∷ events
+abbrev pub with_device_event : Option device.Event → List device.Event → List device.Event
+with_device_event None events = events
+with_device_event (Some event) events = event ∷ events
 
 -- what these lines tell the devices; of lines and events the newest is the first
 abbrev pub device_events : List Line → List device.Event
 device_events [] = []
-device_events (line ∷ older) = told_before (told_by line) (device_events older)
+device_events (line ∷ older) = with_device_event (device_event_of line) (device_events older)
 
 -- the line is an interrupt of this peer that was lost
 abbrev pub lost_by : Line → ℕ → ℕ
@@ -63,7 +63,7 @@ arrivals_by world older losses line None = []
 arrivals_by world older losses line (Some event) = arrived (line ∷ older) losses (effect_of (devices_of world) (device_events older) event).deliveries.items
 
 abbrev pub arrivals : World → List Line → (ℕ → ℕ) → Line → List Line
-arrivals world older losses line = arrivals_by world older losses line (told_by line)
+arrivals world older losses line = arrivals_by world older losses line (device_event_of line)
 
 -- the interrupts that the line of an access brings
 abbrev pub brought_by : World → List Line → (ℕ → ℕ) → List Line → List Line
@@ -79,34 +79,34 @@ abbrev pub bytes_of : World → List Line → ℕ → Bytes
 bytes_of world older peer = bytes_after (devices_of world) (device_events older) peer
 
 -- the line of an access to a part of the device: what is read there after these lines, or what is written
-abbrev pub reached_line : World → List Line → ℕ → DeviceAccess → Line
-reached_line world older peer (ReadsConfig offset width) =
+abbrev pub device_access_line : World → List Line → ℕ → DeviceAccess → Line
+device_access_line world older peer (ReadsConfig offset width) =
     line.ConfigRead peer offset width (number_from (bytes_of world older peer device.Config) offset width)
-reached_line world older peer (WritesConfig offset width value) = line.ConfigWrite peer offset width value
-reached_line world older peer (ReadsRegister offset) = line.RegisterRead peer offset (register_at (bytes_of world older peer) offset)
-reached_line world older peer (WritesRegister offset value) = line.RegisterWrite peer offset value
-reached_line world older peer (ReadsMsix offset) = line.MsixRead peer offset (msix_at world.wiring (bytes_of world older peer) offset)
-reached_line world older peer (WritesMsix offset value) = line.MsixWrite peer offset value
+device_access_line world older peer (WritesConfig offset width value) = line.ConfigWrite peer offset width value
+device_access_line world older peer (ReadsRegister offset) = line.RegisterRead peer offset (register_at (bytes_of world older peer) offset)
+device_access_line world older peer (WritesRegister offset value) = line.RegisterWrite peer offset value
+device_access_line world older peer (ReadsMsix offset) = line.MsixRead peer offset (msix_at world.wiring (bytes_of world older peer) offset)
+device_access_line world older peer (WritesMsix offset value) = line.MsixWrite peer offset value
 
 -- the device's lines of an event in which this step was made, after these lines, where so many interrupts of each peer are to be lost
 abbrev pub device_lines : World → List Line → (ℕ → ℕ) → Event → Option Step → List Line
-device_lines world older losses (Asked peer call) went = []
-device_lines world older losses (Automated peer expected) went = []
-device_lines world older losses (Stormed peer seed) went = []
-device_lines world older losses (Turned peer) went = step_interrupts world older losses peer went
-device_lines world older losses (Acted peer a) went = step_interrupts world older losses peer went
-device_lines world older losses (WasReset peer) went = arrivals world older losses (line.Reset peer)
-device_lines world older losses (Reached peer a) went = reached_line world older peer a ∷ []
-device_lines world older losses (Loses peer) went = []
-device_lines world older losses (Repeated peer vector) went = line.Interrupt peer vector ∷ []
+device_lines world older losses (CallQueued peer call) went = []
+device_lines world older losses (AutoStarted peer expected) went = []
+device_lines world older losses (StormStarted peer seed) went = []
+device_lines world older losses (TurnTaken peer) went = step_interrupts world older losses peer went
+device_lines world older losses (RegionAccessed peer a) went = step_interrupts world older losses peer went
+device_lines world older losses (DeviceReset peer) went = arrivals world older losses (line.Reset peer)
+device_lines world older losses (DeviceAccessed peer a) went = device_access_line world older peer a ∷ []
+device_lines world older losses (InterruptDropped peer) went = []
+device_lines world older losses (InterruptRepeated peer vector) went = line.Interrupt peer vector ∷ []
 
 -- one more interrupt of the peer is to be lost
 abbrev pub losses_with : Event → (ℕ → ℕ) → ℕ → ℕ
-losses_with (Loses peer) losses at = if peer == at then losses at + 1 else losses at
+losses_with (InterruptDropped peer) losses at = if peer == at then losses at + 1 else losses at
 losses_with _ losses at = losses at
 
 -- the device's rules over entries that stand after these older lines, of which the newest is the first
-abbrev pub DeviceRules : World → List Line → (ℕ → ℕ) → List Entry → Type 0
+abbrev pub DeviceRules : World → List Line → (ℕ → ℕ) → List EventRecord → Type 0
 DeviceRules world older losses [] = Unit {0}
 DeviceRules world older losses (entry ∷ entries) =
     (entry.device ≡ device_lines world older losses entry.event entry.went)

@@ -10,18 +10,18 @@ use Rattle.call_grammar.specs.Trees.{CallTree, Ended, Does, Reads}
 use Rattle.call_grammar.specs.Automatic.{Chosen, round_since}
 use Rattle.lawful_history.specs.declared.line.Line.{Line}
 use Rattle.lawful_history.specs.Memory.{last_write}
-use Rattle.lawful_history.specs.Schedule.{Event, Asked, Automated, Stormed, Turned, Acted, WasReset, Reached, Loses, Repeated, event_peer, schedule}
-use Rattle.lawful_history.specs.Sides.{who_of}
-use Rattle.lawful_history.specs.Entries.{Entry, lines_of}
+use Rattle.lawful_history.specs.Schedule.{Event, CallQueued, AutoStarted, StormStarted, TurnTaken, RegionAccessed, DeviceReset, DeviceAccessed, InterruptDropped, InterruptRepeated, event_peer, schedule}
+use Rattle.lawful_history.specs.Sides.{config_of}
+use Rattle.lawful_history.specs.EventRecords.{EventRecord, lines_of}
 use Rattle.lawful_history.specs.Storm.{storm_step, storm_after}
-use Rattle.lawful_history.specs.Peers.{Peer, Driver, Waits, Chooses, Storms, at_start, asked, automated, stormed, was_reset, opened, stepped}
-use Rattle.lawful_history.specs.Order.{Chooser, Nobody, TheRule, TheStorm, chooser, asked_since, frames_left, delivered_in, Progress, Acts, noted}
+use Rattle.lawful_history.specs.Peers.{Peer, Driver, Waits, Chooses, Storms, at_start, with_call, automated, stormed, was_reset, opened, stepped}
+use Rattle.lawful_history.specs.Order.{Chooser, Nobody, TheRule, TheStorm, chooser, queued_since_reset, frames_left, delivered_in, Progress, EventStep, noted}
 use Rattle.lawful_history.specs.Device.{device_lines, losses_with}
-use Rattle.lawful_history.specs.Sessions.{told_in}
+use Rattle.lawful_history.specs.Sessions.{recorded_in}
 use Rattle.lawful_history.specs.Lawful.{IsLawful, IsLawfulIn}
 
 -- the lines so far, of which the newest is the first, how many interrupts of each peer are to be lost, and where each peer is, from peer 0
-pub record Moment : Type 0 where
+pub record HistoryState : Type 0 where
   pub past : List Line
   pub losses : ℕ → ℕ
   pub peers : List Peer
@@ -58,10 +58,10 @@ moved peer past = moved_by peer peer.left past
 
 -- the step of a peer's turn, and where the peer is after it
 abbrev pub turn_step : World → ℕ → Peer → List Line → Option Step
-turn_step world p peer past = step_by world p (opened (who_of world p) peer).driver (opened (who_of world p) peer).left past
+turn_step world p peer past = step_by world p (opened (config_of world p) peer).driver (opened (config_of world p) peer).left past
 
 abbrev pub turned : World → ℕ → Peer → List Line → Peer
-turned world p peer past = moved (opened (who_of world p) peer) past
+turned world p peer past = moved (opened (config_of world p) peer) past
 
 -- whether a peer may write a word: it lies in the peer's output section or in the common section
 abbrev pub may_write : Shape → ℕ → ℕ → Bool
@@ -78,61 +78,61 @@ acted_step world p access.Nothing past = Some (step_of access.Nothing 0 [])
 
 -- the step that is made in an event, and where its peer is after it
 abbrev pub step_in : World → Peer → List Line → Event → Option Step
-step_in world peer past (Asked p call) = None
-step_in world peer past (Automated p expected) = None
-step_in world peer past (Stormed p seed) = None
-step_in world peer past (Turned p) = turn_step world p peer past
-step_in world peer past (Acted p a) = acted_step world p a past
-step_in world peer past (WasReset p) = None
-step_in world peer past (Reached p a) = None
-step_in world peer past (Loses p) = None
-step_in world peer past (Repeated p vector) = None
+step_in world peer past (CallQueued p call) = None
+step_in world peer past (AutoStarted p expected) = None
+step_in world peer past (StormStarted p seed) = None
+step_in world peer past (TurnTaken p) = turn_step world p peer past
+step_in world peer past (RegionAccessed p a) = acted_step world p a past
+step_in world peer past (DeviceReset p) = None
+step_in world peer past (DeviceAccessed p a) = None
+step_in world peer past (InterruptDropped p) = None
+step_in world peer past (InterruptRepeated p vector) = None
 
 abbrev pub peer_in : World → Peer → List Line → Event → Peer
-peer_in world peer past (Asked p call) = asked peer call
-peer_in world peer past (Automated p expected) = automated peer expected
-peer_in world peer past (Stormed p seed) = stormed peer seed
-peer_in world peer past (Turned p) = turned world p peer past
-peer_in world peer past (Acted p a) = peer
-peer_in world peer past (WasReset p) = was_reset peer
-peer_in world peer past (Reached p a) = peer
-peer_in world peer past (Loses p) = peer
-peer_in world peer past (Repeated p vector) = peer
+peer_in world peer past (CallQueued p call) = with_call peer call
+peer_in world peer past (AutoStarted p expected) = automated peer expected
+peer_in world peer past (StormStarted p seed) = stormed peer seed
+peer_in world peer past (TurnTaken p) = turned world p peer past
+peer_in world peer past (RegionAccessed p a) = peer
+peer_in world peer past (DeviceReset p) = was_reset peer
+peer_in world peer past (DeviceAccessed p a) = peer
+peer_in world peer past (InterruptDropped p) = peer
+peer_in world peer past (InterruptRepeated p vector) = peer
 
-abbrev pub peer_at : Moment → ℕ → Peer
+abbrev pub peer_at : HistoryState → ℕ → Peer
 peer_at moment peer = slice_index_or moment.peers peer at_start
 
 -- the step of an event, its entry, and where its peer is after it
-abbrev pub step_of_event : World → Moment → Event → Option Step
+abbrev pub step_of_event : World → HistoryState → Event → Option Step
 step_of_event world moment event = step_in world (peer_at moment (event_peer event)) moment.past event
 
-abbrev pub entry_of : World → Moment → Event → Entry
+abbrev pub entry_of : World → HistoryState → Event → EventRecord
 entry_of world moment event = record {
   event = event;
   went = step_of_event world moment event;
   device = device_lines world moment.past moment.losses event (step_of_event world moment event);
 }
 
-abbrev pub peer_after : World → Moment → Event → Peer
+abbrev pub peer_after : World → HistoryState → Event → Peer
 peer_after world moment event = peer_in world (peer_at moment (event_peer event)) moment.past event
 
-abbrev pub happens : World → Moment → Event → Moment
-happens world moment event = record {
+abbrev pub after_event : World → HistoryState → Event → HistoryState
+after_event world moment event = record {
   past = reverse (lines_of (entry_of world moment event)) ++ moment.past;
   losses = losses_with event moment.losses;
   peers = slice_set moment.peers (event_peer event) (peer_after world moment event);
 }
 
-abbrev pub run : World → List Event → Moment → Moment
+abbrev pub run : World → List Event → HistoryState → HistoryState
 run world [] moment = moment
-run world (event ∷ events) moment = run world events (happens world moment event)
+run world (event ∷ events) moment = run world events (after_event world moment event)
 
-abbrev pub beginning : World → Moment
-beginning world = record { past = []; losses = λ peer. 0; peers = replicate world.geometry.peers at_start }
+abbrev pub initial_state : World → HistoryState
+initial_state world = record { past = []; losses = λ peer. 0; peers = replicate world.geometry.peers at_start }
 
 -- the history of the scenario
 abbrev pub history : World → List Line
-history world = reverse (run world (schedule world.acts) (beginning world)).past
+history world = reverse (run world (schedule world.acts) (initial_state world)).past
 
 -- What is kept of a peer, and the order of its calls
 
@@ -144,28 +144,28 @@ driver_of frames delivered before generator (TheRule expected) =
 driver_of frames delivered before generator TheStorm = Storms generator
 
 -- what is kept of a peer that has made its calls so far: of the calls that were asked for since the last reset those wait that it didn't begin
-abbrev pub kept_of : Progress → Peer
-kept_of peer = record {
+abbrev pub peer_of_progress : Progress → Peer
+peer_of_progress peer = record {
   end = peer.end;
   left = peer.left;
-  waiting = drop peer.begun (asked_since peer.past);
+  waiting = drop peer.begun (queued_since_reset peer.past);
   driver = driver_of (frames_left peer.past) (delivered_in peer.past) peer.before peer.generator (chooser peer.past);
 }
 
 -- no more calls were begun than asked for
 abbrev pub IsWithin : Progress → Type 0
-IsWithin peer = peer.begun ≤ length (asked_since peer.past)
+IsWithin peer = peer.begun ≤ length (queued_since_reset peer.past)
 
 -- the step of an event, computed from what is kept of its peer, is in order, and what is kept of it then is that of the peer after the event
 abbrev pub GoesOnInOrder : World → Progress → List Line → Event → List Line → Type 0
 GoesOnInOrder world peer past event device =
-    (mid : Progress) × Acts world (event_peer event) peer event (step_in world (kept_of peer) past event) mid
-    × (peer_in world (kept_of peer) past event ≡ kept_of (noted mid (record {
+    (mid : Progress) × EventStep world (event_peer event) peer event (step_in world (peer_of_progress peer) past event) mid
+    × (peer_in world (peer_of_progress peer) past event ≡ peer_of_progress (noted mid (record {
       event = event;
-      went = step_in world (kept_of peer) past event;
+      went = step_in world (peer_of_progress peer) past event;
       device = device;
     })))
-    × IsWithin (noted mid (record { event = event; went = step_in world (kept_of peer) past event; device = device }))
+    × IsWithin (noted mid (record { event = event; went = step_in world (peer_of_progress peer) past event; device = device }))
 
 -- what the computed history keeps of its peers goes on, by each event, as the order of their calls does
 abbrev pub PeersKeepOrder : Type 0
@@ -178,7 +178,7 @@ HistoryIsLawful = (world : World) → IsWorld world → IsLawful world (history 
 
 -- and a record of each version tells it
 abbrev pub HistoryIsLawfulIn : Type 0
-HistoryIsLawfulIn = (world : World) (version : ℕ) → IsWorld world → IsLawfulIn world version (told_in world version (history world))
+HistoryIsLawfulIn = (world : World) (version : ℕ) → IsWorld world → IsLawfulIn world version (recorded_in world version (history world))
 
 -- a schedule that goes on from where another one ends has a history that goes on from the other's: of two lawful histories one begins the other where
 -- one is cut

@@ -7,28 +7,28 @@ use Rattle.lawful_history.specs.declared.line.Line.{Line}
 use Rattle.lawful_history.specs.declared.line.Line.TheVariants.{Read, Write}
 use Rattle.lawful_history.specs.Memory.{MemoryLaw, WasWrittenLast}
 use Rattle.lawful_history.specs.Schedule.{schedule}
-use Rattle.lawful_history.specs.Entries.{Entry, event_of, owner, lines_of, own}
-use Rattle.lawful_history.specs.Order.{Progress, outset, Serves}
+use Rattle.lawful_history.specs.EventRecords.{EventRecord, event_of, owner, lines_of, own}
+use Rattle.lawful_history.specs.Order.{Progress, initial_progress, IsCallSequence}
 use Rattle.lawful_history.specs.Device.{DeviceRules}
-use Rattle.lawful_history.specs.Sessions.{told_in, with_sessions, without_sessions}
+use Rattle.lawful_history.specs.Sessions.{recorded_in, with_sessions, without_sessions}
 
 -- These entries make up a lawful history of the scenario: their events are the schedule, each is one of the world's peers, the
 -- lines are theirs, reads and writes keep the memory law, the device's rules hold, and each peer's entries are its calls in order
-pub record IsLawfulBy (world : World) (lines : List Line) (entries : List Entry) : Type 0 where
+pub record IsLawfulBy (world : World) (lines : List Line) (entries : List EventRecord) : Type 0 where
   pub events : map event_of entries ≡ schedule world.acts
   pub owners : All (λ entry. owner entry < world.geometry.peers) entries
   pub told : flat_map lines_of entries ≡ lines
   pub memory : MemoryLaw world.geometry (reverse lines)
   pub device : DeviceRules world [] (λ peer. 0) entries
-  pub calls : (peer : ℕ) → peer < world.geometry.peers → (end : Progress) × Serves world peer outset (own peer entries) end
+  pub calls : (peer : ℕ) → peer < world.geometry.peers → (end : Progress) × IsCallSequence world peer initial_progress (own peer entries) end
 
 -- the lines are a lawful history of the scenario: some entries make them up
 abbrev pub IsLawful : World → List Line → Type 0
-IsLawful world lines = (entries : List Entry) × IsLawfulBy world lines entries
+IsLawful world lines = (entries : List EventRecord) × IsLawfulBy world lines entries
 
 -- the lines are what a record of this version tells of a lawful history of the scenario
 abbrev pub IsLawfulIn : World → (version : ℕ) → List Line → Type 0
-IsLawfulIn world version lines = (history : List Line) × IsLawful world history × (lines ≡ told_in world version history)
+IsLawfulIn world version lines = (history : List Line) × IsLawful world history × (lines ≡ recorded_in world version history)
 
 -- a scenario has one lawful history at most
 abbrev pub HasOneHistory : Type 0
@@ -49,8 +49,8 @@ HasMarksInTwo = (world : World) (lines : List Line) → IsLawfulIn world 2 lines
     IsLawful world (without_sessions lines) × (lines ≡ with_sessions world [] (without_sessions lines))
 
 -- and each lawful history is told so
-abbrev pub IsToldInTwo : Type 0
-IsToldInTwo = (world : World) (history : List Line) → IsLawful world history →
+abbrev pub HasRecordInTwo : Type 0
+HasRecordInTwo = (world : World) (history : List Line) → IsLawful world history →
     IsLawfulIn world 2 (with_sessions world [] history) × (without_sessions (with_sessions world [] history) ≡ history)
 
 -- what a read of a lawful history gave is what was written last

@@ -2,8 +2,8 @@ pub mod Sides
 pub mod Frames
 pub mod Memory
 pub mod Schedule
-pub mod Given
-pub mod Entries
+pub mod Permitted
+pub mod EventRecords
 pub mod Storm
 pub mod Order
 pub mod Peers

@@ -7,24 +7,24 @@ use Rattle.lawful_history.specs.declared.line.Line.{Line}
 use Rattle.lawful_history.specs.declared.line.Line.TheVariants as line
 
 -- what a line says of a word of the region: what a read gave, what a peer stored, where it was denied, what the device set, or nothing
-pub data Touch : Type 0 where
-  Gave : (word value : ℕ) → Touch
-  Stored : (peer word value : ℕ) → Touch
-  Denied : (peer word : ℕ) → Touch
-  Set : (word value : ℕ) → Touch
-  Apart : Touch
+pub data MemoryEffect : Type 0 where
+  Gave : (word value : ℕ) → MemoryEffect
+  Stored : (peer word value : ℕ) → MemoryEffect
+  Denied : (peer word : ℕ) → MemoryEffect
+  Set : (word value : ℕ) → MemoryEffect
+  Apart : MemoryEffect
 
 -- a State write sets the peer's word of the State Table, and a device reset sets it to 0 (the device's specification, "State register")
-abbrev pub touch_of : Line → Touch
-touch_of (line.Read peer word value) = Gave word value
-touch_of (line.Write peer word value) = Stored peer word value
-touch_of (line.Denied peer word) = Denied peer word
-touch_of (line.State peer value) = Set peer value
-touch_of (line.Reset peer) = Set peer 0
-touch_of _ = Apart
+abbrev pub memory_effect_of : Line → MemoryEffect
+memory_effect_of (line.Read peer word value) = Gave word value
+memory_effect_of (line.Write peer word value) = Stored peer word value
+memory_effect_of (line.Denied peer word) = Denied peer word
+memory_effect_of (line.State peer value) = Set peer value
+memory_effect_of (line.Reset peer) = Set peer 0
+memory_effect_of _ = Apart
 
 -- what a word holds after such a line, where it held this before
-abbrev pub value_after : Touch → ℕ → ℕ → ℕ
+abbrev pub value_after : MemoryEffect → ℕ → ℕ → ℕ
 value_after (Gave word value) at before = before
 value_after (Stored peer word value) at before = if word == at then value else before
 value_after (Denied peer word) at before = before
@@ -34,33 +34,33 @@ value_after Apart at before = before
 -- what a word holds after these lines, of which the newest is the first; it is 0 at the start
 abbrev pub last_write : List Line → ℕ → ℕ
 last_write [] at = 0
-last_write (line ∷ older) at = value_after (touch_of line) at (last_write older at)
+last_write (line ∷ older) at = value_after (memory_effect_of line) at (last_write older at)
 
 -- what the memory law asks of a line after the older ones
-abbrev pub Remembers : Shape → Touch → List Line → Type 0
-Remembers g (Gave word value) older = value ≡ last_write older word
-Remembers g (Stored peer word value) older = MayWrite g peer word
-Remembers g (Denied peer word) older = ¬ MayWrite g peer word
-Remembers g (Set word value) older = Unit {0}
-Remembers g Apart older = Unit {0}
+abbrev pub IsConsistent : Shape → MemoryEffect → List Line → Type 0
+IsConsistent g (Gave word value) older = value ≡ last_write older word
+IsConsistent g (Stored peer word value) older = MayWrite g peer word
+IsConsistent g (Denied peer word) older = ¬ MayWrite g peer word
+IsConsistent g (Set word value) older = Unit {0}
+IsConsistent g Apart older = Unit {0}
 
 -- the memory law of a history, of which the newest line is the first (words are sequentially consistent: profile)
 abbrev pub MemoryLaw : Shape → List Line → Type 0
 MemoryLaw g [] = Unit {0}
-MemoryLaw g (line ∷ older) = Remembers g (touch_of line) older × MemoryLaw g older
+MemoryLaw g (line ∷ older) = IsConsistent g (memory_effect_of line) older × MemoryLaw g older
 
 -- What the law gives, in the words of a reader of histories
 
 -- the line leaves this value in the word
-abbrev pub Leaves : ℕ → ℕ → Line → Type 0
-Leaves word value line = (touch_of line ≡ Set word value) ⊎ ((peer : ℕ) × (touch_of line ≡ Stored peer word value))
+abbrev pub LeavesValue : ℕ → ℕ → Line → Type 0
+LeavesValue word value line = (memory_effect_of line ≡ Set word value) ⊎ ((peer : ℕ) × (memory_effect_of line ≡ Stored peer word value))
 
 -- the line leaves no value in the word
-abbrev pub Spares : ℕ → Line → Type 0
-Spares word line = (value : ℕ) → ¬ Leaves word value line
+abbrev pub DoesNotWrite : ℕ → Line → Type 0
+DoesNotWrite word line = (value : ℕ) → ¬ LeavesValue word value line
 
 -- some line of these left the value in the word and none after it another one, or none left any and the value is 0
 abbrev pub WasWrittenLast : List Line → ℕ → ℕ → Type 0
 WasWrittenLast before word value =
-    ((early late : List Line) × (line : Line) × (before ≡ early ++ line ∷ late) × Leaves word value line × All (Spares word) late)
-    ⊎ (All (Spares word) before × (value ≡ 0))
+    ((early late : List Line) × (line : Line) × (before ≡ early ++ line ∷ late) × LeavesValue word value line × All (DoesNotWrite word) late)
+    ⊎ (All (DoesNotWrite word) before × (value ≡ 0))

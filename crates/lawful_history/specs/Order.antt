@@ -6,12 +6,12 @@ use Rattle.scenario_text.specs.Scenario.{World}
 use Rattle.call_grammar.specs.Steps.{Mark, Accept, Deliver, Step, step_of}
 use Rattle.call_grammar.specs.Trees.{CallTree, Ended, Goes}
 use Rattle.call_grammar.specs.Ends.{End, fresh, after_reset, end_after}
-use Rattle.call_grammar.specs.Calls.{Who, Call, Tick, Offer, Poll, tree_of}
+use Rattle.call_grammar.specs.Calls.{EndConfig, Call, Tick, Offer, Poll, tree_of}
 use Rattle.call_grammar.specs.Automatic.{Chosen, Choice, ChoosesTick, ChoosesOffer, ChoosesPoll, IsFinished, choice_by_rule}
-use Rattle.lawful_history.specs.Schedule.{Event, Asked, Automated, Stormed, Turned, Acted, WasReset}
-use Rattle.lawful_history.specs.Sides.{who_of}
+use Rattle.lawful_history.specs.Schedule.{Event, CallQueued, AutoStarted, StormStarted, TurnTaken, RegionAccessed, DeviceReset}
+use Rattle.lawful_history.specs.Sides.{config_of}
 use Rattle.lawful_history.specs.Storm.{storm_step, storm_after}
-use Rattle.lawful_history.specs.Entries.{Entry}
+use Rattle.lawful_history.specs.EventRecords.{EventRecord}
 
 -- What the entries so far say
 
@@ -23,27 +23,27 @@ pub data Chooser : Type 0 where
 
 -- it is as the peer was told last, and a reset changes nothing of it
 abbrev pub chooser_after : Event → Chooser → Chooser
-chooser_after (Automated peer expected) before = TheRule expected
-chooser_after (Stormed peer seed) before = TheStorm
+chooser_after (AutoStarted peer expected) before = TheRule expected
+chooser_after (StormStarted peer seed) before = TheStorm
 chooser_after _ before = before
 
-abbrev pub chooser : List Entry → Chooser
+abbrev pub chooser : List EventRecord → Chooser
 chooser [] = Nobody
 chooser (entry ∷ older) = chooser_after entry.event (chooser older)
 
 -- the calls that were asked for since the last reset, the oldest first; a frame that is offered to an automatic peer is none of them
-abbrev pub asked_with : Chooser → Call → List Call → List Call
-asked_with (TheRule expected) (Offer frame) calls = calls
-asked_with chooser call calls = calls ++ call ∷ []
+abbrev pub queued_with : Chooser → Call → List Call → List Call
+queued_with (TheRule expected) (Offer frame) calls = calls
+queued_with chooser call calls = calls ++ call ∷ []
 
-abbrev pub asked_after : Event → Chooser → List Call → List Call
-asked_after (Asked peer call) chooser calls = asked_with chooser call calls
-asked_after (WasReset peer) chooser calls = []
-asked_after _ chooser calls = calls
+abbrev pub queued_after : Event → Chooser → List Call → List Call
+queued_after (CallQueued peer call) chooser calls = queued_with chooser call calls
+queued_after (DeviceReset peer) chooser calls = []
+queued_after _ chooser calls = calls
 
-abbrev pub asked_since : List Entry → List Call
-asked_since [] = []
-asked_since (entry ∷ older) = asked_after entry.event (chooser older) (asked_since older)
+abbrev pub queued_since_reset : List EventRecord → List Call
+queued_since_reset [] = []
+queued_since_reset (entry ∷ older) = queued_after entry.event (chooser older) (queued_since_reset older)
 
 abbrev pub marks_of : Option Step → List Mark
 marks_of None = []
@@ -63,12 +63,12 @@ without_all_accepted [] frames = frames
 without_all_accepted (mark ∷ marks) frames = without_all_accepted marks (without_accepted mark frames)
 
 abbrev pub frames_after : Event → Option Step → List (List ℕ) → List (List ℕ)
-frames_after (Asked peer call) went frames = with_frame call frames
-frames_after (Automated peer expected) went frames = []
-frames_after (Turned peer) went frames = without_all_accepted (marks_of went) frames
+frames_after (CallQueued peer call) went frames = with_frame call frames
+frames_after (AutoStarted peer expected) went frames = []
+frames_after (TurnTaken peer) went frames = without_all_accepted (marks_of went) frames
 frames_after _ went frames = frames
 
-abbrev pub frames_left : List Entry → List (List ℕ)
+abbrev pub frames_left : List EventRecord → List (List ℕ)
 frames_left [] = []
 frames_left (entry ∷ older) = frames_after entry.event entry.went (frames_left older)
 
@@ -82,11 +82,11 @@ with_all_delivered [] count = count
 with_all_delivered (mark ∷ marks) count = with_all_delivered marks (with_delivered mark count)
 
 abbrev pub delivered_after : Event → Option Step → ℕ → ℕ
-delivered_after (Automated peer expected) went count = 0
-delivered_after (Turned peer) went count = with_all_delivered (marks_of went) count
+delivered_after (AutoStarted peer expected) went count = 0
+delivered_after (TurnTaken peer) went count = with_all_delivered (marks_of went) count
 delivered_after _ went count = count
 
-abbrev pub delivered_in : List Entry → ℕ
+abbrev pub delivered_in : List EventRecord → ℕ
 delivered_in [] = 0
 delivered_in (entry ∷ older) = delivered_after entry.event entry.went (delivered_in older)
 
@@ -95,49 +95,49 @@ delivered_in (entry ∷ older) = delivered_after entry.event entry.went (deliver
 -- its own entries so far; its end of the link and what is left of its open call; how many of the calls that were asked for since the last reset it
 -- began; the call that it chose last; and where the generator of its storm is
 pub record Progress : Type 0 where
-  pub past : List Entry
+  pub past : List EventRecord
   pub end : End
   pub left : CallTree
   pub begun : ℕ
   pub before : Option Chosen
   pub generator : ℕ
 
-abbrev pub outset : Progress
-outset = record { past = []; end = fresh; left = Ended; begun = 0; before = None; generator = 0 }
+abbrev pub initial_progress : Progress
+initial_progress = record { past = []; end = fresh; left = Ended; begun = 0; before = None; generator = 0 }
 
 -- The call that a turn begins
 
 -- the peer begins a call that it chose
-abbrev pub chooses : Who → Progress → Call → Progress
-chooses who peer call = record peer {
-  left = tree_of who peer.end call;
+abbrev pub chooses : EndConfig → Progress → Call → Progress
+chooses config peer call = record peer {
+  left = tree_of config peer.end call;
   before = Some (record { call = call; phase = peer.end.handshake.phase; was_reset = false });
 }
 
-abbrev pub chooses_by : Who → Progress → Choice → Progress
-chooses_by who peer ChoosesTick = chooses who peer Tick
-chooses_by who peer (ChoosesOffer frame) = chooses who peer (Offer frame)
-chooses_by who peer ChoosesPoll = chooses who peer Poll
-chooses_by who peer IsFinished = peer
+abbrev pub chooses_by : EndConfig → Progress → Choice → Progress
+chooses_by config peer ChoosesTick = chooses config peer Tick
+chooses_by config peer (ChoosesOffer frame) = chooses config peer (Offer frame)
+chooses_by config peer ChoosesPoll = chooses config peer Poll
+chooses_by config peer IsFinished = peer
 
-abbrev pub chosen_next : Who → Progress → Chooser → Progress
-chosen_next who peer Nobody = peer
-chosen_next who peer (TheRule expected) =
-    chooses_by who peer (choice_by_rule peer.end.handshake.phase peer.before (frames_left peer.past) (delivered_in peer.past) expected)
-chosen_next who peer TheStorm = peer
+abbrev pub chosen_next : EndConfig → Progress → Chooser → Progress
+chosen_next config peer Nobody = peer
+chosen_next config peer (TheRule expected) =
+    chooses_by config peer (choice_by_rule peer.end.handshake.phase peer.before (frames_left peer.past) (delivered_in peer.past) expected)
+chosen_next config peer TheStorm = peer
 
 -- the next of the calls that were asked for, else the one that is chosen
-abbrev pub asked_or_chosen : Who → Progress → Option Call → Progress
-asked_or_chosen who peer None = chosen_next who peer (chooser peer.past)
-asked_or_chosen who peer (Some call) = record peer { left = tree_of who peer.end call; begun = peer.begun + 1 }
+abbrev pub queued_or_chosen : EndConfig → Progress → Option Call → Progress
+queued_or_chosen config peer None = chosen_next config peer (chooser peer.past)
+queued_or_chosen config peer (Some call) = record peer { left = tree_of config peer.end call; begun = peer.begun + 1 }
 
 -- a call begins when the one before it has ended
-abbrev pub begins_by : Who → Progress → CallTree → Progress
-begins_by who peer Ended = asked_or_chosen who peer (slice_get (asked_since peer.past) peer.begun)
-begins_by who peer _ = peer
+abbrev pub begins_by : EndConfig → Progress → CallTree → Progress
+begins_by config peer Ended = queued_or_chosen config peer (slice_get (queued_since_reset peer.past) peer.begun)
+begins_by config peer _ = peer
 
-abbrev pub begins : Who → Progress → Progress
-begins who peer = begins_by who peer peer.left
+abbrev pub begins : EndConfig → Progress → Progress
+begins config peer = begins_by config peer peer.left
 
 -- A turn
 
@@ -149,18 +149,18 @@ abbrev pub GoesOn : Progress → CallTree → Option Step → Progress → Type 
 GoesOn peer call went new = (step : Step) × (left : CallTree) × (went ≡ Some step) × Goes call step left × (new ≡ goes_to peer step left)
 
 -- a turn without an open call is a step of the storm, if there is one
-abbrev pub Idles : World → ℕ → Progress → Chooser → Option Step → Progress → Type 0
-Idles world p peer TheStorm went new = (went ≡ Some (storm_step world p peer.generator)) × (new ≡ record peer { generator = storm_after peer.generator })
-Idles world p peer _ went new = (went ≡ None) × (new ≡ peer)
+abbrev pub IdleStep : World → ℕ → Progress → Chooser → Option Step → Progress → Type 0
+IdleStep world p peer TheStorm went new = (went ≡ Some (storm_step world p peer.generator)) × (new ≡ record peer { generator = storm_after peer.generator })
+IdleStep world p peer _ went new = (went ≡ None) × (new ≡ peer)
 
-abbrev pub Moves : World → ℕ → Progress → CallTree → Option Step → Progress → Type 0
-Moves world p peer Ended went new = Idles world p peer (chooser peer.past) went new
-Moves world p peer call went new = GoesOn peer call went new
+abbrev pub CallStep : World → ℕ → Progress → CallTree → Option Step → Progress → Type 0
+CallStep world p peer Ended went new = IdleStep world p peer (chooser peer.past) went new
+CallStep world p peer call went new = GoesOn peer call went new
 
 -- a turn is the next step of the open call, else the first step of the next call that was asked for, else of the one that an automatic peer
 -- chooses, else a step of the storm, else none
 abbrev pub Turns : World → ℕ → Progress → Option Step → Progress → Type 0
-Turns world p old went new = Moves world p (begins (who_of world p) old) (begins (who_of world p) old).left went new
+Turns world p old went new = CallStep world p (begins (config_of world p) old) (begins (config_of world p) old).left went new
 
 -- The other events
 
@@ -181,19 +181,19 @@ abbrev pub reset_progress : Progress → Progress
 reset_progress peer = record peer { end = after_reset peer.end; left = Ended; begun = 0; before = cut_call peer.before }
 
 -- what an event of its own does to peer p: the step that is made in it, and where the peer is then
-abbrev pub Acts : World → ℕ → Progress → Event → Option Step → Progress → Type 0
-Acts world p old (Automated peer expected) went new = (went ≡ None) × (new ≡ record old { before = None })
-Acts world p old (Stormed peer seed) went new = (went ≡ None) × (new ≡ record old { generator = seed })
-Acts world p old (Turned peer) went new = Turns world p old went new
-Acts world p old (Acted peer a) went new = IsMade a went × (new ≡ old)
-Acts world p old (WasReset peer) went new = (went ≡ None) × (new ≡ reset_progress old)
-Acts world p old _ went new = (went ≡ None) × (new ≡ old)
+abbrev pub EventStep : World → ℕ → Progress → Event → Option Step → Progress → Type 0
+EventStep world p old (AutoStarted peer expected) went new = (went ≡ None) × (new ≡ record old { before = None })
+EventStep world p old (StormStarted peer seed) went new = (went ≡ None) × (new ≡ record old { generator = seed })
+EventStep world p old (TurnTaken peer) went new = Turns world p old went new
+EventStep world p old (RegionAccessed peer a) went new = IsMade a went × (new ≡ old)
+EventStep world p old (DeviceReset peer) went new = (went ≡ None) × (new ≡ reset_progress old)
+EventStep world p old _ went new = (went ≡ None) × (new ≡ old)
 
 -- the event is one of its entries from now on
-abbrev pub noted : Progress → Entry → Progress
+abbrev pub noted : Progress → EventRecord → Progress
 noted peer entry = record peer { past = entry ∷ peer.past }
 
 -- from old, these entries of peer p are its calls in their order, and lead to new
-abbrev pub Serves : World → ℕ → Progress → List Entry → Progress → Type 0
-Serves world p old [] new = new ≡ old
-Serves world p old (entry ∷ entries) new = (mid : Progress) × Acts world p old entry.event entry.went mid × Serves world p (noted mid entry) entries new
+abbrev pub IsCallSequence : World → ℕ → Progress → List EventRecord → Progress → Type 0
+IsCallSequence world p old [] new = new ≡ old
+IsCallSequence world p old (entry ∷ entries) new = (mid : Progress) × EventStep world p old entry.event entry.went mid × IsCallSequence world p (noted mid entry) entries new

@@ -3,7 +3,7 @@ use Rattle.std.specs.Prelude.{ℕ, ◌+◌, List, [], ◌∷◌, ◌++◌, drop}
 use Rattle.call_grammar.specs.Steps.{Mark, Saw, Reclaim, Full, Accept, Look, Deliver, Return, Done, Down, Refuse, Over, Step}
 use Rattle.call_grammar.specs.Trees.{CallTree, Ended, Does, Reads}
 use Rattle.call_grammar.specs.Ends.{End, fresh, after_reset, end_after}
-use Rattle.call_grammar.specs.Calls.{Who, Call, Tick, Offer, Poll, tree_of}
+use Rattle.call_grammar.specs.Calls.{EndConfig, Call, Tick, Offer, Poll, tree_of}
 use Rattle.call_grammar.specs.Automatic.{Round, Anew, AfterOffer, AfterPoll, Choice, ChoosesTick, ChoosesOffer, ChoosesPoll, IsFinished, choice_of}
 
 -- an automatic peer: its frames that weren't accepted yet, how many deliveries it expects and how many it had in the whole run, and its round
@@ -32,12 +32,12 @@ at_start = record { end = fresh; left = Ended; waiting = []; driver = Waits }
 -- What a peer is told
 
 -- a call was put after those that wait; but a frame for an automatic peer was put after its frames
-abbrev pub asked_by : Peer → Driver → Call → Peer
-asked_by peer (Chooses auto) (Offer frame) = record peer { driver = Chooses (record auto { frames = auto.frames ++ frame ∷ [] }) }
-asked_by peer driver call = record peer { waiting = peer.waiting ++ call ∷ [] }
+abbrev pub with_call_by : Peer → Driver → Call → Peer
+with_call_by peer (Chooses auto) (Offer frame) = record peer { driver = Chooses (record auto { frames = auto.frames ++ frame ∷ [] }) }
+with_call_by peer driver call = record peer { waiting = peer.waiting ++ call ∷ [] }
 
-abbrev pub asked : Peer → Call → Peer
-asked peer call = asked_by peer peer.driver call
+abbrev pub with_call : Peer → Call → Peer
+with_call peer call = with_call_by peer peer.driver call
 
 -- the peer chooses its calls from now on
 abbrev pub automated : Peer → ℕ → Peer
@@ -58,29 +58,29 @@ was_reset peer = record { end = after_reset peer.end; left = Ended; waiting = []
 -- A turn
 
 -- the call that an automatic peer chose is opened
-abbrev pub with_choice : Who → Peer → Auto → Choice → Peer
-with_choice who peer auto ChoosesTick = record peer { left = tree_of who peer.end Tick; driver = Chooses (record auto { round = Anew }) }
-with_choice who peer auto (ChoosesOffer frame) = record peer {
-  left = tree_of who peer.end (Offer frame);
+abbrev pub with_choice : EndConfig → Peer → Auto → Choice → Peer
+with_choice config peer auto ChoosesTick = record peer { left = tree_of config peer.end Tick; driver = Chooses (record auto { round = Anew }) }
+with_choice config peer auto (ChoosesOffer frame) = record peer {
+  left = tree_of config peer.end (Offer frame);
   driver = Chooses (record auto { round = AfterOffer });
 }
-with_choice who peer auto ChoosesPoll = record peer { left = tree_of who peer.end Poll; driver = Chooses (record auto { round = AfterPoll }) }
-with_choice who peer auto IsFinished = peer
+with_choice config peer auto ChoosesPoll = record peer { left = tree_of config peer.end Poll; driver = Chooses (record auto { round = AfterPoll }) }
+with_choice config peer auto IsFinished = peer
 
-abbrev pub chosen : Who → Peer → Driver → Peer
-chosen who peer Waits = peer
-chosen who peer (Chooses auto) = with_choice who peer auto (choice_of peer.end.handshake.phase auto.round auto.frames auto.delivered auto.expected)
-chosen who peer (Storms x) = peer
+abbrev pub chosen : EndConfig → Peer → Driver → Peer
+chosen config peer Waits = peer
+chosen config peer (Chooses auto) = with_choice config peer auto (choice_of peer.end.handshake.phase auto.round auto.frames auto.delivered auto.expected)
+chosen config peer (Storms x) = peer
 
 -- where no call is open, the oldest that waits is opened, else the one that an automatic peer chooses (profile)
-abbrev pub opened_by : Who → Peer → CallTree → List Call → Peer
-opened_by who peer Ended [] = chosen who peer peer.driver
-opened_by who peer Ended (call ∷ waiting) = record peer { left = tree_of who peer.end call; waiting = waiting }
-opened_by who peer (Does access marks rest) waiting = peer
-opened_by who peer (Reads word marks rest) waiting = peer
+abbrev pub opened_by : EndConfig → Peer → CallTree → List Call → Peer
+opened_by config peer Ended [] = chosen config peer peer.driver
+opened_by config peer Ended (call ∷ waiting) = record peer { left = tree_of config peer.end call; waiting = waiting }
+opened_by config peer (Does access marks rest) waiting = peer
+opened_by config peer (Reads word marks rest) waiting = peer
 
-abbrev pub opened : Who → Peer → Peer
-opened who peer = opened_by who peer peer.left peer.waiting
+abbrev pub opened : EndConfig → Peer → Peer
+opened config peer = opened_by config peer peer.left peer.waiting
 
 -- a frame of an automatic peer that is accepted is none of those to come, and its deliveries are counted
 abbrev pub counted : Auto → Mark → Auto

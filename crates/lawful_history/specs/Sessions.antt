@@ -42,12 +42,12 @@ with_sessions world older [] = []
 with_sessions world older (line ∷ lines) = marks_before world older line ++ line ∷ with_sessions world (line ∷ older) lines
 
 -- what a record of this version tells of a history: version 2 has the marks of sessions besides
-abbrev pub told_in : World → (version : ℕ) → List Line → List Line
-told_in world version lines = if version == 2 then with_sessions world [] lines else lines
+abbrev pub recorded_in : World → (version : ℕ) → List Line → List Line
+recorded_in world version lines = if version == 2 then with_sessions world [] lines else lines
 
 -- and what it tells of the newest line, after these older ones
-abbrev pub told_line : World → (version : ℕ) → List Line → Line → List Line
-told_line world version older line = if version == 2 then marks_before world older line ++ line ∷ [] else line ∷ []
+abbrev pub recorded_line : World → (version : ℕ) → List Line → Line → List Line
+recorded_line world version older line = if version == 2 then marks_before world older line ++ line ∷ [] else line ∷ []
 
 -- the line is the mark of a session
 abbrev pub is_session : Line → Bool

@@ -4,7 +4,7 @@ use Rattle.section_map.specs.Geometry.{section_start}
 use Rattle.pci_space.specs.declared.wiring.Wiring.{Wiring}
 use Rattle.pci_space.specs.declared.wiring.Wiring.TheVariants.{Msix, Intx}
 use Rattle.scenario_text.specs.Scenario.{World}
-use Rattle.call_grammar.specs.Calls.{Who}
+use Rattle.call_grammar.specs.Calls.{EndConfig}
 pub use Rattle.scenario_text.specs.Spelling.{world_of}
 
 -- peers 0 and 1 are the two ends of the link (profile)
@@ -17,8 +17,8 @@ traffic_vector (Msix vectors) = if nat_le 2 vectors then 1 else 0
 traffic_vector Intx = 0
 
 -- a peer of the scenario, as the call grammar sees it
-abbrev pub who_of : World → ℕ → Who
-who_of world peer = record {
+abbrev pub config_of : World → ℕ → EndConfig
+config_of world peer = record {
   me = peer;
   other = partner peer;
   own = section_start world.geometry peer;

@@ -1,7 +1,7 @@
 -- A storm: the turns of a hostile peer that are generated writes (profile).
 use Rattle.std.specs.Prelude.{ℕ, ◌+◌, ◌*◌, ◌/◌, ◌%◌, ◌==◌, if◌then◌else◌, []}
 use Rattle.section_map.specs.Geometry.{section_start}
-use Rattle.split_ring.specs.Layout.{payload_of}
+use Rattle.split_ring.specs.Layout.{data_area_start}
 use Rattle.split_ring.specs.declared.steps.Access.{Access}
 use Rattle.split_ring.specs.declared.steps.Access.TheVariants.{Write, State, Ring}
 use Rattle.scenario_text.specs.Scenario.{World}
@@ -19,7 +19,7 @@ draw x = x / 4294967296
 abbrev pub drawn_access : World → ℕ → (kind place value : ℕ) → Access
 drawn_access world peer kind place value =
     if kind % 4 == 0 then Write (section_start world.geometry peer + place % world.geometry.out) value
-    else if kind % 4 == 1 then Write (section_start world.geometry peer + place % (payload_of world.queue / 4)) value
+    else if kind % 4 == 1 then Write (section_start world.geometry peer + place % (data_area_start world.queue / 4)) value
     else if kind % 4 == 2 then State (value % 8)
     else Ring (place % world.geometry.peers) (value % 4)
 

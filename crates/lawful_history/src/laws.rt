@@ -1,5 +1,5 @@
 //! What holds of every lawful history. The functions do nothing: their contracts are the laws.
-ghost use Rattle.lawful_history.specs.Lawful.{HasMarksInTwo, HasNoMarksInOne, HasOneHistory, HasOneHistoryIn, IsToldInTwo, ReadsWhatWasWritten, WritesWhereItMay};
+ghost use Rattle.lawful_history.specs.Lawful.{HasMarksInTwo, HasNoMarksInOne, HasOneHistory, HasOneHistoryIn, HasRecordInTwo, ReadsWhatWasWritten, WritesWhereItMay};
 ghost use Rattle.lawful_history.specs.History.{CutHistoriesBegin, HistoryIsLawful, HistoryIsLawfulIn, PeersKeepOrder};
 
 use call_grammar::calls_stay_in_reach;
@@ -30,7 +30,7 @@ pub fn records_tell_one_history()
 pub fn versions_differ_in_marks()
     ensures first { HasNoMarksInOne }
     ensures second { HasMarksInTwo }
-    ensures each { IsToldInTwo }
+    ensures each { HasRecordInTwo }
 {}
 
 /// What the computed history keeps of its peers goes on as the order of their calls does: the calls asked for since the last reset, in their

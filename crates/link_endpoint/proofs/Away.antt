@@ -6,7 +6,7 @@ use Rattle.split_ring.specs.declared.steps.Note.{Note}
 use Rattle.link_handshake.specs.declared.Phase.{Phase}
 use Rattle.link_endpoint.specs.declared.place.Place.{Place}
 use Rattle.link_endpoint.specs.declared.place.Place.TheVariants.{Offering, Polling}
-use Rattle.link_endpoint.specs.Engine.{Engine, is_leaving, is_leaving_at, is_looking_at, refused_after}
+use Rattle.link_endpoint.specs.Engine.{Engine, is_refusing, is_refusing_at, is_reading_state_at, refused_after}
 use Rattle.link_endpoint.specs.Leaving.{IsLeft, KeepsAway}
 
 -- an offer or a poll is open in RUN
@@ -20,7 +20,7 @@ works_left Offering phase works left = left
 works_left Polling phase works left = left
 works_left _ phase works left = absurd (cc)
 
-works_on : (p : Place) → works_at p ≡ true → (is_leaving_at p ≡ false) × (is_looking_at p ≡ false)
+works_on : (p : Place) → works_at p ≡ true → (is_refusing_at p ≡ false) × (is_reading_state_at p ≡ false)
 works_on Offering works = (refl, refl)
 works_on Polling works = (refl, refl)
 works_on _ works = absurd (cc)
@@ -29,7 +29,7 @@ pub none_left : (old : Engine) → works_at old.place ≡ true → (is_some old.
 none_left old works left some = works_left old.place old.phase works (left some)
 
 pub away_refused : (old new : Engine) (value : ℕ) (notes : List Note) (refused : Refused) → works_at old.place ≡ true → (is_some old.refused ≡ true → IsLeft old.place old.phase) →
-    refused_after notes None ≡ Some refused → new.refused ≡ Some refused → is_leaving new ≡ true → KeepsAway old value notes new
+    refused_after notes None ≡ Some refused → new.refused ≡ Some refused → is_refusing new ≡ true → KeepsAway old value notes new
 away_refused old new value notes refused works left found kept leaving = record {
   refuses = λ other is. (kept ∙ (sym found ∙ is), leaving);
   leaves = λ is. let on = works_on old.place works in absurd (cc);

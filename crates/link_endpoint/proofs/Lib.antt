@@ -1,5 +1,5 @@
 pub mod Opening
-pub mod Setting
+pub mod WritingState
 pub mod Notes
 pub mod Going
 pub mod Stepping

@@ -8,7 +8,7 @@ use Rattle.split_ring.specs.declared.steps.Note.TheVariants as note
 use Rattle.call_grammar.specs.Steps.{Mark, Accept, Deliver, Refuse, mark_of, marks_of}
 use Rattle.link_endpoint.specs.declared.place.Place.TheVariants.{Offering, Polling}
 use Rattle.link_endpoint.specs.Engine.{refused_after, IsNoteAt}
-use Rattle.link_endpoint.specs.Stands.{mark_between, marks_between}
+use Rattle.link_endpoint.specs.Refinement.{mark_between, marks_between}
 
 -- one of the marks is of a value refused
 abbrev pub refuses : List Mark → Bool

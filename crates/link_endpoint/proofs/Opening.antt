@@ -2,23 +2,23 @@
 use Rattle.std.proofs.Common.{◌≡◌, Bool, false, subst, ap, ◌∙◌, arith}
 use Rattle.std.proofs.lemmas.Grind.{common_steps}
 use Rattle.link_handshake.specs.declared.Phase.{Phase}
-use Rattle.link_handshake.specs.Standing.{Standing}
+use Rattle.link_handshake.specs.HandshakeState.{HandshakeState}
 use Rattle.call_grammar.specs.Ends.{End}
-use Rattle.call_grammar.specs.Calls.{Who}
+use Rattle.call_grammar.specs.Calls.{EndConfig}
 use Rattle.call_grammar.specs.Places as places
 use Rattle.link_endpoint.specs.declared.place.Place.{Place}
 use Rattle.link_endpoint.specs.Engine.{Engine, is_busy}
-use Rattle.link_endpoint.specs.Stands.{StandsAt, IsAt}
+use Rattle.link_endpoint.specs.Refinement.{RefinesAt, IsAt}
 
 -- an endpoint without an open call stands at no place of one
-pub closed_at : (e : Engine) (who : Who) (end : End) (place : places.Place) → is_busy e ≡ false → StandsAt e who end place → place ≡ places.Closed
-closed_at e who end place closed stands = grind (arith, common_steps)
+pub closed_at : (e : Engine) (config : EndConfig) (end : End) (place : places.Place) → is_busy e ≡ false → RefinesAt e config end place → place ≡ places.Closed
+closed_at e config end place closed refines = grind (arith, common_steps)
 
 -- what an endpoint at this place of its own says of the end
-pub at_place : (at : Place) (e : Engine) (who : Who) (end : End) (place : places.Place) → e.place ≡ at → StandsAt e who end place → IsAt at e who end place
-at_place at e who end place is stands = subst (λ p. IsAt p e who end place) is stands.at
+pub at_place : (at : Place) (e : Engine) (config : EndConfig) (end : End) (place : places.Place) → e.place ≡ at → RefinesAt e config end place → IsAt at e config end place
+at_place at e config end place is refines = subst (λ p. IsAt p e config end place) is refines.at
 
 -- a standing by its phase and its mark
-pub standing_is : (standing : Standing) (phase : Phase) (mark : Bool) → standing.phase ≡ phase → standing.mark ≡ mark → standing ≡ record { phase = phase; mark = mark }
+pub standing_is : (standing : HandshakeState) (phase : Phase) (mark : Bool) → standing.phase ≡ phase → standing.mark ≡ mark → standing ≡ record { phase = phase; mark = mark }
 standing_is standing phase mark phase_is mark_is =
-    ap (λ (p : Phase). let s : Standing = record { phase = p; mark = standing.mark } in s) phase_is ∙ ap (λ (m : Bool). let s : Standing = record { phase = phase; mark = m } in s) mark_is
+    ap (λ (p : Phase). let s : HandshakeState = record { phase = p; mark = standing.mark } in s) phase_is ∙ ap (λ (m : Bool). let s : HandshakeState = record { phase = phase; mark = m } in s) mark_is

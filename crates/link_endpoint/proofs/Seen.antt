@@ -6,18 +6,18 @@ use Rattle.split_ring.specs.declared.ranges.Refused.{Refused}
 use Rattle.tx_engine.specs.Sender.{Sender}
 use Rattle.rx_engine.specs.Receiver.{Receiver}
 use Rattle.rx_engine.specs.Receiver as receiver
-use Rattle.rx_engine.specs.Stands as rx
+use Rattle.rx_engine.specs.Refinement as rx
 use Rattle.split_ring.specs.declared.steps.Note.{Note}
 use Rattle.call_grammar.specs.Ends.{End, end_after}
 use Rattle.call_grammar.specs.Reach.{HasSections}
-use Rattle.call_grammar.specs.Calls.{Who}
+use Rattle.call_grammar.specs.Calls.{EndConfig}
 use Rattle.call_grammar.specs.Places as places
 use Rattle.link_endpoint.specs.declared.place.Place.{Place}
 use Rattle.link_endpoint.specs.declared.place.Place.TheVariants.{Refusing}
 use Rattle.link_endpoint.specs.declared.endpoint.Endpoint.TheInside.{Inside}
 use Rattle.link_endpoint.specs.Engine.{Engine}
-use Rattle.link_endpoint.specs.Kept.{seen, IsKept}
-use Rattle.link_endpoint.specs.Stands.{StandsAt, Takes}
+use Rattle.link_endpoint.specs.Representation.{seen, IsWellFormed}
+use Rattle.link_endpoint.specs.Refinement.{RefinesAt, Takes}
 use Rattle.link_endpoint.specs.Leaving.{IsLeft}
 
 -- the sender keeps its numbers
@@ -28,21 +28,21 @@ pub record KeepsNumbers (old new : Sender) : Type 0 where
   pub target : new.target ≡ old.target
   pub vector : new.vector ≡ old.vector
 
-pub who_stays : (i : Inside) (next : Sender) → KeepsNumbers i.tx next → (seen i).who ≡ (seen (record i { tx = next })).who
+pub who_stays : (i : Inside) (next : Sender) → KeepsNumbers i.tx next → (seen i).config ≡ (seen (record i { tx = next })).config
 who_stays i next keeps = grind (arith, common_steps)
 
 pub seen_sent : (i : Inside) (next : Sender) (refused : Option Refused) (place : Place) → KeepsNumbers i.tx next →
     record (seen i) { refused = refused; place = place; sender = next } ≡ seen (record i { refused = refused; place = place; tx = next })
-seen_sent i next refused place keeps = ap (λ (w : Who). let e : Engine = record { who = w; phase = i.handshake.phase; refused = refused; place = place; sender = next; receiver = i.rx } in e) (who_stays i next keeps)
+seen_sent i next refused place keeps = ap (λ (w : EndConfig). let e : Engine = record { config = w; phase = i.handshake.phase; refused = refused; place = place; sender = next; receiver = i.rx } in e) (who_stays i next keeps)
 
 -- it is kept, where the step is one of the grammar
-pub kept_sent : (i : Inside) (next : Sender) (refused : Option Refused) (place : Place) (value : ℕ) (notes : List Note) → IsKept i → KeepsNumbers i.tx next →
+pub kept_sent : (i : Inside) (next : Sender) (refused : Option Refused) (place : Place) (value : ℕ) (notes : List Note) → IsWellFormed i → KeepsNumbers i.tx next →
     (place ≢ Refusing → i.handshake.mark ≡ is_some refused) → (is_some refused ≡ true → IsLeft place i.handshake.phase) → Takes (seen i) value notes (seen (record i { refused = refused; place = place; tx = next })) →
-    IsKept (record i { refused = refused; place = place; tx = next })
+    IsWellFormed (record i { refused = refused; place = place; tx = next })
 kept_sent i next refused place value notes kept keeps mark left takes =
     let new : Inside = record i { refused = refused; place = place; tx = next } in
-    let end : End = end_after kept.end (places.step_at (seen i).who kept.at value) in
-    let at : places.Place = places.next_place (seen i).who kept.at value in
+    let end : End = end_after kept.end (places.step_at (seen i).config kept.at value) in
+    let at : places.Place = places.next_place (seen i).config kept.at value in
     record {
       sections = subst HasSections (who_stays i next keeps) kept.sections;
       own_room = rw keeps.sizes kept.own_room;
@@ -53,12 +53,12 @@ kept_sent i next refused place value notes kept keeps mark left takes =
       left = left;
       end = end;
       at = at;
-      stands = subst (λ w. StandsAt (seen new) w end at) (who_stays i next keeps) (takes.stands (seen i).who kept.end kept.at kept.stands);
+      refines = subst (λ w. RefinesAt (seen new) w end at) (who_stays i next keeps) (takes.refines (seen i).config kept.end kept.at kept.refines);
     }
 
-pub kept_received : (i : Inside) (next : Receiver) (refused : Option Refused) (place : Place) (value : ℕ) (notes : List Note) → IsKept i → receiver.KeepsNumbers i.rx next →
+pub kept_received : (i : Inside) (next : Receiver) (refused : Option Refused) (place : Place) (value : ℕ) (notes : List Note) → IsWellFormed i → receiver.KeepsNumbers i.rx next →
     (place ≢ Refusing → i.handshake.mark ≡ is_some refused) → (is_some refused ≡ true → IsLeft place i.handshake.phase) → Takes (seen i) value notes (seen (record i { refused = refused; place = place; rx = next })) →
-    IsKept (record i { refused = refused; place = place; rx = next })
+    IsWellFormed (record i { refused = refused; place = place; rx = next })
 kept_received i next refused place value notes kept keeps mark left takes = record {
   sections = kept.sections;
   own_room = kept.own_room;
@@ -73,7 +73,7 @@ kept_received i next refused place value notes kept keeps mark left takes = reco
   };
   mark = mark;
   left = left;
-  end = end_after kept.end (places.step_at (seen i).who kept.at value);
-  at = places.next_place (seen i).who kept.at value;
-  stands = takes.stands (seen i).who kept.end kept.at kept.stands;
+  end = end_after kept.end (places.step_at (seen i).config kept.at value);
+  at = places.next_place (seen i).config kept.at value;
+  refines = takes.refines (seen i).config kept.end kept.at kept.refines;
 }

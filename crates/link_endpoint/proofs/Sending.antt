@@ -5,80 +5,80 @@ use Rattle.split_ring.specs.declared.ranges.Refused.{Refused}
 use Rattle.split_ring.specs.declared.steps.Note.{Note}
 use Rattle.call_grammar.specs.Steps.{marks_of}
 use Rattle.call_grammar.specs.Ends.{End, end_after}
-use Rattle.call_grammar.specs.Calls.{Who}
+use Rattle.call_grammar.specs.Calls.{EndConfig}
 use Rattle.call_grammar.specs.Places as places
 use Rattle.tx_engine.specs.Sender.{Sender, IsSender}
-use Rattle.tx_engine.specs.Stands as tx
+use Rattle.tx_engine.specs.Refinement as tx
 use Rattle.rx_engine.specs.Receiver.{Receiver}
-use Rattle.rx_engine.specs.Stands as rx
+use Rattle.rx_engine.specs.Refinement as rx
 use Rattle.link_endpoint.specs.declared.place.Place.TheVariants.{Closed, Refusing, Offering}
 use Rattle.link_endpoint.specs.Engine.{Engine, is_down, is_down_at, refused_after, IsNoteAt, offered, delivered}
-use Rattle.link_endpoint.specs.Stands.{StandsAt, IsAt, Takes, in_hand}
+use Rattle.link_endpoint.specs.Refinement.{RefinesAt, IsAt, Takes, in_hand}
 use Rattle.link_endpoint.proofs.Opening.{at_place}
 use Rattle.link_endpoint.proofs.Notes.{IsOfOffer, offer_notes, offer_marks, refused_again, refused_kept}
 use Rattle.link_endpoint.proofs.Going.{in_offer, offer_step, offer_at, sent_few, refused_few, goes_on_open, closed_is}
 use Rattle.link_endpoint.proofs.Stepping.{IsNoted, refused_place, refused_mark, refused_standing, kept_place, kept_standing}
 
 -- a receiver without an open poll goes on standing for an end whose session goes on
-receiver_stays : (receiver : Receiver) (who : Who) (end other : End) → rx.StandsAt receiver who end places.Closed →
-    other.delivered ≡ end.delivered → other.returned ≡ end.returned → other.found_none ≡ end.found_none → other.handshake.phase ≡ end.handshake.phase → rx.StandsAt receiver who other places.Closed
-receiver_stays receiver who end other stands delivered returned found_none phase = grind (arith, common_steps)
+receiver_stays : (receiver : Receiver) (config : EndConfig) (end other : End) → rx.RefinesAt receiver config end places.Closed →
+    other.delivered ≡ end.delivered → other.returned ≡ end.returned → other.found_none ≡ end.found_none → other.handshake.phase ≡ end.handshake.phase → rx.RefinesAt receiver config other places.Closed
+receiver_stays receiver config end other refines delivered returned found_none phase = grind (arith, common_steps)
 
 -- what the sender's step says of an end for which the endpoint stands
-record Sent (old : Engine) (value : ℕ) (notes : List Note) (next : Sender) (who : Who) (end : End) (place : places.Place) : Type 0 where
+record Sent (old : Engine) (value : ℕ) (notes : List Note) (next : Sender) (config : EndConfig) (end : End) (place : places.Place) : Type 0 where
   offers : in_offer place ≡ true
-  noted : IsNoted (offered old) notes who end place value
+  noted : IsNoted (offered old) notes config end place value
   frames : All (IsNoteAt Offering) notes
-  sender : tx.StandsAt next who (end_after end (places.step_at who place value)) (places.next_place who place value)
-  receiver : rx.StandsAt old.receiver who (end_after end (places.step_at who place value)) places.Closed
+  sender : tx.RefinesAt next config (end_after end (places.step_at config place value)) (places.next_place config place value)
+  receiver : rx.RefinesAt old.receiver config (end_after end (places.step_at config place value)) places.Closed
 
-sent : (old : Engine) (value : ℕ) (notes : List Note) (next : Sender) (who : Who) (end : End) (place : places.Place) →
-    old.place ≡ Offering → tx.Takes old.sender value notes next → StandsAt old who end place → Sent old value notes next who end place
-sent old value notes next who end place offers took stands =
-    let a : IsAt Offering old who end place = at_place Offering old who end place offers stands in
-    let offers_at = offer_at old.sender who end place a.1 a.0 in
-    let step = offer_step who end place value offers_at in
-    let marks : marks_of (offered old) notes ≡ places.marks_at who place value = took.marks who end place a.1 in
+sent : (old : Engine) (value : ℕ) (notes : List Note) (next : Sender) (config : EndConfig) (end : End) (place : places.Place) →
+    old.place ≡ Offering → tx.TakesStep old.sender value notes next → RefinesAt old config end place → Sent old value notes next config end place
+sent old value notes next config end place offers took refines =
+    let a : IsAt Offering old config end place = at_place Offering old config end place offers refines in
+    let offers_at = offer_at old.sender config end place a.1 a.0 in
+    let step = offer_step config end place value offers_at in
+    let marks : marks_of (offered old) notes ≡ places.marks_at config place value = took.marks config end place a.1 in
     record {
       offers = offers_at;
       noted = record { step = step.step; marks = marks };
       frames = offer_notes (offered old) notes (subst (All IsOfOffer) (sym marks) step.marks);
-      sender = took.stands who end place a.1;
-      receiver = receiver_stays old.receiver who end _ a.2 step.delivered step.returned step.found_none step.step.phase;
+      sender = took.refines config end place a.1;
+      receiver = receiver_stays old.receiver config end _ a.2 step.delivered step.returned step.found_none step.step.phase;
     }
 
 -- a step of an offer delivers nothing
 offer_frame : (place : places.Place) (value : ℕ) (frame : List ℕ) → in_offer place ≡ true → rx.frame_after place value frame ≡ frame
-offer_frame (places.AtWord number more entry address bytes read words) value frame offers = absurd (cc)
+offer_frame (places.ReadingFrameWord number more entry address bytes read words) value frame offers = absurd (cc)
 offer_frame _ value frame offers = refl
 
 -- the step of an endpoint, which stands for some end
-takes : (old new : Engine) (value : ℕ) (notes : List Note) (next : Sender) (who : Who) (end : End) (place : places.Place) →
-    old.place ≡ Offering → tx.Takes old.sender value notes next → StandsAt old who end place →
-    ((w : Who) (e : End) (p : places.Place) → StandsAt old w e p → Sent old value notes next w e p → StandsAt new w (end_after e (places.step_at w p value)) (places.next_place w p value)) →
-    new.who ≡ old.who → new.refused ≡ refused_after notes old.refused → new.sender ≡ next → new.receiver ≡ old.receiver →
+takes : (old new : Engine) (value : ℕ) (notes : List Note) (next : Sender) (config : EndConfig) (end : End) (place : places.Place) →
+    old.place ≡ Offering → tx.TakesStep old.sender value notes next → RefinesAt old config end place →
+    ((w : EndConfig) (e : End) (p : places.Place) → RefinesAt old w e p → Sent old value notes next w e p → RefinesAt new w (end_after e (places.step_at w p value)) (places.next_place w p value)) →
+    new.config ≡ old.config → new.refused ≡ refused_after notes old.refused → new.sender ≡ next → new.receiver ≡ old.receiver →
     is_down new ≡ false → Takes old value notes new
-takes old new value notes next who end place offers took stands goes same refused sender receiver down =
-    let frames = (sent old value notes next who end place offers took stands).frames in
+takes old new value notes next config end place offers took refines goes same refused sender receiver down =
+    let frames = (sent old value notes next config end place offers took refines).frames in
     let hand = ap (λ p. in_hand p (offered old) (delivered new)) offers in
     record {
       marks = λ w e p at. ap (λ f. marks_of f notes) hand ∙ (sent old value notes next w e p offers took at).noted.marks;
       marked = λ w e p at. offer_marks (offered old) (delivered new) notes frames ∙ (sent old value notes next w e p offers took at).noted.marks;
       frames = subst (λ p. All (IsNoteAt p) notes) (sym offers) frames;
-      stands = λ w e p at. goes w e p at (sent old value notes next w e p offers took at);
+      refines = λ w e p at. goes w e p at (sent old value notes next w e p offers took at);
       delivered = λ w e p at. ap (λ r. r.frame) receiver ∙ sym (offer_frame p value (delivered old) (sent old value notes next w e p offers took at).offers);
-      who = same;
+      config = same;
       refused = refused;
       offered = λ opened. ap (λ s. s.frame) sender ∙ ap (λ s. s.frame) took.kept;
       down = down;
     }
 
 -- the step refused a value
-pub takes_refused : (old : Engine) (value : ℕ) (notes : List Note) (next : Sender) (refused : Refused) (who : Who) (end : End) (place : places.Place) →
-    old.place ≡ Offering → tx.Takes old.sender value notes next → StandsAt old who end place → refused_after notes None ≡ Some refused →
+pub takes_refused : (old : Engine) (value : ℕ) (notes : List Note) (next : Sender) (refused : Refused) (config : EndConfig) (end : End) (place : places.Place) →
+    old.place ≡ Offering → tx.TakesStep old.sender value notes next → RefinesAt old config end place → refused_after notes None ≡ Some refused →
     Takes old value notes (record old { refused = Some refused; place = Refusing; sender = next })
-takes_refused old value notes next refused who end place offers took stands found =
-    takes old _ value notes next who end place offers took stands
+takes_refused old value notes next refused config end place offers took refines found =
+    takes old _ value notes next config end place offers took refines
     (λ w e p at s. record {
       made = at.made;
       standing = refused_standing old (offered old) notes refused w e p value at s.noted found;
@@ -88,29 +88,29 @@ takes_refused old value notes next refused who end place offers took stands foun
     refl (sym (refused_again notes old.refused refused found)) refl refl refl
 
 -- the offer is over where the new sender isn't busy
-pub takes_end : (old : Engine) (value : ℕ) (notes : List Note) (next : Sender) (busy : Bool) (who : Who) (end : End) (place : places.Place) →
-    old.place ≡ Offering → tx.Takes old.sender value notes next → StandsAt old who end place → refused_after notes None ≡ None → IsSender next →
-    ((w : Who) (e : End) (p : places.Place) → tx.StandsAt next w e p → busy ≡ places.is_open p) → busy ≡ false →
+pub takes_end : (old : Engine) (value : ℕ) (notes : List Note) (next : Sender) (busy : Bool) (config : EndConfig) (end : End) (place : places.Place) →
+    old.place ≡ Offering → tx.TakesStep old.sender value notes next → RefinesAt old config end place → refused_after notes None ≡ None → IsSender next →
+    ((w : EndConfig) (e : End) (p : places.Place) → tx.RefinesAt next w e p → busy ≡ places.is_open p) → busy ≡ false →
     Takes old value notes (record old { place = Closed; sender = next })
-takes_end old value notes next busy who end place offers took stands none sender busy_is over =
-    takes old _ value notes next who end place offers took stands
+takes_end old value notes next busy config end place offers took refines none sender busy_is over =
+    takes old _ value notes next config end place offers took refines
     (λ w e p at s.
     let closed = closed_is (places.next_place w p value) (sym (busy_is w _ _ s.sender) ∙ over) in
     record {
       made = at.made;
       standing = kept_standing old (offered old) notes w e p value at s.noted none;
       few = sent_few w e p value next s.offers at.few sender s.sender;
-      at = (closed, record { sender = subst (tx.StandsAt next w (end_after e (places.step_at w p value))) closed s.sender; receiver = s.receiver });
+      at = (closed, record { sender = subst (tx.RefinesAt next w (end_after e (places.step_at w p value))) closed s.sender; receiver = s.receiver });
     })
     refl (sym (refused_kept notes old.refused none)) refl refl refl
 
 -- else it goes on
-pub takes_on : (old : Engine) (value : ℕ) (notes : List Note) (next : Sender) (busy : Bool) (who : Who) (end : End) (place : places.Place) →
-    old.place ≡ Offering → tx.Takes old.sender value notes next → StandsAt old who end place → refused_after notes None ≡ None → IsSender next →
-    ((w : Who) (e : End) (p : places.Place) → tx.StandsAt next w e p → busy ≡ places.is_open p) → busy ≡ true →
+pub takes_on : (old : Engine) (value : ℕ) (notes : List Note) (next : Sender) (busy : Bool) (config : EndConfig) (end : End) (place : places.Place) →
+    old.place ≡ Offering → tx.TakesStep old.sender value notes next → RefinesAt old config end place → refused_after notes None ≡ None → IsSender next →
+    ((w : EndConfig) (e : End) (p : places.Place) → tx.RefinesAt next w e p → busy ≡ places.is_open p) → busy ≡ true →
     Takes old value notes (record old { sender = next })
-takes_on old value notes next busy who end place offers took stands none sender busy_is on =
-    takes old _ value notes next who end place offers took stands
+takes_on old value notes next busy config end place offers took refines none sender busy_is on =
+    takes old _ value notes next config end place offers took refines
     (λ w e p at s.
     let goes = goes_on_open (places.next_place w p value) (sym (busy_is w _ _ s.sender) ∙ on) (kept_place (offered old) notes w e p value s.noted none) in
     record {

@@ -1,14 +1,14 @@
 -- An endpoint at its start.
 use Rattle.std.proofs.Common.{[], refl, arith}
 use Rattle.call_grammar.specs.Ends.{fresh}
-use Rattle.call_grammar.specs.Calls.{Who}
+use Rattle.call_grammar.specs.Calls.{EndConfig}
 use Rattle.call_grammar.specs.Places as places
 use Rattle.link_endpoint.specs.Engine.{fresh_engine}
-use Rattle.link_endpoint.specs.Stands.{StandsAt}
+use Rattle.link_endpoint.specs.Refinement.{RefinesAt}
 
 -- it stands for a fresh end
-pub fresh_stands : (who : Who) → StandsAt (fresh_engine who) who fresh places.Closed
-fresh_stands who = record {
+pub fresh_stands : (config : EndConfig) → RefinesAt (fresh_engine config) config fresh places.Closed
+fresh_stands config = record {
   made = refl;
   standing = refl;
   few = omega arith;

@@ -9,25 +9,25 @@ use Rattle.split_ring.specs.declared.steps.Access.TheVariants as access
 use Rattle.split_ring.specs.declared.steps.Note.{Note}
 use Rattle.split_ring.specs.declared.steps.Note.TheVariants as note
 use Rattle.call_grammar.specs.Ends.{End}
-use Rattle.call_grammar.specs.Calls.{Who}
+use Rattle.call_grammar.specs.Calls.{EndConfig}
 use Rattle.call_grammar.specs.Places as places
 use Rattle.call_grammar.specs.Reach.{HasSections}
-use Rattle.call_grammar.specs.Stretches.{Each, WritesOn, place_after}
+use Rattle.call_grammar.specs.Bursts.{StepsThrough, WritesBurst, place_after}
 use Rattle.tx_engine.specs.Sender.{Sender}
-use Rattle.tx_engine.specs.Stands as tx
+use Rattle.tx_engine.specs.Refinement as tx
 use Rattle.tx_engine.proofs.Stretching.{open_is}
 use Rattle.tx_engine.proofs.Padding.{dropped_zeros}
 use Rattle.rx_engine.specs.Receiver.{Receiver}
-use Rattle.rx_engine.specs.Stands as rx
+use Rattle.rx_engine.specs.Refinement as rx
 use Rattle.rx_engine.proofs.Stretching.{busy_is}
 use Rattle.link_endpoint.specs.declared.place.Place.{Place}
-use Rattle.link_endpoint.specs.declared.place.Place.TheVariants.{Clearing, Setting, Offering, Polling}
+use Rattle.link_endpoint.specs.declared.place.Place.TheVariants.{Clearing, WritingState, Offering, Polling}
 use Rattle.link_endpoint.specs.declared.endpoint.Endpoint.TheInside.{Inside}
 use Rattle.rx_engine.specs.Receiver as receiver
-use Rattle.link_endpoint.specs.Engine.{Engine, is_leaving, is_looking, is_leaving_at, is_looking_at, refused_after}
-use Rattle.link_endpoint.specs.Kept.{seen, IsKept}
-use Rattle.link_endpoint.specs.Stands.{StandsAt}
-use Rattle.link_endpoint.specs.Stretches.{IsTaken}
+use Rattle.link_endpoint.specs.Engine.{Engine, is_refusing, is_reading_state, is_refusing_at, is_reading_state_at, refused_after}
+use Rattle.link_endpoint.specs.Representation.{seen, IsWellFormed}
+use Rattle.link_endpoint.specs.Refinement.{RefinesAt}
+use Rattle.link_endpoint.specs.Bursts.{IsTaken}
 use Rattle.link_endpoint.specs.Leaving.{IsLeft, KeepsAway}
 use Rattle.link_endpoint.proofs.Opening.{at_place}
 use Rattle.link_endpoint.proofs.Receiving as receiving
@@ -40,7 +40,7 @@ none_refused notes (inl none) = ap (λ n. refused_after n None) none
 none_refused notes (inr one) = ap (λ n. refused_after n None) one
 
 -- a step that refuses nothing, of an end that neither leaves nor looks
-away_on : (old new : Engine) (value : ℕ) (notes : List Note) → is_leaving old ≡ false → is_looking old ≡ false → refused_after notes None ≡ None → new.refused ≡ old.refused → KeepsAway old value notes new
+away_on : (old new : Engine) (value : ℕ) (notes : List Note) → is_refusing old ≡ false → is_reading_state old ≡ false → refused_after notes None ≡ None → new.refused ≡ old.refused → KeepsAway old value notes new
 away_on old new value notes stays works none same = record {
   refuses = λ other is. let f = ap is_some (sym none ∙ is) in absurd (cc);
   leaves = λ is. absurd (cc);
@@ -49,43 +49,43 @@ away_on old new value notes stays works none same = record {
 }
 
 -- the steps of the receiver are those of the endpoint
-polls_one : (old : Engine) (value : ℕ) (notes : List Note) (next : Receiver) (who : Who) (end : End) (place : places.Place) → old.place ≡ Polling →
-    rx.TakesOn old.receiver value notes next → StandsAt old who end place → refused_after notes None ≡ None → IsTaken old value notes (record old { receiver = next })
-polls_one old value notes next who end place polls step stands none = record {
-  takes = receiving.takes_on old value notes next true who end place polls step.0 stands none (λ w e p at. sym step.1 ∙ busy_is next w e p at) refl;
-  away = away_on old _ value notes (ap is_leaving_at polls) (ap is_looking_at polls) none refl;
+polls_one : (old : Engine) (value : ℕ) (notes : List Note) (next : Receiver) (config : EndConfig) (end : End) (place : places.Place) → old.place ≡ Polling →
+    rx.StaysOpen old.receiver value notes next → RefinesAt old config end place → refused_after notes None ≡ None → IsTaken old value notes (record old { receiver = next })
+polls_one old value notes next config end place polls step refines none = record {
+  takes = receiving.takes_on old value notes next true config end place polls step.0 refines none (λ w e p at. sym step.1 ∙ busy_is next w e p at) refl;
+  away = away_on old _ value notes (ap is_refusing_at polls) (ap is_reading_state_at polls) none refl;
 }
 
-pub polls_on : (old : Engine) (values : List ℕ) (notes : List Note) (next : Receiver) (who : Who) (end : End) (place : places.Place) → old.place ≡ Polling →
-    Each rx.TakesOn old.receiver values notes next → StandsAt old who end place → refused_after notes None ≡ None → Each IsTaken old values notes (record old { receiver = next })
-polls_on old [] notes next who end place polls each stands none = (each.0, ap (λ r. record old { receiver = r }) each.1)
-polls_on old (value ∷ []) notes next who end place polls each stands none = polls_one old value notes next who end place polls each stands none
-polls_on old (value ∷ other ∷ values) notes next who end place polls (between, first, rest) stands none =
-    let one = polls_one old value [] between who end place polls first stands refl in
-    (record old { receiver = between }, one, polls_on (record old { receiver = between }) (other ∷ values) notes next who _ _ polls rest (one.takes.stands who end place stands) none)
+pub polls_on : (old : Engine) (values : List ℕ) (notes : List Note) (next : Receiver) (config : EndConfig) (end : End) (place : places.Place) → old.place ≡ Polling →
+    StepsThrough rx.StaysOpen old.receiver values notes next → RefinesAt old config end place → refused_after notes None ≡ None → StepsThrough IsTaken old values notes (record old { receiver = next })
+polls_on old [] notes next config end place polls each refines none = (each.0, ap (λ r. record old { receiver = r }) each.1)
+polls_on old (value ∷ []) notes next config end place polls each refines none = polls_one old value notes next config end place polls each refines none
+polls_on old (value ∷ other ∷ values) notes next config end place polls (between, first, rest) refines none =
+    let one = polls_one old value [] between config end place polls first refines refl in
+    (record old { receiver = between }, one, polls_on (record old { receiver = between }) (other ∷ values) notes next config _ _ polls rest (one.takes.refines config end place refines) none)
 
 -- the steps of the sender are those of the endpoint
-offers_one : (old : Engine) (value : ℕ) (next : Sender) (who : Who) (end : End) (place : places.Place) → old.place ≡ Offering →
-    tx.TakesOn old.sender value [] next → StandsAt old who end place → IsTaken old value [] (record old { sender = next })
-offers_one old value next who end place offers step stands = record {
-  takes = sending.takes_on old value [] next true who end place offers step.takes stands refl step.sender (λ w e p at. sym step.opened ∙ open_is next w e p at) refl;
-  away = away_on old _ value [] (ap is_leaving_at offers) (ap is_looking_at offers) refl refl;
+offers_one : (old : Engine) (value : ℕ) (next : Sender) (config : EndConfig) (end : End) (place : places.Place) → old.place ≡ Offering →
+    tx.StaysOpen old.sender value [] next → RefinesAt old config end place → IsTaken old value [] (record old { sender = next })
+offers_one old value next config end place offers step refines = record {
+  takes = sending.takes_on old value [] next true config end place offers step.takes refines refl step.sender (λ w e p at. sym step.opened ∙ open_is next w e p at) refl;
+  away = away_on old _ value [] (ap is_refusing_at offers) (ap is_reading_state_at offers) refl refl;
 }
 
-pub offers_on : (old : Engine) (values : List ℕ) (next : Sender) (who : Who) (end : End) (place : places.Place) → old.place ≡ Offering →
-    Each tx.TakesOn old.sender values [] next → StandsAt old who end place → Each IsTaken old values [] (record old { sender = next })
-offers_on old [] next who end place offers each stands = (refl, ap (λ s. record old { sender = s }) each.1)
-offers_on old (value ∷ []) next who end place offers each stands = offers_one old value next who end place offers each stands
-offers_on old (value ∷ other ∷ values) next who end place offers (between, first, rest) stands =
-    let one = offers_one old value between who end place offers first stands in
-    (record old { sender = between }, one, offers_on (record old { sender = between }) (other ∷ values) next who _ _ offers rest (one.takes.stands who end place stands))
+pub offers_on : (old : Engine) (values : List ℕ) (next : Sender) (config : EndConfig) (end : End) (place : places.Place) → old.place ≡ Offering →
+    StepsThrough tx.StaysOpen old.sender values [] next → RefinesAt old config end place → StepsThrough IsTaken old values [] (record old { sender = next })
+offers_on old [] next config end place offers each refines = (refl, ap (λ s. record old { sender = s }) each.1)
+offers_on old (value ∷ []) next config end place offers each refines = offers_one old value next config end place offers each refines
+offers_on old (value ∷ other ∷ values) next config end place offers (between, first, rest) refines =
+    let one = offers_one old value between config end place offers first refines in
+    (record old { sender = between }, one, offers_on (record old { sender = between }) (other ∷ values) next config _ _ offers rest (one.takes.refines config end place refines))
 
 -- the sender keeps its numbers
-keeps_one : (old new : Sender) (value : ℕ) (notes : List Note) → tx.TakesOn old value notes new → KeepsNumbers old new
+keeps_one : (old new : Sender) (value : ℕ) (notes : List Note) → tx.StaysOpen old value notes new → KeepsNumbers old new
 keeps_one old new value notes takes = let kept = takes.takes.kept in
     record { sizes = ap (λ s. s.sizes) kept; own = ap (λ s. s.own) kept; theirs = ap (λ s. s.theirs) kept; target = ap (λ s. s.target) kept; vector = ap (λ s. s.vector) kept }
 
-pub keeps_all : (old new : Sender) (values : List ℕ) (notes : List Note) → Each tx.TakesOn old values notes new → KeepsNumbers old new
+pub keeps_all : (old new : Sender) (values : List ℕ) (notes : List Note) → StepsThrough tx.StaysOpen old values notes new → KeepsNumbers old new
 keeps_all old new [] notes each = subst (KeepsNumbers old) (sym each.1) (record { sizes = refl; own = refl; theirs = refl; target = refl; vector = refl })
 keeps_all old new (value ∷ []) notes each = keeps_one old new value notes each
 keeps_all old new (value ∷ other ∷ values) notes (between, first, rest) =
@@ -94,19 +94,19 @@ keeps_all old new (value ∷ other ∷ values) notes (between, first, rest) =
     record { sizes = more.sizes ∙ one.sizes; own = more.own ∙ one.own; theirs = more.theirs ∙ one.theirs; target = more.target ∙ one.target; vector = more.vector ∙ one.vector }
 
 -- the endpoint stands for some end after such steps
-pub record StandsFor (e : Engine) (who : Who) : Type 0 where
+pub record StandsFor (e : Engine) (config : EndConfig) : Type 0 where
   pub end : End
   pub place : places.Place
-  pub stands : StandsAt e who end place
+  pub refines : RefinesAt e config end place
 
-pub stands_on : (old new : Engine) (values : List ℕ) (notes : List Note) (who : Who) (end : End) (place : places.Place) → Each IsTaken old values notes new → StandsAt old who end place → StandsFor new who
-stands_on old new [] notes who end place each stands = record { end = end; place = place; stands = subst (λ e. StandsAt e who end place) (sym each.1) stands }
-stands_on old new (value ∷ []) notes who end place each stands = record { end = _; place = _; stands = each.takes.stands who end place stands }
-stands_on old new (value ∷ other ∷ values) notes who end place (between, first, rest) stands = stands_on between new (other ∷ values) notes who _ _ rest (first.takes.stands who end place stands)
+pub stands_on : (old new : Engine) (values : List ℕ) (notes : List Note) (config : EndConfig) (end : End) (place : places.Place) → StepsThrough IsTaken old values notes new → RefinesAt old config end place → StandsFor new config
+stands_on old new [] notes config end place each refines = record { end = end; place = place; refines = subst (λ e. RefinesAt e config end place) (sym each.1) refines }
+stands_on old new (value ∷ []) notes config end place each refines = record { end = _; place = _; refines = each.takes.refines config end place refines }
+stands_on old new (value ∷ other ∷ values) notes config end place (between, first, rest) refines = stands_on between new (other ∷ values) notes config _ _ rest (first.takes.refines config end place refines)
 
-pub kept_polled : (i : Inside) (next : Receiver) (values : List ℕ) (notes : List Note) → IsKept i → receiver.KeepsNumbers i.rx next → Each IsTaken (seen i) values notes (seen (record i { rx = next })) → IsKept (record i { rx = next })
+pub kept_polled : (i : Inside) (next : Receiver) (values : List ℕ) (notes : List Note) → IsWellFormed i → receiver.KeepsNumbers i.rx next → StepsThrough IsTaken (seen i) values notes (seen (record i { rx = next })) → IsWellFormed (record i { rx = next })
 kept_polled i next values notes kept keeps each =
-    let later = stands_on (seen i) (seen (record i { rx = next })) values notes (seen i).who kept.end kept.at each kept.stands in
+    let later = stands_on (seen i) (seen (record i { rx = next })) values notes (seen i).config kept.end kept.at each kept.refines in
     record {
       sections = kept.sections;
       own_room = kept.own_room;
@@ -123,13 +123,13 @@ kept_polled i next values notes kept keeps each =
       left = kept.left;
       end = later.end;
       at = later.place;
-      stands = later.stands;
+      refines = later.refines;
     }
 
-pub kept_offered : (i : Inside) (next : Sender) (values : List ℕ) (notes : List Note) → IsKept i → KeepsNumbers i.tx next → Each IsTaken (seen i) values notes (seen (record i { tx = next })) → IsKept (record i { tx = next })
+pub kept_offered : (i : Inside) (next : Sender) (values : List ℕ) (notes : List Note) → IsWellFormed i → KeepsNumbers i.tx next → StepsThrough IsTaken (seen i) values notes (seen (record i { tx = next })) → IsWellFormed (record i { tx = next })
 kept_offered i next values notes kept keeps each =
     let new : Inside = record i { tx = next } in
-    let later = stands_on (seen i) (seen new) values notes (seen i).who kept.end kept.at each kept.stands in
+    let later = stands_on (seen i) (seen new) values notes (seen i).config kept.end kept.at each kept.refines in
     record {
       sections = subst HasSections (who_stays i next keeps) kept.sections;
       own_room = rw keeps.sizes kept.own_room;
@@ -140,28 +140,28 @@ kept_offered i next values notes kept keeps each =
       left = kept.left;
       end = later.end;
       at = later.place;
-      stands = subst (λ w. StandsAt (seen new) w later.end later.place) (who_stays i next keeps) later.stands;
+      refines = subst (λ w. RefinesAt (seen new) w later.end later.place) (who_stays i next keeps) later.refines;
     }
 
 -- the writes of 0
 
-left_clear : (old : Engine) (at state : ℕ) → old.place ≡ Clearing at state → (is_leaving old ≡ false) × (is_looking old ≡ false)
-left_clear old at state clears = (ap is_leaving_at clears, ap is_looking_at clears)
+left_clear : (old : Engine) (at state : ℕ) → old.place ≡ Clearing at state → (is_refusing old ≡ false) × (is_reading_state old ≡ false)
+left_clear old at state clears = (ap is_refusing_at clears, ap is_reading_state_at clears)
 
-clears_one : (old : Engine) (at state value : ℕ) → old.place ≡ Clearing at state → at + 1 < old.who.own + old.who.words → IsTaken old value [] (record old { place = Clearing (at + 1) state })
+clears_one : (old : Engine) (at state value : ℕ) → old.place ≡ Clearing at state → at + 1 < old.config.own + old.config.words → IsTaken old value [] (record old { place = Clearing (at + 1) state })
 clears_one old at state value clears within = record {
   takes = grind (arith, common_steps);
   away = let calm = left_clear old at state clears in away_on old _ value [] calm.0 calm.1 refl refl;
 }
 
-clears_last : (old : Engine) (at state value : ℕ) → old.place ≡ Clearing at state → at + 1 ≡ old.who.own + old.who.words → IsTaken old value [] (record old { place = Setting state })
+clears_last : (old : Engine) (at state value : ℕ) → old.place ≡ Clearing at state → at + 1 ≡ old.config.own + old.config.words → IsTaken old value [] (record old { place = WritingState state })
 clears_last old at state value clears last = record {
   takes = grind (arith, common_steps);
   away = let calm = left_clear old at state clears in away_on old _ value [] calm.0 calm.1 refl refl;
 }
 
-pub clears_on : (old new : Engine) (at state : ℕ) (values : List ℕ) → old.place ≡ Clearing at state → 0 < length values → at + length values < old.who.own + old.who.words →
-    new ≡ record old { place = Clearing (at + length values) state } → Each IsTaken old values [] new
+pub clears_on : (old new : Engine) (at state : ℕ) (values : List ℕ) → old.place ≡ Clearing at state → 0 < length values → at + length values < old.config.own + old.config.words →
+    new ≡ record old { place = Clearing (at + length values) state } → StepsThrough IsTaken old values [] new
 clears_on old new at state [] clears some within new_is = absurd (omega (arith, some))
 clears_on old new at state (value ∷ []) clears some within new_is =
     let one : new ≡ record old { place = Clearing (at + 1) state } = new_is in
@@ -171,46 +171,46 @@ clears_on old new at state (value ∷ other ∷ values) clears some within new_i
     let count : at + length (value ∷ other ∷ values) ≡ at + 1 + length (other ∷ values) = omega arith in
     (between, clears_one old at state value clears (omega (arith, within)), clears_on between new (at + 1) state (other ∷ values) refl (omega arith) (omega (arith, within)) (new_is ∙ ap (λ n. record old { place = Clearing n state }) count))
 
-pub clears_all : (old new : Engine) (at state : ℕ) (values : List ℕ) → old.place ≡ Clearing at state → 0 < length values → at + length values ≡ old.who.own + old.who.words →
-    new ≡ record old { place = Setting state } → Each IsTaken old values [] new
+pub clears_all : (old new : Engine) (at state : ℕ) (values : List ℕ) → old.place ≡ Clearing at state → 0 < length values → at + length values ≡ old.config.own + old.config.words →
+    new ≡ record old { place = WritingState state } → StepsThrough IsTaken old values [] new
 clears_all old new at state [] clears some within new_is = absurd (omega (arith, some))
 clears_all old new at state (value ∷ []) clears some within new_is = subst (λ e. IsTaken old value [] e) (sym new_is) (clears_last old at state value clears within)
 clears_all old new at state (value ∷ other ∷ values) clears some within new_is =
     let between : Engine = record old { place = Clearing (at + 1) state } in
     (between, clears_one old at state value clears (omega (arith, within)), clears_all between new (at + 1) state (other ∷ values) refl (omega arith) (omega (arith, within)) new_is)
 
-clear_writes : (who : Who) (at more state : ℕ) (values : List ℕ) → length values ≤ more → places.access_at who (place_after who (places.Clearing at more state) values) ≡ access.Write (at + length values) 0
-clear_writes who at more state [] few = ap (λ n. access.Write n 0) (omega arith)
-clear_writes who at zero state (value ∷ values) few = absurd (omega (arith, few))
-clear_writes who at (suc more) state (value ∷ values) few = clear_writes who (at + 1) more state values (omega (arith, few)) ∙ ap (λ n. access.Write n 0) (omega arith)
+clear_writes : (config : EndConfig) (at more state : ℕ) (values : List ℕ) → length values ≤ more → places.access_at config (place_after config (places.Clearing at more state) values) ≡ access.Write (at + length values) 0
+clear_writes config at more state [] few = ap (λ n. access.Write n 0) (omega arith)
+clear_writes config at zero state (value ∷ values) few = absurd (omega (arith, few))
+clear_writes config at (suc more) state (value ∷ values) few = clear_writes config (at + 1) more state values (omega (arith, few)) ∙ ap (λ n. access.Write n 0) (omega arith)
 
 abbrev word_of_write : Access → ℕ
 word_of_write (access.Write word value) = word
 word_of_write _ = 0
 
-pub zeros_on : (old : Engine) (who : Who) (end : End) (place : places.Place) (at state word value count : ℕ) → old.place ≡ Clearing at state → count ≤ 4 * (old.who.own + old.who.words - at) →
-    StandsAt old who end place → places.access_at who place ≡ access.Write word value → WritesOn who place word (replicate count 0)
-zeros_on old who end place at state word value count clears within stands first values few =
-    let is = at_place (Clearing at state) old who end place clears stands in
-    let word_is : at ≡ word = ap word_of_write (sym (ap (places.access_at who) is.0) ∙ first) in
+pub zeros_on : (old : Engine) (config : EndConfig) (end : End) (place : places.Place) (at state word value count : ℕ) → old.place ≡ Clearing at state → count ≤ 4 * (old.config.own + old.config.words - at) →
+    RefinesAt old config end place → places.access_at config place ≡ access.Write word value → WritesBurst config place word (replicate count 0)
+zeros_on old config end place at state word value count clears within refines first values few =
+    let is = at_place (Clearing at state) old config end place clears refines in
+    let word_is : at ≡ word = ap word_of_write (sym (ap (places.access_at config) is.0) ∙ first) in
     let none : ℕ = 0 in
     let sized : length (replicate count none) ≡ count = length-replicate count none in
-    let same : who.own + who.words ≡ old.who.own + old.who.words = ap (λ (w : Who). w.own + w.words) stands.made in
-    ap (λ p. places.access_at who (place_after who p values)) is.0 ∙ clear_writes who at _ state values (omega (arith, few, sized, within, same))
+    let same : config.own + config.words ≡ old.config.own + old.config.words = ap (λ (w : EndConfig). w.own + w.words) refines.made in
+    ap (λ p. places.access_at config (place_after config p values)) is.0 ∙ clear_writes config at _ state values (omega (arith, few, sized, within, same))
     ∙ ap (λ n. access.Write (n + length values) 0) word_is ∙ ap (access.Write (word + length values)) (sym (dropped_zeros 4 (4 * length values) count))
 
 -- the writes of some or of all of the own words that are left
-pub clears_some : (old : Engine) (at state count : ℕ) (place : Place) (values : List ℕ) → old.place ≡ Clearing at state → 0 < count → at + count ≤ old.who.own + old.who.words → length values ≡ count →
-    (at + count < old.who.own + old.who.words → place ≡ Clearing (at + count) state) → (at + count ≡ old.who.own + old.who.words → place ≡ Setting state) → Each IsTaken old values [] (record old { place = place })
+pub clears_some : (old : Engine) (at state count : ℕ) (place : Place) (values : List ℕ) → old.place ≡ Clearing at state → 0 < count → at + count ≤ old.config.own + old.config.words → length values ≡ count →
+    (at + count < old.config.own + old.config.words → place ≡ Clearing (at + count) state) → (at + count ≡ old.config.own + old.config.words → place ≡ WritingState state) → StepsThrough IsTaken old values [] (record old { place = place })
 clears_some old at state count place values clears some within count_is word behind =
-    elim (cases_lt (at + count) (old.who.own + old.who.words)) [
+    elim (cases_lt (at + count) (old.config.own + old.config.words)) [
       | inl before ↦ clears_on old _ at state values clears (omega (arith, some, count_is)) (omega (arith, before, count_is)) (ap (λ p. record old { place = p }) (word before ∙ ap (λ n. Clearing (at + n) state) (sym count_is)))
       | inr after ↦ clears_all old _ at state values clears (omega (arith, some, count_is)) (omega (arith, within, after, count_is)) (ap (λ p. record old { place = p }) (behind (omega (arith, within, after))))
     ]
 
-pub kept_placed : (i : Inside) (place : Place) (at then : ℕ) (values : List ℕ) (notes : List Note) → IsKept i → i.place ≡ Clearing at then → Each IsTaken (seen i) values notes (seen (record i { place = place })) → IsKept (record i { place = place })
+pub kept_placed : (i : Inside) (place : Place) (at then : ℕ) (values : List ℕ) (notes : List Note) → IsWellFormed i → i.place ≡ Clearing at then → StepsThrough IsTaken (seen i) values notes (seen (record i { place = place })) → IsWellFormed (record i { place = place })
 kept_placed i place at then values notes kept clears each =
-    let later = stands_on (seen i) (seen (record i { place = place })) values notes (seen i).who kept.end kept.at each kept.stands in
+    let later = stands_on (seen i) (seen (record i { place = place })) values notes (seen i).config kept.end kept.at each kept.refines in
     record {
       sections = kept.sections;
       own_room = kept.own_room;
@@ -221,7 +221,7 @@ kept_placed i place at then values notes kept clears each =
       left = λ is. absurd (subst (λ p. IsLeft p i.handshake.phase) clears (kept.left is));
       end = later.end;
       at = later.place;
-      stands = later.stands;
+      refines = later.refines;
     }
 
 -- as many values as are asked for

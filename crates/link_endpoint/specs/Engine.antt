@@ -7,27 +7,27 @@ use Rattle.split_ring.specs.declared.steps.Note.{Note}
 use Rattle.split_ring.specs.declared.steps.Note.TheVariants as note
 use Rattle.link_handshake.specs.declared.Phase.{Phase}
 use Rattle.link_handshake.specs.declared.Phase.TheVariants.{Reset}
-use Rattle.link_handshake.specs.Standing.{Standing}
-use Rattle.call_grammar.specs.Calls.{Who}
+use Rattle.link_handshake.specs.HandshakeState.{HandshakeState}
+use Rattle.call_grammar.specs.Calls.{EndConfig}
 use Rattle.call_grammar.specs.Calls as calls
 use Rattle.tx_engine.specs.Sender.{Sender, fresh_sender}
 use Rattle.tx_engine.specs.Sender as sender
 use Rattle.tx_engine.specs.Ahead as ahead
-use Rattle.tx_engine.specs.declared.ahead.Stretches.{Stretches}
+use Rattle.tx_engine.specs.declared.ahead.Bursts.{Bursts}
 use Rattle.rx_engine.specs.Receiver.{Receiver, fresh_receiver, renewed}
 use Rattle.rx_engine.specs.Receiver as receiver
 use Rattle.link_endpoint.specs.declared.place.Call.{Call}
 use Rattle.link_endpoint.specs.declared.place.Call.TheVariants.{Tick, Poll, Stop}
 use Rattle.link_endpoint.specs.declared.place.Place.{Place}
-use Rattle.link_endpoint.specs.declared.place.Place.TheVariants.{Closed, Looking, Clearing, Refusing, Downed, Offering, Polling}
+use Rattle.link_endpoint.specs.declared.place.Place.TheVariants.{Closed, ReadingOtherState, Clearing, Refusing, NotInRun, Offering, Polling}
 
 -- the two ends of the link are peers 0 and 1 (profile)
 abbrev pub partner : ℕ → ℕ
 partner peer = if peer == 0 then 1 else 0
 
 -- a peer of a region, as the call grammar sees it: the first words of the two sections, the words and the sizes of each, and the vector of its doorbells
-abbrev pub who_of : Shape → Sizes → (me traffic : ℕ) → Who
-who_of shape sizes me traffic = record {
+abbrev pub config_of : Shape → Sizes → (me traffic : ℕ) → EndConfig
+config_of shape sizes me traffic = record {
   me = me;
   other = partner me;
   own = section_start shape me;
@@ -39,7 +39,7 @@ who_of shape sizes me traffic = record {
 
 -- whose end it is; its phase, and what it refused since its device was reset last; its place in the open call; its sender and its receiver
 pub record Engine : Type 0 where
-  pub who : Who
+  pub config : EndConfig
   pub phase : Phase
   pub refused : Option Refused
   pub place : Place
@@ -47,19 +47,19 @@ pub record Engine : Type 0 where
   pub receiver : Receiver
 
 -- an endpoint at its start
-abbrev pub fresh_engine : Who → Engine
-fresh_engine who = record {
-  who = who;
+abbrev pub fresh_engine : EndConfig → Engine
+fresh_engine config = record {
+  config = config;
   phase = Reset;
   refused = None;
   place = Closed;
-  sender = fresh_sender who.sizes who.own who.theirs who.other who.vector;
-  receiver = fresh_receiver who.sizes who.own who.theirs who.other who.vector;
+  sender = fresh_sender config.sizes config.own config.theirs config.other config.vector;
+  receiver = fresh_receiver config.sizes config.own config.theirs config.other config.vector;
 }
 
 -- an endpoint whose device was reset: only the frame delivered last stays
 abbrev pub engine_after_reset : Engine → Engine
-engine_after_reset e = record (fresh_engine e.who) { receiver = renewed e.receiver }
+engine_after_reset e = record (fresh_engine e.config) { receiver = renewed e.receiver }
 
 -- a call is open at each place but one
 abbrev pub is_open_at : Place → Bool
@@ -71,27 +71,27 @@ is_busy e = is_open_at e.place
 
 -- the open call is an offer or a poll that began outside RUN
 abbrev pub is_down_at : Place → Bool
-is_down_at Downed = true
+is_down_at NotInRun = true
 is_down_at _ = false
 
 abbrev pub is_down : Engine → Bool
 is_down e = is_down_at e.place
 
 -- the State step of a refusal is next
-abbrev pub is_leaving_at : Place → Bool
-is_leaving_at Refusing = true
-is_leaving_at _ = false
+abbrev pub is_refusing_at : Place → Bool
+is_refusing_at Refusing = true
+is_refusing_at _ = false
 
-abbrev pub is_leaving : Engine → Bool
-is_leaving e = is_leaving_at e.place
+abbrev pub is_refusing : Engine → Bool
+is_refusing e = is_refusing_at e.place
 
 -- the look of a Tick is next
-abbrev pub is_looking_at : Place → Bool
-is_looking_at Looking = true
-is_looking_at _ = false
+abbrev pub is_reading_state_at : Place → Bool
+is_reading_state_at ReadingOtherState = true
+is_reading_state_at _ = false
 
-abbrev pub is_looking : Engine → Bool
-is_looking e = is_looking_at e.place
+abbrev pub is_reading_state : Engine → Bool
+is_reading_state e = is_reading_state_at e.place
 
 -- how many of the coming accesses read one word after the other, none before the last with a note; 0 where no read of several words comes
 abbrev pub reads_ahead_at : Place → Receiver → ℕ
@@ -102,14 +102,14 @@ abbrev pub reads_ahead : Engine → ℕ
 reads_ahead e = reads_ahead_at e.place e.receiver
 
 -- the same of writes, which have no note
-abbrev pub writes_ahead_at : Place → Who → Sender → Receiver → ℕ
-writes_ahead_at Offering who tx rx = sender.writes_ahead tx.place
-writes_ahead_at Polling who tx rx = receiver.writes_ahead rx.place
-writes_ahead_at (Clearing at state) who tx rx = who.own + who.words - at
-writes_ahead_at _ who tx rx = 0
+abbrev pub writes_ahead_at : Place → EndConfig → Sender → Receiver → ℕ
+writes_ahead_at Offering config tx rx = sender.writes_ahead tx.place
+writes_ahead_at Polling config tx rx = receiver.writes_ahead rx.place
+writes_ahead_at (Clearing at state) config tx rx = config.own + config.words - at
+writes_ahead_at _ config tx rx = 0
 
 abbrev pub writes_ahead : Engine → ℕ
-writes_ahead e = writes_ahead_at e.place e.who e.sender e.receiver
+writes_ahead e = writes_ahead_at e.place e.config e.sender e.receiver
 
 -- the bytes of a frame whose first word is read next
 abbrev pub frame_ahead_at : Place → Receiver → Option ℕ
@@ -120,15 +120,15 @@ abbrev pub frame_ahead : Engine → Option ℕ
 frame_ahead e = frame_ahead_at e.place e.receiver
 
 -- the words that an offer writes before its index, where a word of its frame is next
-abbrev pub stretches_at : Place → Sender → Option Stretches
-stretches_at Offering tx = ahead.stretches_of tx
-stretches_at _ tx = None
+abbrev pub bursts_at : Place → Sender → Option Bursts
+bursts_at Offering tx = ahead.bursts_of tx
+bursts_at _ tx = None
 
-abbrev pub stretches_of : Engine → Option Stretches
-stretches_of e = stretches_at e.place e.sender
+abbrev pub bursts_of : Engine → Option Bursts
+bursts_of e = bursts_at e.place e.sender
 
 -- where its handshake stands: it bears the mark where it refused something
-abbrev pub standing_of : Engine → Standing
+abbrev pub standing_of : Engine → HandshakeState
 standing_of e = record { phase = e.phase; mark = is_some e.refused }
 
 -- the frame of the open offer

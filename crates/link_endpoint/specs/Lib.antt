@@ -1,9 +1,9 @@
 pub mod Engine
-pub mod Stands
+pub mod Refinement
 pub mod Leaving
-pub mod Stretches
+pub mod Bursts
 pub mod Orders
 pub mod Runs
-pub mod Kept
+pub mod Representation
 pub mod Plan
-pub mod KeptPlan
+pub mod PlanRepresentation

@@ -29,15 +29,15 @@ release_with_a_fence = record { order = Release; fence_before = false; fence_aft
 -- the other's state is acquired, the own one released, with a fence after it; an index is acquired where it is read, and released where it is
 -- written; a fence stands after the own event and before the other's; all else is relaxed
 abbrev pub order_at : places.Place → Ordering
-order_at (places.AtState handshake) = acquire
-order_at (places.Setting state) = release_with_a_fence
+order_at (places.ReadingOtherState handshake) = acquire
+order_at (places.WritingState state) = release_with_a_fence
 order_at places.Refusing = release_with_a_fence
-order_at (places.AtUsedIndex job freed) = acquire
-order_at (places.AtAvailIndex taken last) = acquire
-order_at (places.WritingIndex job) = release
-order_at (places.GivingIndex number more) = release
-order_at (places.AtEvent number) = relaxed_after_a_fence
-order_at (places.Arming taken) = relaxed_before_a_fence
+order_at (places.ReadingUsedIndex pending freed) = acquire
+order_at (places.ReadingAvailIndex taken last) = acquire
+order_at (places.WritingAvailIndex pending) = release
+order_at (places.WritingUsedIndex number more) = release
+order_at (places.ReadingAvailEvent number) = relaxed_after_a_fence
+order_at (places.WritingAvailEvent taken) = relaxed_before_a_fence
 order_at _ = relaxed
 
 -- the order of an access of an offer or a poll, by what its word is

@@ -4,16 +4,16 @@ use Rattle.split_ring.specs.declared.steps.Note.{Note}
 use Rattle.call_grammar.specs.Steps.{Step, value_given}
 use Rattle.call_grammar.specs.Trees.{CallTree, GoesAlong}
 use Rattle.call_grammar.specs.Ends.{End, end_after}
-use Rattle.call_grammar.specs.Calls.{Who, Call, tree_of, IsCall}
+use Rattle.call_grammar.specs.Calls.{EndConfig, Call, tree_of, IsCall}
 use Rattle.call_grammar.specs.Places as places
 use Rattle.link_endpoint.specs.Engine.{Engine, is_busy, offered, delivered}
-use Rattle.link_endpoint.specs.Stands.{StandsAt, Takes, marks_between}
+use Rattle.link_endpoint.specs.Refinement.{RefinesAt, Takes, marks_between}
 
 -- the endpoint takes a step: its access is the one that `next` told, `took` was handed some value, which is that of the step if it is a read,
 -- and the marks are those of the notes
 pub record TakesStep (old : Engine) (step : Step) (new : Engine) : Type 0 where
   pub busy : is_busy old ≡ true
-  pub access : (who : Who) (end : End) (place : places.Place) → StandsAt old who end place → step.access ≡ places.access_at who place
+  pub access : (config : EndConfig) (end : End) (place : places.Place) → RefinesAt old config end place → step.access ≡ places.access_at config place
   pub handed : ℕ
   pub value : step.value ≡ value_given step.access handed
   pub notes : List Note
@@ -33,9 +33,9 @@ end_after_all end (step ∷ steps) = end_after_all (end_after end step) steps
 -- an endpoint at the first place of a call, where `begin` and `offer` put it, makes that call: its steps are the call's where none is open
 -- after them, and it stands for the end after them; and where the call is cut, or goes on, they begin the call
 pub record EndpointsMakeCalls : Type 0 where
-  pub whole : (first last : Engine) (who : Who) (end : End) (call : Call) (steps : List Step) →
-      StandsAt first who end (places.first_place who end call) → TakesSteps first steps last → is_busy last ≡ false →
-      IsCall who end call steps × StandsAt last who (end_after_all end steps) places.Closed
-  pub begun : (first last : Engine) (who : Who) (end : End) (call : Call) (steps : List Step) →
-      StandsAt first who end (places.first_place who end call) → TakesSteps first steps last →
-      (left : CallTree) × GoesAlong (tree_of who end call) steps left
+  pub whole : (first last : Engine) (config : EndConfig) (end : End) (call : Call) (steps : List Step) →
+      RefinesAt first config end (places.first_place config end call) → TakesSteps first steps last → is_busy last ≡ false →
+      IsCall config end call steps × RefinesAt last config (end_after_all end steps) places.Closed
+  pub begun : (first last : Engine) (config : EndConfig) (end : End) (call : Call) (steps : List Step) →
+      RefinesAt first config end (places.first_place config end call) → TakesSteps first steps last →
+      (left : CallTree) × GoesAlong (tree_of config end call) steps left

@@ -41,7 +41,7 @@ pub struct Auto {
 
 impl Model for Auto {
     ghost use Rattle.link_endpoint.specs.Plan.{Plan};
-    ghost use Rattle.link_endpoint.specs.KeptPlan.{plan_of, IsPlan};
+    ghost use Rattle.link_endpoint.specs.PlanRepresentation.{plan_of, IsPlan};
 
     ghost Value = { Plan };
 

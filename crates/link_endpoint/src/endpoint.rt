@@ -2,18 +2,18 @@
 ghost use Rattle.std.specs.Prelude.{◌≡◌, ℕ, ◌+◌, ◌*◌, ◌%◌, ◌<◌, ◌≤◌, ◌↔◌, not, is_some, Some, None, List, [], ◌∷◌, true, false, IsTrue, IfOk, IfSome, ◌++◌, length, take, flat_map};
 ghost use Rattle.link_handshake.specs.declared.Phase.TheVariants.{Run};
 ghost use Rattle.call_grammar.specs.Ends.{End, fresh, after_reset};
-ghost use Rattle.call_grammar.specs.Calls.{Who, Offer, in_run};
+ghost use Rattle.call_grammar.specs.Calls.{EndConfig, Offer, in_run};
 ghost use Rattle.call_grammar.specs.Places as places;
-ghost use Rattle.call_grammar.specs.Reach.{InReach};
+ghost use Rattle.call_grammar.specs.Reach.{IsPermittedAccess};
 ghost use Rattle.call_grammar.specs.Ticks.{other_state};
-ghost use Rattle.call_grammar.specs.Stretches.{Each, ReadsOn, WritesOn};
+ghost use Rattle.call_grammar.specs.Bursts.{StepsThrough, ReadsBurst, WritesBurst};
 ghost use Rattle.call_grammar.specs.Words.{word_bytes};
 ghost use Rattle.call_grammar.specs.StepBounds.{HasFewInFlight};
 ghost use Rattle.tx_engine.specs.Ahead.{words_of, listed, last_words, WritesAll};
-ghost use Rattle.link_endpoint.specs.Engine.{who_of, fresh_engine, engine_after_reset, is_busy, is_down, is_leaving, is_looking, is_tick, offered, delivered, call_of, comes_down, refused_after, reads_ahead, frame_ahead, writes_ahead, stretches_of};
-ghost use Rattle.link_endpoint.specs.Stands.{StandsAt, is_armed, Takes, Opens};
+ghost use Rattle.link_endpoint.specs.Engine.{config_of, fresh_engine, engine_after_reset, is_busy, is_down, is_refusing, is_reading_state, is_tick, offered, delivered, call_of, comes_down, refused_after, reads_ahead, frame_ahead, writes_ahead, bursts_of};
+ghost use Rattle.link_endpoint.specs.Refinement.{RefinesAt, is_armed, Takes, Opens};
 ghost use Rattle.link_endpoint.specs.Leaving.{Refuses, Leaves, KeepsRefused, Stays, KeepsAway};
-ghost use Rattle.link_endpoint.specs.Stretches.{IsTaken};
+ghost use Rattle.link_endpoint.specs.Bursts.{IsTaken};
 ghost use Rattle.link_endpoint.specs.Orders.{order_at, order_of};
 ghost use Rattle.link_endpoint.specs.Runs.{EndpointsMakeCalls};
 
@@ -27,7 +27,7 @@ use split_ring::steps::{Access, Note, Notes, WordKind, leaving};
 use split_ring::{Queue, Refused};
 use std::alloc::Global;
 use std::marker::Model;
-use tx_engine::{Stretches, Tx};
+use tx_engine::{Bursts, Tx};
 
 /// An end of the link: its handshake, its sender and its receiver, and the place in the open call.
 ///
@@ -47,13 +47,13 @@ pub struct Endpoint {
 
 impl Model for Endpoint {
     ghost use Rattle.link_endpoint.specs.Engine.{Engine};
-    ghost use Rattle.link_endpoint.specs.Kept.{seen, IsKept};
+    ghost use Rattle.link_endpoint.specs.Representation.{seen, IsWellFormed};
 
     ghost Value = { Engine };
 
     ghost view = { seen };
 
-    ghost invariant = { IsKept };
+    ghost invariant = { IsWellFormed };
 }
 
 impl Endpoint {
@@ -70,8 +70,8 @@ impl Endpoint {
     ) -> Result<Endpoint, NoMemory>
         requires peer { me ≤ 1 }
         requires queue { queue.now.out ≡ 4 * geometry.now.out }
-        ensures value { IfOk result (λ e. e ≡ fresh_engine (who_of geometry.now queue.now me traffic)) }
-        ensures stands { IfOk result (λ e. StandsAt e (who_of geometry.now queue.now me traffic) fresh places.Closed) }
+        ensures value { IfOk result (λ e. e ≡ fresh_engine (config_of geometry.now queue.now me traffic)) }
+        ensures refines { IfOk result (λ e. RefinesAt e (config_of geometry.now queue.now me traffic) fresh places.Closed) }
     {
         let words = geometry.out_words();
         prove!(queue.out() == 4 * words);
@@ -93,7 +93,7 @@ impl Endpoint {
     /// Is a call open?
     pub fn busy(&self) -> bool
         ensures value { result ≡ is_busy self.now }
-        ensures open { (who : Who) (end : End) (place : places.Place) → StandsAt self.now who end place → result ≡ places.is_open place }
+        ensures open { (config : EndConfig) (end : End) (place : places.Place) → RefinesAt self.now config end place → result ≡ places.is_open place }
     {
         !matches!(self.place, Place::Closed)
     }
@@ -102,8 +102,8 @@ impl Endpoint {
     /// the refusal on, until it is reset.
     pub fn phase(&self) -> Phase
         ensures value { result ≡ self.now.phase }
-        ensures end { (who : Who) (end : End) (place : places.Place) → StandsAt self.now who end place → result ≡ end.handshake.phase }
-        ensures left { is_some self.now.refused ≡ true → is_leaving self.now ≡ false → result ≡ Phase.Reset }
+        ensures end { (config : EndConfig) (end : End) (place : places.Place) → RefinesAt self.now config end place → result ≡ end.handshake.phase }
+        ensures left { is_some self.now.refused ≡ true → is_refusing self.now ≡ false → result ≡ Phase.Reset }
     {
         self.handshake.phase()
     }
@@ -111,7 +111,7 @@ impl Endpoint {
     /// Does the end wait armed? Asked where no call is open: in RUN it does from a poll that finds nothing on, until one finds a frame. An
     /// end that does is rung at the next frame that an honest other accepts. In a link without events none does.
     pub fn is_armed(&self) -> bool
-        ensures { (who : Who) (end : End) → StandsAt self.now who end places.Closed → result ≡ is_armed who end }
+        ensures { (config : EndConfig) (end : End) → RefinesAt self.now config end places.Closed → result ≡ is_armed config end }
     {
         self.in_run() && self.rx.is_armed()
     }
@@ -120,14 +120,14 @@ impl Endpoint {
     /// Tick finds that the end stays.
     pub fn refused(&self) -> Option<Refused>
         ensures value { result ≡ self.now.refused }
-        ensures end { (who : Who) (end : End) (place : places.Place) → StandsAt self.now who end place → is_some result ≡ end.handshake.mark }
+        ensures end { (config : EndConfig) (end : End) (place : places.Place) → RefinesAt self.now config end place → is_some result ≡ end.handshake.mark }
     {
         self.refused
     }
 
     /// The bytes of the longest frame that may be offered: 18 more than the MTU.
     pub fn longest(&self) -> u32
-        ensures { result ≡ self.now.who.sizes.mtu + 18 }
+        ensures { result ≡ self.now.config.sizes.mtu + 18 }
     {
         self.tx.longest()
     }
@@ -135,7 +135,7 @@ impl Endpoint {
     /// The frame of the open offer, or of the last one since the session opened; or none.
     pub fn offered(&self) -> &[u8]
         ensures value { result.now ≡ offered self.now }
-        ensures most { length result.now ≤ self.now.who.sizes.mtu + 18 }
+        ensures most { length result.now ≤ self.now.config.sizes.mtu + 18 }
     {
         self.tx.frame()
     }
@@ -151,21 +151,21 @@ impl Endpoint {
     /// Opens a call.
     pub fn begin(&mut self, call: Call)
         requires { is_busy self.old ≡ false }
-        ensures stands { (who : Who) (end : End) → StandsAt self.old who end places.Closed →
-            StandsAt self.new who end (places.first_place who end (call_of call)) }
+        ensures refines { (config : EndConfig) (end : End) → RefinesAt self.old config end places.Closed →
+            RefinesAt self.new config end (places.first_place config end (call_of call)) }
         ensures open { is_busy self.new ≡ true }
         ensures down { is_down self.new ≡ comes_down call self.old.phase }
-        ensures looks { is_looking self.new ≡ is_tick call }
+        ensures looks { is_reading_state self.new ≡ is_tick call }
         ensures kept { Opens self.old self.new }
     {
         match call {
-            Call::Tick => self.place = Place::Looking,
-            Call::Stop => self.place = Place::Setting(0),
+            Call::Tick => self.place = Place::ReadingOtherState,
+            Call::Stop => self.place = Place::WritingState(0),
             Call::Poll if self.handshake.phase() == Phase::Run => {
                 self.rx.begin();
                 self.place = Place::Polling;
             }
-            Call::Poll => self.place = Place::Downed,
+            Call::Poll => self.place = Place::NotInRun,
         }
     }
 
@@ -181,10 +181,10 @@ impl Endpoint {
     /// In each phase no more frames are in flight than may be, and so the offer has no more steps than its bound.
     pub fn offer(&mut self, frame: &[u8])
         requires closed { is_busy self.old ≡ false }
-        requires frame { (14 ≤ length frame.now) × (length frame.now ≤ self.old.who.sizes.mtu + 18) }
-        ensures stands { (who : Who) (end : End) → StandsAt self.old who end places.Closed →
-            StandsAt self.new who end (places.first_place who end (Offer frame.now)) }
-        ensures few { (who : Who) (end : End) (place : places.Place) → StandsAt self.old who end place → HasFewInFlight who end }
+        requires frame { (14 ≤ length frame.now) × (length frame.now ≤ self.old.config.sizes.mtu + 18) }
+        ensures refines { (config : EndConfig) (end : End) → RefinesAt self.old config end places.Closed →
+            RefinesAt self.new config end (places.first_place config end (Offer frame.now)) }
+        ensures few { (config : EndConfig) (end : End) (place : places.Place) → RefinesAt self.old config end place → HasFewInFlight config end }
         ensures open { is_busy self.new ≡ true }
         ensures down { is_down self.new ≡ not (in_run self.old.phase) }
         ensures frame { self.old.phase ≡ Run → offered self.new ≡ frame.now }
@@ -194,7 +194,7 @@ impl Endpoint {
             self.tx.begin(frame);
             self.place = Place::Offering;
         } else {
-            self.place = Place::Downed;
+            self.place = Place::NotInRun;
         }
     }
 
@@ -202,9 +202,9 @@ impl Endpoint {
     pub fn offer_again(&mut self)
         requires closed { is_busy self.old ≡ false }
         requires some { 14 ≤ length (offered self.old) }
-        ensures stands { (who : Who) (end : End) → StandsAt self.old who end places.Closed →
-            StandsAt self.new who end (places.first_place who end (Offer (offered self.old))) }
-        ensures few { (who : Who) (end : End) (place : places.Place) → StandsAt self.old who end place → HasFewInFlight who end }
+        ensures refines { (config : EndConfig) (end : End) → RefinesAt self.old config end places.Closed →
+            RefinesAt self.new config end (places.first_place config end (Offer (offered self.old))) }
+        ensures few { (config : EndConfig) (end : End) (place : places.Place) → RefinesAt self.old config end place → HasFewInFlight config end }
         ensures open { is_busy self.new ≡ true }
         ensures down { is_down self.new ≡ not (in_run self.old.phase) }
         ensures frame { offered self.new ≡ offered self.old }
@@ -214,7 +214,7 @@ impl Endpoint {
             self.tx.begin_again();
             self.place = Place::Offering;
         } else {
-            self.place = Place::Downed;
+            self.place = Place::NotInRun;
         }
     }
 
@@ -222,17 +222,17 @@ impl Endpoint {
     /// doorbell to the other. Nothing is the one step of an offer or a poll outside RUN.
     pub fn next(&self) -> Access
         requires { is_busy self.now ≡ true }
-        ensures access { (who : Who) (end : End) (place : places.Place) → StandsAt self.now who end place → result ≡ places.access_at who place }
-        ensures reach { InReach self.now.who result }
+        ensures access { (config : EndConfig) (end : End) (place : places.Place) → RefinesAt self.now config end place → result ≡ places.access_at config place }
+        ensures reach { IsPermittedAccess self.now.config result }
         ensures nothing { (result ≡ Access.Nothing) ↔ IsTrue (is_down self.now) }
-        ensures leaves { is_leaving self.now ≡ true → result ≡ Access.State 0 }
+        ensures leaves { is_refusing self.now ≡ true → result ≡ Access.State 0 }
     {
         match self.place {
-            Place::Looking => Access::Read(self.other_state()),
+            Place::ReadingOtherState => Access::Read(self.other_state()),
             Place::Clearing { at, .. } => Access::Write(at, 0),
-            Place::Setting(state) => Access::State(state),
+            Place::WritingState(state) => Access::State(state),
             Place::Refusing => leaving(),
-            Place::Downed => Access::Nothing,
+            Place::NotInRun => Access::Nothing,
             Place::Offering => self.tx.next(),
             Place::Polling => self.rx.next(),
             Place::Closed => unreachable!(),
@@ -267,11 +267,11 @@ impl Endpoint {
         ensures stays { Stays self.old value notes.new.items self.new }
     {
         match self.place {
-            Place::Looking => self.took_state(value, notes),
+            Place::ReadingOtherState => self.took_state(value, notes),
             Place::Clearing { at, then } => self.took_clear(at, then),
-            Place::Setting(state) => self.took_set(state, notes),
+            Place::WritingState(state) => self.took_set(state, notes),
             Place::Refusing => self.took_refusal(notes),
-            Place::Downed => self.took_down(notes),
+            Place::NotInRun => self.took_down(notes),
             Place::Offering => self.took_offer(value, notes),
             Place::Polling => self.took_poll(value, notes),
             Place::Closed => unreachable!(),
@@ -280,11 +280,11 @@ impl Endpoint {
 
     /// The order that the next access needs of the memory, where the words aren't all sequentially consistent.
     pub fn order(&self) -> Ordering
-        ensures { (who : Who) (end : End) (place : places.Place) → StandsAt self.now who end place → result ≡ order_at place }
+        ensures { (config : EndConfig) (end : End) (place : places.Place) → RefinesAt self.now config end place → result ≡ order_at place }
     {
         match self.place {
-            Place::Looking => plain(Order::Acquire),
-            Place::Setting(_) | Place::Refusing => Ordering {
+            Place::ReadingOtherState => plain(Order::Acquire),
+            Place::WritingState(_) | Place::Refusing => Ordering {
                 order: Order::Release,
                 fence_before: false,
                 fence_after: true,
@@ -299,8 +299,8 @@ impl Endpoint {
     /// read of several words comes.
     pub fn reads_ahead(&self) -> u32
         ensures value { result ≡ reads_ahead self.now }
-        ensures reads { (who : Who) (end : End) (place : places.Place) (word : ℕ) → StandsAt self.now who end place →
-            places.access_at who place ≡ Access.Read word → ReadsOn who place word result }
+        ensures reads { (config : EndConfig) (end : End) (place : places.Place) (word : ℕ) → RefinesAt self.now config end place →
+            places.access_at config place ≡ Access.Read word → ReadsBurst config place word result }
     {
         match self.place {
             Place::Polling => self.rx.reads_ahead(),
@@ -312,28 +312,28 @@ impl Endpoint {
     ///
     /// It is the same as `took` for each of these words in turn. Where these are all the words of a frame, the frame delivered is their first
     /// bytes.
-    pub fn took_words(&mut self, words: &[u8]) -> Notes
+    pub fn took_reads(&mut self, words: &[u8]) -> Notes
         requires some { 0 < length words.now }
         requires whole { length words.now % 4 ≡ 0 }
         requires within { length words.now ≤ 4 * reads_ahead self.old }
-        ensures steps { (values : List ℕ) → words.now ≡ flat_map word_bytes values → Each IsTaken self.old values result.items self.new }
+        ensures steps { (values : List ℕ) → words.now ≡ flat_map word_bytes values → StepsThrough IsTaken self.old values result.items self.new }
         ensures frame { IfSome (frame_ahead self.old) (λ bytes. length words.now ≡ 4 * reads_ahead self.old → delivered self.new ≡ take bytes words.now) }
     {
         let mut notes = Notes::new();
-        self.took_words_into(words, &mut notes);
+        self.took_reads_into(words, &mut notes);
         notes
     }
 
-    /// The same as `took_words`, with the notes put into a list that the caller has.
-    pub fn took_words_into(&mut self, words: &[u8], notes: &mut Notes)
+    /// The same as `took_reads`, with the notes put into a list that the caller has.
+    pub fn took_reads_into(&mut self, words: &[u8], notes: &mut Notes)
         requires some { 0 < length words.now }
         requires whole { length words.now % 4 ≡ 0 }
         requires within { length words.now ≤ 4 * reads_ahead self.old }
         requires empty { notes.old.items ≡ [] }
-        ensures steps { (values : List ℕ) → words.now ≡ flat_map word_bytes values → Each IsTaken self.old values notes.new.items self.new }
+        ensures steps { (values : List ℕ) → words.now ≡ flat_map word_bytes values → StepsThrough IsTaken self.old values notes.new.items self.new }
         ensures frame { IfSome (frame_ahead self.old) (λ bytes. length words.now ≡ 4 * reads_ahead self.old → delivered self.new ≡ take bytes words.now) }
     {
-        self.rx.took_words_into(words, notes)
+        self.rx.took_reads_into(words, notes)
     }
 
     /// How many of the coming accesses write one word after the other, from that of `next` on, none with a note; 0 where no write of several
@@ -353,8 +353,8 @@ impl Endpoint {
     pub fn words(&self, into: &mut [u8])
         requires whole { length into.old % 4 ≡ 0 }
         requires within { length into.old ≤ 4 * writes_ahead self.now }
-        ensures writes { (who : Who) (end : End) (place : places.Place) (word value : ℕ) → StandsAt self.now who end place →
-            places.access_at who place ≡ Access.Write word value → WritesOn who place word into.new }
+        ensures writes { (config : EndConfig) (end : End) (place : places.Place) (word value : ℕ) → RefinesAt self.now config end place →
+            places.access_at config place ≡ Access.Write word value → WritesBurst config place word into.new }
         ensures sized { length into.new ≡ length into.old }
     {
         match self.place {
@@ -368,14 +368,14 @@ impl Endpoint {
     /// Takes the steps of so many of the writes that `writes_ahead` tells at once.
     ///
     /// It is the same as `took` so many times, each of which has no note.
-    pub fn took_written(&mut self, count: u32)
+    pub fn took_writes(&mut self, count: u32)
         requires some { 0 < count }
         requires within { count ≤ writes_ahead self.old }
-        ensures { (values : List ℕ) → length values ≡ count → Each IsTaken self.old values [] self.new }
+        ensures { (values : List ℕ) → length values ≡ count → StepsThrough IsTaken self.old values [] self.new }
     {
         match self.place {
-            Place::Offering => self.tx.took_written(count),
-            Place::Polling => self.rx.took_written(count),
+            Place::Offering => self.tx.took_writes(count),
+            Place::Polling => self.rx.took_writes(count),
             Place::Clearing { at, then } => self.took_clears(at, then, count),
             _ => unreachable!(),
         }
@@ -383,36 +383,36 @@ impl Endpoint {
 
     /// Which words the open offer writes before its index: those that are left of its frame, those of the descriptor and that of the entry,
     /// one behind the other and with no note. None where no word of a frame is next.
-    pub fn stretches(&self) -> Option<Stretches>
-        ensures { result ≡ stretches_of self.now }
+    pub fn bursts(&self) -> Option<Bursts>
+        ensures { result ≡ bursts_of self.now }
     {
         match self.place {
-            Place::Offering => self.tx.stretches(),
+            Place::Offering => self.tx.bursts(),
             _ => None,
         }
     }
 
-    /// Puts all the words that `stretches` tells into `into`, each as four bytes, the lowest first.
-    pub fn stretch_words(&self, into: &mut [u8])
-        requires sized { length into.old ≡ 4 * words_of (stretches_of self.now) }
-        ensures writes { (who : Who) (end : End) (place : places.Place) → StandsAt self.now who end place →
-            IfSome (stretches_of self.now) (λ stretches. WritesAll who place (listed stretches) into.new) }
+    /// Puts all the words that `bursts` tells into `into`, each as four bytes, the lowest first.
+    pub fn burst_words(&self, into: &mut [u8])
+        requires sized { length into.old ≡ 4 * words_of (bursts_of self.now) }
+        ensures writes { (config : EndConfig) (end : End) (place : places.Place) → RefinesAt self.now config end place →
+            IfSome (bursts_of self.now) (λ bursts. WritesAll config place (listed bursts) into.new) }
         ensures sized { length into.new ≡ length into.old }
     {
         if let Place::Offering = self.place {
-            self.tx.stretch_words(into);
+            self.tx.burst_words(into);
         }
     }
 
-    /// Puts the words of the descriptor and of the entry that `stretches` tells into `into`, each as four bytes, the lowest first.
+    /// Puts the words of the descriptor and of the entry that `bursts` tells into `into`, each as four bytes, the lowest first.
     ///
     /// The words of the frame are the last ones of `offered`, with 0 after its last byte: who has that frame writes them from there. Where no word
     /// of a frame is next nothing is put.
     pub fn tail_words(&self, into: &mut [u8])
         requires sized { length into.old ≡ 20 }
-        ensures writes { (who : Who) (end : End) (place : places.Place) → StandsAt self.now who end place →
-            IfSome (stretches_of self.now) (λ stretches. WritesAll who place (listed stretches) (last_words (offered self.now) stretches.frame.count ++ into.new)) }
-        ensures untouched { stretches_of self.now ≡ None → into.new ≡ into.old }
+        ensures writes { (config : EndConfig) (end : End) (place : places.Place) → RefinesAt self.now config end place →
+            IfSome (bursts_of self.now) (λ bursts. WritesAll config place (listed bursts) (last_words (offered self.now) bursts.frame.count ++ into.new)) }
+        ensures untouched { bursts_of self.now ≡ None → into.new ≡ into.old }
         ensures sized { length into.new ≡ length into.old }
     {
         if let Place::Offering = self.place {
@@ -420,15 +420,15 @@ impl Endpoint {
         }
     }
 
-    /// Takes the steps of all the writes that `stretches` tells at once.
+    /// Takes the steps of all the writes that `bursts` tells at once.
     ///
     /// It is the same as `took` so many times, each of which has no note.
-    pub fn took_stretches(&mut self)
-        requires { 0 < words_of (stretches_of self.old) }
-        ensures { (values : List ℕ) → length values ≡ words_of (stretches_of self.old) → Each IsTaken self.old values [] self.new }
+    pub fn took_bursts(&mut self)
+        requires { 0 < words_of (bursts_of self.old) }
+        ensures { (values : List ℕ) → length values ≡ words_of (bursts_of self.old) → StepsThrough IsTaken self.old values [] self.new }
     {
         match self.place {
-            Place::Offering => self.tx.took_stretches(),
+            Place::Offering => self.tx.took_bursts(),
             _ => unreachable!(),
         }
     }
@@ -436,8 +436,8 @@ impl Endpoint {
     /// The end's own device was reset: the open call is cut, and what was refused is forgotten. The frame delivered last stays.
     pub fn reset(&mut self)
         ensures value { self.new ≡ engine_after_reset self.old }
-        ensures stands { (who : Who) (end : End) (place : places.Place) → StandsAt self.old who end place →
-            StandsAt self.new who (after_reset end) places.Closed }
+        ensures refines { (config : EndConfig) (end : End) (place : places.Place) → RefinesAt self.old config end place →
+            RefinesAt self.new config (after_reset end) places.Closed }
         ensures delivered { delivered self.new ≡ delivered self.old }
     {
         self.handshake.reset();
@@ -452,14 +452,14 @@ impl Endpoint {
 impl Endpoint {
     /// The word with the other's State.
     fn other_state(&self) -> u32
-        ensures { result ≡ other_state self.now.who }
+        ensures { result ≡ other_state self.now.config }
     {
         self.other
     }
 
     /// The read of the other's state.
     fn took_state(&mut self, value: u32, notes: &mut Notes)
-        requires place { self.old.place ≡ Place.Looking }
+        requires place { self.old.place ≡ Place.ReadingOtherState }
         requires empty { notes.old.items ≡ [] }
         ensures steps { Takes self.old value notes.new.items self.new }
         ensures leaving { KeepsAway self.old value notes.new.items self.new }
@@ -470,7 +470,7 @@ impl Endpoint {
                 notes.push(Note::Over);
                 Place::Closed
             }
-            Move::Set(state) => Place::Setting(state),
+            Move::Set(state) => Place::WritingState(state),
             Move::ClearThenSet(then) => Place::Clearing { at: self.own, then },
         };
     }
@@ -483,7 +483,7 @@ impl Endpoint {
     {
         let end = self.own + self.words;
         self.place = if at + 1 == end {
-            Place::Setting(then)
+            Place::WritingState(then)
         } else {
             Place::Clearing { at: at + 1, then }
         };
@@ -493,8 +493,8 @@ impl Endpoint {
     fn took_clears(&mut self, at: u32, then: u32, count: u32)
         requires place { self.old.place ≡ Place.Clearing at then }
         requires some { 0 < count }
-        requires within { at + count ≤ self.old.who.own + self.old.who.words }
-        ensures { (values : List ℕ) → length values ≡ count → Each IsTaken self.old values [] self.new }
+        requires within { at + count ≤ self.old.config.own + self.old.config.words }
+        ensures { (values : List ℕ) → length values ≡ count → StepsThrough IsTaken self.old values [] self.new }
     {
         let last = self.own + self.words;
         self.place = clearing(at + count, last, then);
@@ -502,7 +502,7 @@ impl Endpoint {
 
     /// The State step of a Tick or a Stop.
     fn took_set(&mut self, state: u32, notes: &mut Notes)
-        requires place { self.old.place ≡ Place.Setting state }
+        requires place { self.old.place ≡ Place.WritingState state }
         requires empty { notes.old.items ≡ [] }
         ensures steps { (value : ℕ) → Takes self.old value notes.new.items self.new }
         ensures leaving { (value : ℕ) → KeepsAway self.old value notes.new.items self.new }
@@ -517,7 +517,7 @@ impl Endpoint {
 
     /// The State step that opens a session.
     fn took_opening(&mut self, notes: &mut Notes)
-        requires place { self.old.place ≡ Place.Setting 2 }
+        requires place { self.old.place ≡ Place.WritingState 2 }
         requires empty { notes.old.items ≡ [] }
         ensures steps { (value : ℕ) → Takes self.old value notes.new.items self.new }
         ensures leaving { (value : ℕ) → KeepsAway self.old value notes.new.items self.new }
@@ -545,7 +545,7 @@ impl Endpoint {
 
     /// The one step of a call that is down.
     fn took_down(&mut self, notes: &mut Notes)
-        requires place { self.old.place ≡ Place.Downed }
+        requires place { self.old.place ≡ Place.NotInRun }
         requires empty { notes.old.items ≡ [] }
         ensures steps { (value : ℕ) → Takes self.old value notes.new.items self.new }
         ensures leaving { (value : ℕ) → KeepsAway self.old value notes.new.items self.new }
@@ -590,10 +590,10 @@ impl Endpoint {
 /// The place before the write of 0 to the own word `at`, where the last own word is before `end`, or after that last write.
 fn clearing(at: u32, end: u32, then: u32) -> Place
     ensures word { at < end → result ≡ Place.Clearing at then }
-    ensures after { at ≡ end → result ≡ Place.Setting then }
+    ensures after { at ≡ end → result ≡ Place.WritingState then }
 {
     if at == end {
-        Place::Setting(then)
+        Place::WritingState(then)
     } else {
         Place::Clearing { at, then }
     }

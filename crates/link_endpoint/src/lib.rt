@@ -27,4 +27,4 @@ pub use auto::{Auto, Choice};
 pub use endpoint::{Endpoint, endpoints_make_calls};
 pub use order::{Order, Ordering};
 pub use place::Call;
-pub use tx_engine::{Stretch, Stretches};
+pub use tx_engine::{Burst, Bursts};

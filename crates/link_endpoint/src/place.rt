@@ -17,7 +17,7 @@ pub(crate) enum Place {
     /// No call is open.
     Closed,
     /// Before the read of the other's state.
-    Looking,
+    ReadingOtherState,
     /// Before the write of 0 to an own word.
     Clearing {
         /// The number of that word.
@@ -26,11 +26,11 @@ pub(crate) enum Place {
         then: u32,
     },
     /// Before the State step with this value, which ends a Tick or a Stop.
-    Setting(u32),
+    WritingState(u32),
     /// Before the State step of a refusal.
     Refusing,
     /// Before the one step of an offer or a poll outside RUN.
-    Downed,
+    NotInRun,
     /// In an offer, at the place of the sender.
     Offering,
     /// In a poll, at the place of the receiver.

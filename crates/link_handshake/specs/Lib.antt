@@ -1,3 +1,3 @@
 pub mod Laws
 pub mod PhaseTable
-pub mod Standing
+pub mod HandshakeState

@@ -13,7 +13,7 @@
 ghost use Rattle.std.specs.Prelude.{◌≡◌, true, false};
 ghost use Rattle.link_handshake.specs.Laws.{SkipsNone, WaitsForInit, WaitsForReady, FollowsReset, StartsAfresh};
 ghost use Rattle.link_handshake.specs.PhaseTable.{phase_at};
-ghost use Rattle.link_handshake.specs.Standing.{move_of};
+ghost use Rattle.link_handshake.specs.HandshakeState.{move_of};
 
 use std::marker::Model;
 
@@ -63,9 +63,9 @@ pub struct Handshake {
 }
 
 impl Model for Handshake {
-    ghost use Rattle.link_handshake.specs.Standing.{Standing};
+    ghost use Rattle.link_handshake.specs.HandshakeState.{HandshakeState};
 
-    ghost Value = { Standing };
+    ghost Value = { HandshakeState };
 
     ghost view = { λ h. record { phase = h.phase; mark = h.refused } };
 

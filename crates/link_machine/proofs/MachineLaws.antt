@@ -12,7 +12,7 @@ use Rattle.split_ring.specs.Layout.{Sizes}
 use Rattle.call_grammar.specs.Steps.{Mark, Saw, Reclaim, Full, Accept, Look, Deliver, Return, Done, Down, Refuse, Over}
 use Rattle.call_grammar.specs.Rows.{MovesTo}
 use Rattle.call_grammar.proofs.OfferLists.{yes, no}
-use Rattle.link_machine.specs.LinkMachine.{Side, fresh_side, Told, Gave, Wrote, Marked, WasReset, side_with, MarkRow, Row, Ended, Log, no_sessions, accepted_in, ended_with, log_after, MachineRuns, starts, goes, AreBeginnings, CarriedFall, MachineDelivers}
+use Rattle.link_machine.specs.LinkMachine.{Side, initial_side, SideEvent, Gave, Wrote, Marked, WasReset, side_with, MarkRow, Row, Ended, Log, no_sessions, accepted_in, ended_with, log_after, MachineRuns, starts, goes, AreBeginnings, CarriedFall, MachineDelivers}
 
 abbrev pub SawLow : Option ℕ → Type 0
 SawLow None = ⊥
@@ -148,7 +148,7 @@ mark_kind sizes p q l m Down new row = subst (λ (s : Side). Kind p q l m s l) (
 mark_kind sizes p q l m (Refuse refused) new row = let f : true ≡ false = row.0 in absurd (cc)
 mark_kind sizes p q l m Over new row = subst (λ (s : Side). Kind p q l m s l) (sym row) (counts refl refl record { accepted = refl; delivered = refl } refl)
 
-pub kind_of : (sizes : Sizes) (p q : Side) (l m : Log) (told : Told) (new : Side) → Row sizes true true p q told new → Kind p q l m new (log_after l m p told)
+pub kind_of : (sizes : Sizes) (p q : Side) (l m : Log) (told : SideEvent) (new : Side) → Row sizes true true p q told new → Kind p q l m new (log_after l m p told)
 kind_of sizes p q l m (Gave value) new is = subst (λ (s : Side). Kind p q l m s l) (sym is) (counts refl refl record { accepted = refl; delivered = refl } refl)
 kind_of sizes p q l m (Wrote n) new (inl e, is) = subst (λ (s : Side). Kind p q l m s (log_after l m p (Wrote n))) (sym is) (subst (λ k. Kind p q l m (side_with p k) (log_after l m p (Wrote k))) (sym e) (wrote_zero p q l m))
 kind_of sizes p q l m (Wrote n) new (inr h, is) = subst (λ (s : Side). Kind p q l m s (log_after l m p (Wrote n))) (sym is) (wrote_kind p q l m h.1.0 n h.1.1 h.1.2)
@@ -455,11 +455,11 @@ theirs_lem p q new l m l' (counts s n k same) h o = subst (λ (x : Log). Half q 
 
 -- Along a run
 
-fresh_half : Half fresh_side fresh_side no_sessions no_sessions
+fresh_half : Half initial_side initial_side no_sessions no_sessions
 fresh_half = record {
   few = omega arith;
   ready = λ e. absurd (omega arith);
-  cross = λ a. absurd (idle fresh_side (λ e. omega arith) (λ e. absurd (omega arith)) a);
+  cross = λ a. absurd (idle initial_side (λ e. omega arith) (λ e. absurd (omega arith)) a);
   prefix = λ a. ([], refl);
   one = λ e. absurd (omega arith);
   risen = omega arith;
@@ -477,7 +477,7 @@ honest_all : (honest : ℕ → Bool) (s : ℕ) → s < 2 → honest 0 ≡ true �
 honest_all honest s s2 h0 h1 = dite (ℕ_discrete s 0) (λ e. ap honest e ∙ h0) (λ ne. let e : s ≡ 1 = omega arith in ap honest e ∙ h1)
 
 pub half_of : (sizes : Sizes) (honest : ℕ → Bool) (sides : ℕ → Side) (logs : ℕ → Log) → honest 0 ≡ true → honest 1 ≡ true → MachineRuns sizes honest sides logs → (p : ℕ) → p < 2 → Half (sides p) (sides (1 - p)) (logs p) (logs (1 - p))
-half_of sizes honest _ _ h0 h1 (starts sides logs new none) p p2 = half_like fresh_side (sides p) fresh_side (sides (1 - p)) no_sessions (logs p) no_sessions (logs (1 - p)) (new p) (new (1 - p)) (none p) (none (1 - p)) fresh_half
+half_of sizes honest _ _ h0 h1 (starts sides logs new none) p p2 = half_like initial_side (sides p) initial_side (sides (1 - p)) no_sessions (logs p) no_sessions (logs (1 - p)) (new p) (new (1 - p)) (none p) (none (1 - p)) fresh_half
 half_of sizes honest _ _ h0 h1 (goes sides after logs new_logs s told r s2 row still log still_log) p p2 =
     let o2 : 1 - s < 2 = omega arith in let back : 1 - (1 - s) ≡ s = omega arith in
     let mine = half_of sizes honest sides logs h0 h1 r s s2 in

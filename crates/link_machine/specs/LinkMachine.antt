@@ -27,15 +27,15 @@ pub record Side : Type 0 where
   pub freed : ℕ
   pub reclaimed : ℕ
 
-abbrev pub fresh_side : Side
-fresh_side = record { state = 0; seen = None; refused = false; read = []; accepted = []; delivered = []; looked = 0; returned = 0; freed = 0; reclaimed = 0 }
+abbrev pub initial_side : Side
+initial_side = record { state = 0; seen = None; refused = false; read = []; accepted = []; delivered = []; looked = 0; returned = 0; freed = 0; reclaimed = 0 }
 
 -- what a step tells the machine: the value that a read gave, a write of the state word, a mark, or the reset of the device
-pub data Told : Type 0 where
-  Gave : (value : ℕ) → Told
-  Wrote : (state : ℕ) → Told
-  Marked : (mark : Mark) → Told
-  WasReset : Told
+pub data SideEvent : Type 0 where
+  Gave : (value : ℕ) → SideEvent
+  Wrote : (state : ℕ) → SideEvent
+  Marked : (mark : Mark) → SideEvent
+  WasReset : SideEvent
 
 -- an honest side writes 0, or the state to which it moves on from what it saw since its last write, and after a refusal 0 alone; a hostile one any value
 abbrev pub MayWriteState : Bool → Side → ℕ → Type 0
@@ -98,15 +98,15 @@ IsBeyond sizes side field_name.UsedId value =
     (¬ IsUsedId ((side.freed - side.reclaimed + length ids) % limit_of sizes) value)
 
 -- the frame has room behind those that the side accepted
-abbrev pub finds_room : Sizes → Side → List ℕ → Bool
-finds_room sizes side frame = has_room sizes (lengths_of (side.accepted ++ frame ∷ [])) side.freed (length side.accepted)
+abbrev pub frame_fits : Sizes → Side → List ℕ → Bool
+frame_fits sizes side frame = has_room sizes (lengths_of (side.accepted ++ frame ∷ [])) side.freed (length side.accepted)
 
 -- a frame that may be offered has no room, and no more are in flight than may be: where there are slots, just as many as may be
 pub record IsFull (sizes : Sizes) (side : Side) : Type 0 where
   pub frame : List ℕ
   pub least : 14 ≤ length frame
   pub most : length frame ≤ sizes.mtu + 18
-  pub none : finds_room sizes side frame ≡ false
+  pub none : frame_fits sizes side frame ≡ false
   pub in_flight : length side.accepted ≤ side.freed + limit_of sizes
 
 -- the row of a mark: where it is allowed to a side against an other that is honest or not, and what it makes of the side, whose reads begin anew. The marks of
@@ -114,7 +114,7 @@ pub record IsFull (sizes : Sizes) (side : Side) : Type 0 where
 abbrev pub MarkRow : Sizes → Bool → Side → Side → Mark → Side → Type 0
 MarkRow sizes honest side other (Saw value) new = (side.read ≡ value ∷ []) × (value ≡ other.state) × (new ≡ record side { seen = Some value; read = [] })
 MarkRow sizes honest side other (Accept frame) new =
-    (side.state ≡ 3) × (finds_room sizes side frame ≡ true) × (new ≡ record side { accepted = side.accepted ++ frame ∷ []; read = [] })
+    (side.state ≡ 3) × (frame_fits sizes side frame ≡ true) × (new ≡ record side { accepted = side.accepted ++ frame ∷ []; read = [] })
 MarkRow sizes honest side other (Reclaim count) new =
     (side.state ≡ 3) × ReadsIndex side side.freed count × MayReclaim honest side other count ×
     (new ≡ record side { freed = side.freed + count; reclaimed = count; read = [] })
@@ -135,7 +135,7 @@ MarkRow sizes honest side other Over new = new ≡ record side { read = [] }
 
 -- the row of a step of a side that is honest or not, against an other that is or not. A hostile side has no marks. A reset ends a refusal; the lists stay
 -- until the next session
-abbrev pub Row : Sizes → (mine theirs : Bool) → Side → Side → Told → Side → Type 0
+abbrev pub Row : Sizes → (mine theirs : Bool) → Side → Side → SideEvent → Side → Type 0
 Row sizes mine theirs side other (Gave value) new = new ≡ record side { read = side.read ++ value ∷ [] }
 Row sizes mine theirs side other (Wrote state) new = MayWriteState mine side state × (new ≡ side_with side state)
 Row sizes mine theirs side other (Marked mark) new = (mine ≡ true) × MarkRow sizes theirs side other mark new
@@ -168,7 +168,7 @@ abbrev pub ended_with : Log → Side → List Ended
 ended_with log side = if side.state == 3 then record { carried = log.carried; delivered = side.delivered } ∷ log.ended else log.ended
 
 -- the log after a step of its side: a write of 2 opens a session, and one of 3 carries the session that the other opened last
-abbrev pub log_after : Log → Log → Side → Told → Log
+abbrev pub log_after : Log → Log → Side → SideEvent → Log
 log_after log others side (Wrote state) = record {
   opened = if state == 2 then log.opened + 1 else log.opened;
   carried = if state == 3 then others.opened else log.carried;
@@ -181,8 +181,8 @@ log_after log others side WasReset = record log { ended = ended_with log side }
 
 -- what the two sides and their sessions come to, by steps from the start
 pub data MachineRuns (sizes : Sizes) (honest : ℕ → Bool) : (ℕ → Side) → (ℕ → Log) → Type 0 where
-  starts : (sides : ℕ → Side) (logs : ℕ → Log) → ((p : ℕ) → sides p ≡ fresh_side) → ((p : ℕ) → logs p ≡ no_sessions) → MachineRuns sizes honest sides logs
-  goes : (sides after : ℕ → Side) (logs new_logs : ℕ → Log) (p : ℕ) (told : Told) → MachineRuns sizes honest sides logs → p < 2 →
+  starts : (sides : ℕ → Side) (logs : ℕ → Log) → ((p : ℕ) → sides p ≡ initial_side) → ((p : ℕ) → logs p ≡ no_sessions) → MachineRuns sizes honest sides logs
+  goes : (sides after : ℕ → Side) (logs new_logs : ℕ → Log) (p : ℕ) (told : SideEvent) → MachineRuns sizes honest sides logs → p < 2 →
       Row sizes (honest p) (honest (1 - p)) (sides p) (sides (1 - p)) told (after p) → after (1 - p) ≡ sides (1 - p) →
       new_logs p ≡ log_after (logs p) (logs (1 - p)) (sides p) told → new_logs (1 - p) ≡ logs (1 - p) → MachineRuns sizes honest after new_logs
 

@@ -8,23 +8,23 @@ use Rattle.std.proofs.Math.Seq.{take-append_seam}
 use Rattle.scenario_text.specs.declared.acts.Act.{Act}
 use Rattle.scenario_text.specs.Scenario.{World}
 use Rattle.lawful_history.specs.declared.line.Line.{Line}
-use Rattle.lawful_history.specs.Schedule.{Event, Turned, events_of, schedule}
+use Rattle.lawful_history.specs.Schedule.{Event, TurnTaken, events_of, schedule}
 use Rattle.lawful_history.specs.Lawful.{IsLawfulIn, HasOneHistoryIn}
-use Rattle.lawful_history.specs.History.{Moment, run, beginning, history, HistoryIsLawfulIn}
+use Rattle.lawful_history.specs.History.{HistoryState, run, initial_state, history, HistoryIsLawfulIn}
 use Rattle.lawful_history.proofs.Begins.{run_on, grows}
 use Rattle.lawful_history.specs.Frames.{has_frame, HaveFrames}
-use Rattle.lawful_history.specs.Sessions.{with_sessions, told_in}
+use Rattle.lawful_history.specs.Sessions.{with_sessions, recorded_in}
 use Rattle.lawful_history.proofs.Marks.{with_sessions-append}
-use Rattle.stage.proofs.Runs.{told_so_far}
-use Rattle.stage.specs.Log.{Output}
-use Rattle.stage.specs.Stage.{moment_of, RunsTo, kept}
-use Rattle.stage.specs.declared.stage.Stage.{Stage}
-use Rattle.link_model.specs.declared.course.Course.{Course}
+use Rattle.simulator.proofs.Runs.{told_so_far}
+use Rattle.simulator.specs.Log.{Output}
+use Rattle.simulator.specs.Simulator.{moment_of, RunsTo, kept_lines}
+use Rattle.simulator.specs.declared.simulator.Simulator.{Simulator}
+use Rattle.link_model.specs.declared.expected_run.ExpectedRun.{ExpectedRun}
 use Rattle.link_model.specs.declared.fault.Law.TheVariants.{Order}
 use Rattle.link_model.specs.declared.fault.Unlawful.{Unlawful}
 use Rattle.link_model.specs.BrokenLaw.{law_between}
 use Rattle.link_model.specs.Difference.{head_of, Begins, Differs, Leaves}
-use Rattle.link_model.specs.Course.{world_in, told_of, IsPlayed, IsAlong, IsOver, GoesOn}
+use Rattle.link_model.specs.ExpectedRun.{world_in, recorded_of, IsPlayed, IsAlong, IsOver, GoesOn}
 use Rattle.link_model.proofs.Differing.{none_begins}
 use Rattle.link_model.proofs.Playing.{no_turns}
 
@@ -34,34 +34,34 @@ begins_by_test : (world : World) (a b : List Line) (test : Bool) →
 begins_by_test world a b true = (with_sessions world (reverse a ++ []) b, with_sessions-append world [] a b)
 begins_by_test world a b false = (b, refl)
 
-told_begins : (world : World) (version : ℕ) (a b : List Line) → (more : List Line) × (told_in world version (a ++ b) ≡ told_in world version a ++ more)
+told_begins : (world : World) (version : ℕ) (a b : List Line) → (more : List Line) × (recorded_in world version (a ++ b) ≡ recorded_in world version a ++ more)
 told_begins world version a b = begins_by_test world a b (version == 2)
 
--- what a record tells of the history goes on from the lines of a stage that hasn't played all events
-follows : (world : World) (output : Output) (events rest : List Event) (s : Stage) → RunsTo world output events s → events ++ rest ≡ schedule world.acts →
-    (more : List Line) × (told_in world output.version (history world) ≡ (output.drained ++ kept s) ++ more)
+-- what a record tells of the history goes on from the lines of a simulator that hasn't played all events
+follows : (world : World) (output : Output) (events rest : List Event) (s : Simulator) → RunsTo world output events s → events ++ rest ≡ schedule world.acts →
+    (more : List Line) × (recorded_in world output.version (history world) ≡ (output.drained ++ kept_lines s) ++ more)
 follows world output events rest s runs all =
     let new = grows world rest (moment_of world events) in
     let whole : history world ≡ reverse (moment_of world events).past ++ reverse new.0 =
-    ap (λ (es : List Event). reverse (run world es (beginning world)).past) (sym all) ∙ ap (λ (m : Moment). reverse m.past) (run_on world events rest (beginning world))
+    ap (λ (es : List Event). reverse (run world es (initial_state world)).past) (sym all) ∙ ap (λ (m : HistoryState). reverse m.past) (run_on world events rest (initial_state world))
     ∙ ap reverse new.1 ∙ reverse-append new.0 (moment_of world events).past in
     let more = told_begins world output.version (reverse (moment_of world events).past) (reverse new.0) in
-    (more.0, ap (told_in world output.version) whole ∙ more.1 ∙ ap (λ ls. ls ++ more.0) (sym (told_so_far world output events rest s runs (sym all))))
+    (more.0, ap (recorded_in world output.version) whole ∙ more.1 ∙ ap (λ ls. ls ++ more.0) (sym (told_so_far world output events rest s runs (sym all))))
 
 -- the events that are left
 split_at : (acts : List Act) (at : ℕ) → schedule (take at acts) ++ schedule (drop at acts) ≡ schedule acts
 split_at acts at = sym (flat_map-append events_of (take at acts) (drop at acts)) ∙ ap (λ (xs : List Act). schedule xs) (take-append-drop at acts)
 
-rest_is : (output : Output) (c : Course) (played : IsPlayed output c) →
-    played.events ++ (replicate c.left (Turned c.peer) ++ schedule (drop c.at (world_in c).acts)) ≡ schedule (world_in c).acts
+rest_is : (output : Output) (c : ExpectedRun) (played : IsPlayed output c) →
+    played.events ++ (replicate c.left (TurnTaken c.peer) ++ schedule (drop c.at (world_in c).acts)) ≡ schedule (world_in c).acts
 rest_is output c played =
     let acts = (world_in c).acts in
-    sym (append_assoc played.events (replicate c.left (Turned c.peer)) (schedule (drop c.at acts))) ∙ ap (λ es. es ++ schedule (drop c.at acts)) played.scheduled ∙ split_at acts c.at
+    sym (append_assoc played.events (replicate c.left (TurnTaken c.peer)) (schedule (drop c.at acts))) ∙ ap (λ es. es ++ schedule (drop c.at acts)) played.scheduled ∙ split_at acts c.at
 
 -- the lines that weren't taken stand after those that were
-untaken : (drained kept lines : List Line) (passed : ℕ) → drained ++ take passed kept ≡ lines → drained ++ kept ≡ lines ++ drop passed kept
-untaken drained kept lines passed taken =
-    ap (λ ls. drained ++ ls) (sym (take-append-drop passed kept)) ∙ sym (append_assoc drained (take passed kept) (drop passed kept)) ∙ ap (λ ls. ls ++ drop passed kept) taken
+untaken : (drained kept_lines lines : List Line) (passed : ℕ) → drained ++ take passed kept_lines ≡ lines → drained ++ kept_lines ≡ lines ++ drop passed kept_lines
+untaken drained kept_lines lines passed taken =
+    ap (λ ls. drained ++ ls) (sym (take-append-drop passed kept_lines)) ∙ sym (append_assoc drained (take passed kept_lines) (drop passed kept_lines)) ∙ ap (λ ls. ls ++ drop passed kept_lines) taken
 
 head_of_drop : (xs : List Line) (p : ℕ) → head_of (drop p xs) ≡ slice_get xs p
 head_of_drop [] zero = refl
@@ -74,53 +74,53 @@ head_of_more [] more p inside = absurd (omega arith)
 head_of_more (x ∷ xs) more zero inside = refl
 head_of_more (x ∷ xs) more (suc p) inside = head_of_more xs more p (omega arith)
 
--- how what is told goes on after the lines taken: its next line is the one that waits on the stage
-abbrev GoesOnBy : List Line → Course → Type 0
-GoesOnBy lines c = (after : List Line) × (told_of c ≡ lines ++ after) × (head_of after ≡ slice_get (kept c.stage) c.passed)
+-- how what is told goes on after the lines taken: its next line is the one that waits on the simulator
+abbrev GoesOnBy : List Line → ExpectedRun → Type 0
+GoesOnBy lines c = (after : List Line) × (recorded_of c ≡ lines ++ after) × (head_of after ≡ slice_get (kept_lines c.simulator) c.passed)
 
-waits : (lines : List Line) (c : Course) → IsAlong lines c → c.passed < length (kept c.stage) → GoesOnBy lines c
+waits : (lines : List Line) (c : ExpectedRun) → IsAlong lines c → c.passed < length (kept_lines c.simulator) → GoesOnBy lines c
 waits lines c along waiting =
-    let here = kept c.stage in
+    let here = kept_lines c.simulator in
     let played = along.played in
-    let more = follows (world_in c) along.output played.events _ c.stage played.runs (rest_is along.output c played) in (
+    let more = follows (world_in c) along.output played.events _ c.simulator played.runs (rest_is along.output c played) in (
       drop c.passed here ++ more.0,
-      ap (λ v. told_in (world_in c) v (history (world_in c))) (sym played.version) ∙ more.1 ∙ ap (λ ls. ls ++ more.0) (untaken along.output.drained here lines c.passed along.taken)
+      ap (λ v. recorded_in (world_in c) v (history (world_in c))) (sym played.version) ∙ more.1 ∙ ap (λ ls. ls ++ more.0) (untaken along.output.drained here lines c.passed along.taken)
           ∙ append_assoc lines (drop c.passed here) more.0,
       head_of_more here more.0 c.passed waiting,
     )
 
-is_over : (lines : List Line) (c : Course) → IsAlong lines c → IsOver c → GoesOnBy lines c
+is_over : (lines : List Line) (c : ExpectedRun) → IsAlong lines c → IsOver c → GoesOnBy lines c
 is_over lines c along over =
     let world = world_in c in
-    let here = kept c.stage in
+    let here = kept_lines c.simulator in
     let played = along.played in
     let all : played.events ≡ schedule world.acts =
-    no_turns played.events _ (Turned c.peer) c.left over.0 played.scheduled ∙ ap (λ (xs : List Act). schedule xs) (take_all c.at world.acts over.1) in
-    let runs = subst (λ (es : List Event). RunsTo world along.output es c.stage) all played.runs in (
+    no_turns played.events _ (TurnTaken c.peer) c.left over.0 played.scheduled ∙ ap (λ (xs : List Act). schedule xs) (take_all c.at world.acts over.1) in
+    let runs = subst (λ (es : List Event). RunsTo world along.output es c.simulator) all played.runs in (
       drop c.passed here,
-      ap (λ v. told_in world v (history world)) (sym played.version) ∙ sym (told_so_far world along.output (schedule world.acts) [] c.stage runs (sym (append-nil (schedule world.acts))))
+      ap (λ v. recorded_in world v (history world)) (sym played.version) ∙ sym (told_so_far world along.output (schedule world.acts) [] c.simulator runs (sym (append-nil (schedule world.acts))))
           ∙ untaken along.output.drained here lines c.passed along.taken,
       head_of_drop here c.passed,
     )
 
-expects_by : (lines : List Line) (c : Course) → IsAlong lines c → (c.passed < length (kept c.stage)) ⊎ IsOver c → GoesOnBy lines c
+expects_by : (lines : List Line) (c : ExpectedRun) → IsAlong lines c → (c.passed < length (kept_lines c.simulator)) ⊎ IsOver c → GoesOnBy lines c
 expects_by lines c along (inl waiting) = waits lines c along waiting
 expects_by lines c along (inr over) = is_over lines c along over
 
-pub expects : (lines : List Line) (c : Course) → GoesOn lines c → GoesOnBy lines c
+pub expects : (lines : List Line) (c : ExpectedRun) → GoesOn lines c → GoesOnBy lines c
 expects lines c goes = expects_by lines c goes.along goes.settled
 
 -- each lawful history is the one that is expected
-lawful_is : HasOneHistoryIn → HistoryIsLawfulIn → (lines : List Line) (c : Course) (goes : GoesOn lines c) (lawful : List Line) → IsLawfulIn (world_in c) c.version lawful → lawful ≡ lines ++ (expects lines c goes).0
+lawful_is : HasOneHistoryIn → HistoryIsLawfulIn → (lines : List Line) (c : ExpectedRun) (goes : GoesOn lines c) (lawful : List Line) → IsLawfulIn (world_in c) c.version lawful → lawful ≡ lines ++ (expects lines c goes).0
 lawful_is one exists lines c goes lawful is =
-    one (world_in c) c.version lawful (told_of c) is (exists (world_in c) c.version goes.along.played.runs.after.is_world) ∙ (expects lines c goes).1
+    one (world_in c) c.version lawful (recorded_of c) is (exists (world_in c) c.version goes.along.played.runs.after.is_world) ∙ (expects lines c goes).1
 
-pub begins : HasOneHistoryIn → HistoryIsLawfulIn → (lines : List Line) (c : Course) → GoesOn lines c → Begins (world_in c) c.version lines
+pub begins : HasOneHistoryIn → HistoryIsLawfulIn → (lines : List Line) (c : ExpectedRun) → GoesOn lines c → Begins (world_in c) c.version lines
 begins one exists lines c goes = λ lawful is. ((expects lines c goes).0, lawful_is one exists lines c goes lawful is)
 
 -- another line than the one that waits leaves the history
-pub breaks : HasOneHistoryIn → HistoryIsLawfulIn → (lines : List Line) (c : Course) (line : Line) (fault : Unlawful) → GoesOn lines c → slice_get (kept c.stage) c.passed ≢ Some line →
-    fault.line ≡ length lines + 1 → fault.law ≡ law_between (slice_get (kept c.stage) c.passed) (Some line) → Leaves (world_in c) c.version (lines ++ line ∷ []) fault
+pub breaks : HasOneHistoryIn → HistoryIsLawfulIn → (lines : List Line) (c : ExpectedRun) (line : Line) (fault : Unlawful) → GoesOn lines c → slice_get (kept_lines c.simulator) c.passed ≢ Some line →
+    fault.line ≡ length lines + 1 → fault.law ≡ law_between (slice_get (kept_lines c.simulator) c.passed) (Some line) → Leaves (world_in c) c.version (lines ++ line ∷ []) fault
 breaks one exists lines c line fault goes other number law =
     let after = expects lines c goes in
     let within : fault.line ≤ length (lines ++ line ∷ []) = omega (arith, length-append lines (line ∷ [])) in
@@ -137,7 +137,7 @@ breaks one exists lines c line fault goes other number law =
     record { none = none_begins (world_in c) c.version (lines ++ line ∷ []) fault differs within; differs = differs; within = within }
 
 -- a line that waits is missing where no more are taken
-pub misses : HasOneHistoryIn → HistoryIsLawfulIn → (lines : List Line) (c : Course) (due : Line) (fault : Unlawful) → GoesOn lines c → slice_get (kept c.stage) c.passed ≡ Some due →
+pub misses : HasOneHistoryIn → HistoryIsLawfulIn → (lines : List Line) (c : ExpectedRun) (due : Line) (fault : Unlawful) → GoesOn lines c → slice_get (kept_lines c.simulator) c.passed ≡ Some due →
     fault.line ≡ length lines + 1 → fault.law ≡ Order → Differs (world_in c) c.version lines fault
 misses one exists lines c due fault goes is number law = λ lawful lawful_too.
     let after = expects lines c goes in
@@ -158,16 +158,16 @@ no_head [] none = refl
 no_head (line ∷ lines) none = absurd (cc)
 
 -- where none waits, the lines taken are the history
-pub is_whole : HistoryIsLawfulIn → (lines : List Line) (c : Course) → GoesOn lines c → slice_get (kept c.stage) c.passed ≡ None → IsLawfulIn (world_in c) c.version lines
+pub is_whole : HistoryIsLawfulIn → (lines : List Line) (c : ExpectedRun) → GoesOn lines c → slice_get (kept_lines c.simulator) c.passed ≡ None → IsLawfulIn (world_in c) c.version lines
 is_whole exists lines c goes none =
     let after = expects lines c goes in
-    let all : told_of c ≡ lines = after.1 ∙ ap (λ ls. lines ++ ls) (no_head after.0 (after.2 ∙ none)) ∙ append-nil lines in
+    let all : recorded_of c ≡ lines = after.1 ∙ ap (λ ls. lines ++ ls) (no_head after.0 (after.2 ∙ none)) ∙ append-nil lines in
     subst (λ ls. IsLawfulIn (world_in c) c.version ls) all (exists (world_in c) c.version goes.along.played.runs.after.is_world)
 
 -- the line that waits is taken
-pub one_taken : (lines : List Line) (c : Course) (line : Line) → IsAlong lines c → slice_get (kept c.stage) c.passed ≡ Some line → IsAlong (lines ++ line ∷ []) (record c { passed = c.passed + 1 })
+pub one_taken : (lines : List Line) (c : ExpectedRun) (line : Line) → IsAlong lines c → slice_get (kept_lines c.simulator) c.passed ≡ Some line → IsAlong (lines ++ line ∷ []) (record c { passed = c.passed + 1 })
 one_taken lines c line along is =
-    let waiting = kept c.stage in
+    let waiting = kept_lines c.simulator in
     let inside = slice_get_within waiting c.passed line is in
     let here : get_or waiting c.passed line ≡ line = same_Some (get_or waiting c.passed line) line (sym (slice_get-get_or waiting c.passed line inside) ∙ is) in
     let played = along.played in
@@ -180,9 +180,9 @@ one_taken lines c line along is =
     }
 
 -- all lines that wait are taken
-pub all_taken : (lines : List Line) (c : Course) → IsAlong lines c → IsAlong (lines ++ drop c.passed (kept c.stage)) (record c { passed = length (kept c.stage) })
+pub all_taken : (lines : List Line) (c : ExpectedRun) → IsAlong lines c → IsAlong (lines ++ drop c.passed (kept_lines c.simulator)) (record c { passed = length (kept_lines c.simulator) })
 all_taken lines c along =
-    let waiting = kept c.stage in
+    let waiting = kept_lines c.simulator in
     let played = along.played in
     record {
       output = along.output;
@@ -201,12 +201,12 @@ drop_frames [] (suc n) frames = frames
 drop_frames (line ∷ lines) (suc n) frames = drop_frames lines n (second_true (has_frame line) _ frames)
 
 -- the lines that wait have their frames
-pub frames_wait : (lines : List Line) (c : Course) → GoesOn lines c → HaveFrames (drop c.passed (kept c.stage))
-frames_wait lines c goes = drop_frames (kept c.stage) c.passed goes.along.played.runs.after.log.frames
+pub frames_wait : (lines : List Line) (c : ExpectedRun) → GoesOn lines c → HaveFrames (drop c.passed (kept_lines c.simulator))
+frames_wait lines c goes = drop_frames (kept_lines c.simulator) c.passed goes.along.played.runs.after.log.frames
 
 -- the lines taken are the first ones that are told
-pub counted : (lines : List Line) (c : Course) (next : ℕ) → GoesOn lines c → next ≡ length lines + 1 → take (next - 1) (told_of c) ≡ lines
+pub counted : (lines : List Line) (c : ExpectedRun) (next : ℕ) → GoesOn lines c → next ≡ length lines + 1 → take (next - 1) (recorded_of c) ≡ lines
 counted lines c next goes number =
     let after = expects lines c goes in
     let count : next - 1 ≡ length lines = omega arith in
-    ap (λ n. take n (told_of c)) count ∙ ap (λ ls. take (length lines) ls) after.1 ∙ take-append_seam lines after.0
+    ap (λ n. take n (recorded_of c)) count ∙ ap (λ ls. take (length lines) ls) after.1 ∙ take-append_seam lines after.0

@@ -6,26 +6,26 @@ use Rattle.std.proofs.Math.Seq.{drop-cons}
 use Rattle.scenario_text.specs.declared.acts.Act.{Act}
 use Rattle.scenario_text.specs.declared.acts.Act.TheVariants as act
 use Rattle.lawful_history.specs.declared.line.Line.{Line}
-use Rattle.lawful_history.specs.Schedule.{Event, Turned, events_of, schedule}
-use Rattle.stage.specs.Log.{Output, no_output}
-use Rattle.stage.specs.Stage.{Happens, Plays, RunsTo, kept}
-use Rattle.stage.specs.declared.stage.Stage.{Stage}
-use Rattle.stage.proofs.Runs.{schedule_more, one_act, act_at, below_peers}
-use Rattle.link_model.specs.declared.course.Course.{Course}
-use Rattle.link_model.specs.Course.{world_in, IsPlayed, IsAlong}
+use Rattle.lawful_history.specs.Schedule.{Event, TurnTaken, events_of, schedule}
+use Rattle.simulator.specs.Log.{Output, no_output}
+use Rattle.simulator.specs.Simulator.{Happens, PlaysAct, RunsTo, kept_lines}
+use Rattle.simulator.specs.declared.simulator.Simulator.{Simulator}
+use Rattle.simulator.proofs.Runs.{schedule_more, one_act, act_at, below_peers}
+use Rattle.link_model.specs.declared.expected_run.ExpectedRun.{ExpectedRun}
+use Rattle.link_model.specs.ExpectedRun.{world_in, IsPlayed, IsAlong}
 
 one_turn : (events : List Event) (turn : Event) (left : ℕ) → 0 < left → (events ++ turn ∷ []) ++ replicate (left - 1) turn ≡ events ++ replicate left turn
 one_turn events turn zero some = absurd (omega arith)
 one_turn events turn (suc n) some = let less : suc n - 1 ≡ n = omega arith in rw less (append_assoc events (turn ∷ []) (replicate n turn))
 
 -- a turn is played
-pub turn_played : (output : Output) (c : Course) (s : Stage) → 0 < c.left → Happens (Turned c.peer) c.stage s → IsPlayed output c → IsPlayed output (record c { stage = s; left = c.left - 1 })
+pub turn_played : (output : Output) (c : ExpectedRun) (s : Simulator) → 0 < c.left → Happens (TurnTaken c.peer) c.simulator s → IsPlayed output c → IsPlayed output (record c { simulator = s; left = c.left - 1 })
 turn_played output c s some happens played = record {
-  events = played.events ++ Turned c.peer ∷ [];
+  events = played.events ++ TurnTaken c.peer ∷ [];
   version = played.version;
   runs = happens (world_in c) output played.events (played.peer some) played.runs;
   at = played.at;
-  scheduled = one_turn played.events (Turned c.peer) c.left some ∙ played.scheduled;
+  scheduled = one_turn played.events (TurnTaken c.peer) c.left some ∙ played.scheduled;
   peer = λ more. played.peer some;
 }
 
@@ -34,34 +34,34 @@ pub no_turns : (events acts : List Event) (turn : Event) (left : ℕ) → left �
 no_turns events acts turn left none scheduled = sym (append-nil events) ∙ ap (λ n. events ++ replicate n turn) (sym none) ∙ scheduled
 
 -- an act is played
-pub act_played : (output : Output) (c : Course) (a : Act) (s : Stage) → c.left ≡ 0 → c.at < length (world_in c).acts → a ≡ get_or (world_in c).acts c.at a → Plays a c.stage s → IsPlayed output c →
-    IsPlayed output (record c { stage = s; at = c.at + 1 })
+pub act_played : (output : Output) (c : ExpectedRun) (a : Act) (s : Simulator) → c.left ≡ 0 → c.at < length (world_in c).acts → a ≡ get_or (world_in c).acts c.at a → PlaysAct a c.simulator s → IsPlayed output c →
+    IsPlayed output (record c { simulator = s; at = c.at + 1 })
 act_played output c a s none inside is plays played =
     let world = world_in c in
-    let before = no_turns played.events _ (Turned c.peer) c.left none played.scheduled in
+    let before = no_turns played.events _ (TurnTaken c.peer) c.left none played.scheduled in
     let allowed = act_at world c.at a played.runs.after.is_world inside is in
     record {
       events = schedule (take (c.at + 1) world.acts);
       version = played.version;
-      runs = one_act world output world.acts c.at a s inside is (plays world output (schedule (take c.at world.acts)) allowed (subst (λ (es : List Event). RunsTo world output es c.stage) before played.runs));
+      runs = one_act world output world.acts c.at a s inside is (plays world output (schedule (take c.at world.acts)) allowed (subst (λ (es : List Event). RunsTo world output es c.simulator) before played.runs));
       at = omega arith;
-      scheduled = ap (λ n. schedule (take (c.at + 1) world.acts) ++ replicate n (Turned c.peer)) none ∙ append-nil (schedule (take (c.at + 1) world.acts));
+      scheduled = ap (λ n. schedule (take (c.at + 1) world.acts) ++ replicate n (TurnTaken c.peer)) none ∙ append-nil (schedule (take (c.at + 1) world.acts));
       peer = λ some. absurd (omega arith);
     }
 
 -- turns are noted
-pub turns_noted : (output : Output) (c : Course) (p k : ℕ) → c.left ≡ 0 → c.at < length (world_in c).acts → act.Turn p k ≡ get_or (world_in c).acts c.at (act.Turn p k) → IsPlayed output c →
+pub turns_noted : (output : Output) (c : ExpectedRun) (p k : ℕ) → c.left ≡ 0 → c.at < length (world_in c).acts → act.Turn p k ≡ get_or (world_in c).acts c.at (act.Turn p k) → IsPlayed output c →
     IsPlayed output (record c { at = c.at + 1; peer = p; left = k })
 turns_noted output c p k none inside is played =
     let world = world_in c in
-    let before = no_turns played.events _ (Turned c.peer) c.left none played.scheduled in
+    let before = no_turns played.events _ (TurnTaken c.peer) c.left none played.scheduled in
     let allowed = act_at world c.at (act.Turn p k) played.runs.after.is_world inside is in
     record {
       events = played.events;
       version = played.version;
       runs = played.runs;
       at = omega arith;
-      scheduled = ap (λ es. es ++ replicate k (Turned p)) before ∙ sym (schedule_more world.acts c.at (act.Turn p k) inside is);
+      scheduled = ap (λ es. es ++ replicate k (TurnTaken p)) before ∙ sym (schedule_more world.acts c.at (act.Turn p k) inside is);
       peer = λ some. below_peers p world.geometry.peers allowed.1.peer;
     }
 
@@ -72,7 +72,7 @@ one_act_less acts at a inside is =
     ap (λ (xs : List Act). length (schedule xs)) here ∙ length-append (events_of a) (schedule (drop (at + 1) acts))
 
 -- a course at its start
-pub at_first : (c : Course) → RunsTo (world_in c) (no_output c.version) [] c.stage → c.at ≡ 0 → c.left ≡ 0 → c.passed ≡ 0 → IsAlong [] c
+pub at_first : (c : ExpectedRun) → RunsTo (world_in c) (no_output c.version) [] c.simulator → c.at ≡ 0 → c.left ≡ 0 → c.passed ≡ 0 → IsAlong [] c
 at_first c runs at left passed = record {
   output = no_output c.version;
   played = record {
@@ -80,18 +80,18 @@ at_first c runs at left passed = record {
     version = refl;
     runs = runs;
     at = omega arith;
-    scheduled = ap (λ n. replicate n (Turned c.peer)) left ∙ ap (λ n. schedule (take n (world_in c).acts)) (sym at);
+    scheduled = ap (λ n. replicate n (TurnTaken c.peer)) left ∙ ap (λ n. schedule (take n (world_in c).acts)) (sym at);
     peer = λ some. absurd (omega arith);
   };
   passed = omega arith;
-  taken = ap (λ n. take n (kept c.stage)) passed;
+  taken = ap (λ n. take n (kept_lines c.simulator)) passed;
 }
 
--- where none of the lines that the stage keeps was taken, more of them may come
-pub played_on : (lines : List Line) (c c' : Course) (along : IsAlong lines c) → c.passed ≡ 0 → c'.passed ≡ c.passed → IsPlayed along.output c' → IsAlong lines c'
+-- where none of the lines that the simulator keeps was taken, more of them may come
+pub played_on : (lines : List Line) (c c' : ExpectedRun) (along : IsAlong lines c) → c.passed ≡ 0 → c'.passed ≡ c.passed → IsPlayed along.output c' → IsAlong lines c'
 played_on lines c c' along none same played = record {
   output = along.output;
   played = played;
   passed = omega arith;
-  taken = ap (λ n. along.output.drained ++ take n (kept c'.stage)) (same ∙ none) ∙ ap (λ n. along.output.drained ++ take n (kept c.stage)) (sym none) ∙ along.taken;
+  taken = ap (λ n. along.output.drained ++ take n (kept_lines c'.simulator)) (same ∙ none) ∙ ap (λ n. along.output.drained ++ take n (kept_lines c.simulator)) (sym none) ∙ along.taken;
 }

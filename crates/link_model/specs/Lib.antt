@@ -1,4 +1,4 @@
 pub mod BrokenLaw
 pub mod Difference
 pub mod Taken
-pub mod Course
+pub mod ExpectedRun

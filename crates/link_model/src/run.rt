@@ -6,7 +6,7 @@ ghost use Rattle.lawful_history.specs.Versions.{is_version};
 ghost use Rattle.link_model.specs.Difference.{Begins, Differs};
 ghost use Rattle.link_model.specs.Taken.{IsCause};
 
-use crate::course::Course;
+use crate::expected_run::ExpectedRun;
 use crate::fault::{StepFault, Unlawful};
 use ivs_base::NoMemory;
 use lawful_history::{Line, records_tell_one_history};
@@ -18,7 +18,7 @@ use std::marker::Model;
 /// took, and none of these lines.
 #[derive(Drop)]
 pub struct Run<'a> {
-    course: Course<'a>,
+    expected_run: ExpectedRun<'a>,
     next: u64,
     fault: Option<StepFault>,
 }
@@ -26,13 +26,13 @@ pub struct Run<'a> {
 impl<'a> Model for Run<'a> {
     ghost use Rattle.std.specs.Prelude.{◌-◌, take};
     ghost use Rattle.link_model.specs.Taken.{Taking};
-    ghost use Rattle.link_model.specs.Course.{world_in, told_of, IsGoing};
+    ghost use Rattle.link_model.specs.ExpectedRun.{world_in, recorded_of, IsGoing};
 
     ghost Value = { Taking };
 
-    ghost view = { λ run. record { world = world_in run.course; version = run.course.version; lines = take (run.next - 1) (told_of run.course); fault = run.fault } };
+    ghost view = { λ run. record { world = world_in run.expected_run; version = run.expected_run.version; lines = take (run.next - 1) (recorded_of run.expected_run); fault = run.fault } };
 
-    ghost invariant = { λ run. IsGoing run.fault run.next run.course };
+    ghost invariant = { λ run. IsGoing run.fault run.next run.expected_run };
 }
 
 impl<'a> Run<'a> {
@@ -42,7 +42,7 @@ impl<'a> Run<'a> {
         ensures { IfOk result (λ run. run ≡ record { world = world_of scenario.now; version = version; lines = []; fault = None }) }
     {
         Ok(Run {
-            course: Course::new(alloc, scenario, version)?,
+            expected_run: ExpectedRun::new(alloc, scenario, version)?,
             next: 1,
             fault: None,
         })
@@ -67,7 +67,7 @@ impl<'a> Run<'a> {
             self.fault = Some(StepFault::NoMemory);
             return Err(StepFault::NoMemory);
         };
-        match self.course.take(self.next, line) {
+        match self.expected_run.take(self.next, line) {
             Ok(()) => {
                 self.next = after;
                 Ok(())
@@ -89,7 +89,7 @@ impl<'a> Run<'a> {
     {
         records_tell_one_history();
         match self.fault {
-            None => self.course.close(self.next),
+            None => self.expected_run.close(self.next),
             Some(StepFault::Unlawful(fault)) => Err(fault),
             Some(StepFault::NoMemory) => unreachable!(),
         }

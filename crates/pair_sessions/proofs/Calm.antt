@@ -12,27 +12,27 @@ use Rattle.link_handshake.specs.declared.Phase.{Phase}
 use Rattle.link_handshake.specs.declared.Phase.TheVariants.{Reset, Init, Ready, Run}
 use Rattle.link_handshake.specs.declared.Move.TheVariants.{Stay}
 use Rattle.link_handshake.specs.PhaseTable.{move_on, state_of}
-use Rattle.link_handshake.specs.Standing.{Standing, move_of}
+use Rattle.link_handshake.specs.HandshakeState.{HandshakeState, move_of}
 use Rattle.call_grammar.specs.Steps.{Mark, Saw, Reclaim, Full, Accept, Look, Deliver, Return, Done, Down, Refuse, Over}
 use Rattle.call_grammar.specs.Ends.{End, fresh}
 use Rattle.call_grammar.specs.Words.{words_for, address_of}
 use Rattle.call_grammar.specs.Rows.{MovesTo}
-use Rattle.call_grammar.specs.Calls.{Call, Tick, Stop, Offer, Poll, in_run, job_of}
-use Rattle.call_grammar.specs.Ticks.{Who}
-use Rattle.call_grammar.specs.Offers.{Job, finds_room, descriptor_of, asks_for, returned_by}
+use Rattle.call_grammar.specs.Calls.{Call, Tick, Stop, Offer, Poll, in_run, pending_of}
+use Rattle.call_grammar.specs.Ticks.{EndConfig}
+use Rattle.call_grammar.specs.Offers.{PendingOffer, frame_fits, descriptor_of, wants_doorbell, returned_by}
 use Rattle.call_grammar.specs.Polls.{is_entry, is_address, is_length, is_last, published_by}
-use Rattle.call_grammar.specs.Places.{Place, Closed, AtState, Clearing, Setting, Refusing, Downed, AtUsedIndex, AtUsedId, Filling, WritingLow, WritingHigh, WritingLength, WritingFlags, WritingEntry, WritingIndex, AtEvent, RingingOffer, AtAvailIndex, Arming, AtEntry, AtLow, AtHigh, AtLength, AtFlags, AtWord, GivingId, GivingLength, GivingIndex, RingingPoll, clear_place, tick_place, fill_place, ids_place, none_place, items_place, words_place, first_place, access_at, next_place, step_at}
-use Rattle.link_machine.specs.LinkMachine.{Side, fresh_side, Told, Gave, Wrote, Marked, WasReset, MarkRow, Row, Log, no_sessions, log_after, MachineRuns}
+use Rattle.call_grammar.specs.Places.{Place, Closed, ReadingOtherState, Clearing, WritingState, Refusing, NotInRun, ReadingUsedIndex, ReadingUsedId, WritingFrameWord, WritingDescAddressLow, WritingDescAddressHigh, WritingDescLength, WritingDescFlags, WritingAvailEntry, WritingAvailIndex, ReadingAvailEvent, RingingOffer, ReadingAvailIndex, WritingAvailEvent, ReadingAvailEntry, ReadingDescAddressLow, ReadingDescAddressHigh, ReadingDescLength, ReadingDescFlags, ReadingFrameWord, WritingUsedId, WritingUsedLength, WritingUsedIndex, RingingPoll, clear_place, tick_place, fill_place, ids_place, none_place, items_place, words_place, first_place, access_at, next_place, step_at}
+use Rattle.link_machine.specs.LinkMachine.{Side, initial_side, SideEvent, Gave, Wrote, Marked, WasReset, MarkRow, Row, Log, no_sessions, log_after, MachineRuns}
 use Rattle.link_machine.specs.LinkMachine as machine
 use Rattle.link_machine.proofs.MachineLaws.{SawSome, Half, Kind, falls_to, inits, opens, runs, sees, accepts, delivers, counts, kind_of, half_of}
-use Rattle.ends_pair.specs.Ground.{Ground, IsGround, who_of}
-use Rattle.ends_pair.specs.Steps.{OnlyComes, Meets}
-use Rattle.ends_pair.specs.Alone.{Holds}
-use Rattle.ends_pair.specs.Sides.{told_of, told_by, RowsAlong, SawFor, CallIs, SideIs}
-use Rattle.ends_pair.specs.Runs.{HonestRuns}
-use Rattle.ends_pair.specs.Runs as honest
-use Rattle.ends_pair.proofs.RowsKept.{follow_lem}
-use Rattle.ends_pair.proofs.RunsKept.{whole_lem, Stepped, row_step, rows_on, side_like}
+use Rattle.link_invariant.specs.LinkConfig.{LinkConfig, IsLinkConfig, config_of}
+use Rattle.link_invariant.specs.Steps.{OnlyEndChanges, ReadsMemory}
+use Rattle.link_invariant.specs.EndInvariant.{PlaceInvariant}
+use Rattle.link_invariant.specs.Sides.{side_events_of, side_events_by, FollowsRows, SawFor, CallIs, SideIs}
+use Rattle.link_invariant.specs.Runs.{HonestRuns}
+use Rattle.link_invariant.specs.Runs as honest
+use Rattle.link_invariant.proofs.RowsKept.{follow_lem}
+use Rattle.link_invariant.proofs.RunsKept.{whole_lem, Stepped, row_step, rows_on, side_like}
 use Rattle.pair_sessions.specs.Once.{CalmRuns, starts, begins, steps, others, IsStill, IsOnce, CalmRunsDeliver}
 use Rattle.pair_sessions.proofs.Numbering.{state_at}
 
@@ -118,7 +118,7 @@ theirs_lem p q new l m l' kind o = record { most = o.most; stays = o.stays; none
 -- What is told
 
 -- no write of 0 and no reset
-abbrev IsUp : Told → Type 0
+abbrev IsUp : SideEvent → Type 0
 IsUp (Gave value) = Unit {0}
 IsUp (Wrote zero) = ⊥
 IsUp (Wrote (suc n)) = Unit {0}
@@ -138,7 +138,7 @@ mark_state sizes p q Down new row = ap (λ (s : Side). s.state) row.1
 mark_state sizes p q (Refuse refused) new row = ap (λ (s : Side). s.state) row.3
 mark_state sizes p q Over new row = ap (λ (s : Side). s.state) row
 
-stays_up : (sizes : Sizes) (p q : Side) (told : Told) (new : Side) → Row sizes true true p q told new → IsUp told → new.state ≡ 0 → p.state ≡ 0
+stays_up : (sizes : Sizes) (p q : Side) (told : SideEvent) (new : Side) → Row sizes true true p q told new → IsUp told → new.state ≡ 0 → p.state ≡ 0
 stays_up sizes p q (Gave value) new row up e = sym (ap (λ (s : Side). s.state) row) ∙ e
 stays_up sizes p q (Wrote zero) new row up e = absurd up
 stays_up sizes p q (Wrote (suc n)) new row up e = absurd (let s = ap (λ (x : Side). x.state) row.1 in omega arith)
@@ -158,7 +158,7 @@ calm_like : (p p' q q' : Side) (l l' : Log) → p' ≡ p → q' ≡ q → l' ≡
 calm_like p p' q q' l l' e f g c = subst (λ x. Calm x q' l') (sym e) (subst (λ x. Calm p x l') (sym f) (subst (Calm p q) (sym g) c))
 
 module _ (sizes : Sizes) (p : ℕ) (p2 : p < 2) where
-  calm_step : (sides : ℕ → Side) (logs : ℕ → Log) (told : Told) (new : Side) → MachineRuns sizes (λ p. true) sides logs → ((q : ℕ) → q < 2 → Calm (sides q) (sides (1 - q)) (logs q)) → IsUp told → Row sizes true true (sides p) (sides (1 - p)) told new →
+  calm_step : (sides : ℕ → Side) (logs : ℕ → Log) (told : SideEvent) (new : Side) → MachineRuns sizes (λ p. true) sides logs → ((q : ℕ) → q < 2 → Calm (sides q) (sides (1 - q)) (logs q)) → IsUp told → Row sizes true true (sides p) (sides (1 - p)) told new →
       (a : Stepped sizes sides logs p new (log_after (logs p) (logs (1 - p)) (sides p) told)) → (q : ℕ) → q < 2 → Calm (a.sides' q) (a.sides' (1 - q)) (a.logs' q)
   calm_step sides logs told new r calm up row a q q2 = let l = log_after (logs p) (logs (1 - p)) (sides p) told in let ne : 1 - p ≢ p = λ e. omega arith in let o2 : 1 - p < 2 = omega arith in let back : 1 - (1 - p) ≡ p = omega arith in
       let kind = kind_of sizes (sides p) (sides (1 - p)) (logs p) (logs (1 - p)) told new row in
@@ -168,7 +168,7 @@ module _ (sizes : Sizes) (p : ℕ) (p2 : p < 2) where
       (λ e. let f : 1 - q ≡ 1 - p = omega arith in calm_like new (a.sides' q) (sides (1 - p)) (a.sides' (1 - q)) l (a.logs' q) (ap a.sides' e ∙ a.side_is) (ap a.sides' f ∙ a.sides_stay (1 - p) ne) (ap a.logs' e ∙ a.log_is) mine)
       (λ other. let e : q ≡ 1 - p = omega arith in let f : 1 - q ≡ p = omega arith in calm_like (sides (1 - p)) (a.sides' q) new (a.sides' (1 - q)) (logs (1 - p)) (a.logs' q) (ap a.sides' e ∙ a.sides_stay (1 - p) ne) (ap a.sides' f ∙ a.side_is) (ap a.logs' e ∙ a.logs_stay (1 - p) ne) theirs)
 
-  along : (tolds : List Told) (sides : ℕ → Side) (logs : ℕ → Log) (new : Side) → MachineRuns sizes (λ p. true) sides logs → ((q : ℕ) → q < 2 → Calm (sides q) (sides (1 - q)) (logs q)) → AllByRecursion IsUp tolds → RowsAlong sizes true (sides (1 - p)) (sides p) tolds new → Along sizes sides p new
+  along : (tolds : List SideEvent) (sides : ℕ → Side) (logs : ℕ → Log) (new : Side) → MachineRuns sizes (λ p. true) sides logs → ((q : ℕ) → q < 2 → Calm (sides q) (sides (1 - q)) (logs q)) → AllByRecursion IsUp tolds → FollowsRows sizes true (sides (1 - p)) (sides p) tolds new → Along sizes sides p new
   along [] sides logs new r calm up rows = record { sides' = sides; logs' = logs; run = r; calm = calm; side_is = sym rows; sides_stay = λ q ne. refl }
   along (told ∷ tolds) sides logs new r calm up rows = let a = row_step sizes p p2 sides logs told rows.0 r rows.1 in
       let b = along tolds a.sides' a.logs' new a.run (calm_step sides logs told rows.0 r calm up.0 rows.1 a) up.1 (rows_on sizes p p2 tolds sides logs rows.0 new _ a rows.2) in record {
@@ -184,14 +184,14 @@ module _ (sizes : Sizes) (p : ℕ) (p2 : p < 2) where
 
 -- the end is about to set 0, by a tick or a Stop
 abbrev IsDown : Place → Type 0
-IsDown (Setting zero) = Unit {0}
+IsDown (WritingState zero) = Unit {0}
 IsDown place = ⊥
 
 marks_up : (marks : List Mark) → AllByRecursion IsUp (map Marked marks)
 marks_up [] = tt
 marks_up (mark ∷ marks) = (tt, marks_up marks)
 
-access_up : (a : Access) (value : ℕ) (marks : List Mark) → (a ≡ access.State 0 → ⊥) → AllByRecursion IsUp (told_of a value ++ map Marked marks)
+access_up : (a : Access) (value : ℕ) (marks : List Mark) → (a ≡ access.State 0 → ⊥) → AllByRecursion IsUp (side_events_of a value ++ map Marked marks)
 access_up (access.Read word) value marks up = (tt, marks_up marks)
 access_up (access.Write word written) value marks up = marks_up marks
 access_up (access.State zero) value marks up = absurd (up refl)
@@ -199,27 +199,27 @@ access_up (access.State (suc n)) value marks up = (tt, marks_up marks)
 access_up (access.Ring target vector) value marks up = marks_up marks
 access_up access.Nothing value marks up = marks_up marks
 
-tolds_up : (who : Who) (place : Place) (value : ℕ) → ¬ IsDown place → place ≢ Refusing → AllByRecursion IsUp (told_by (step_at who place value))
-tolds_up who place value up sound = access_up (access_at who place) (step_at who place value).value (step_at who place value).marks (λ e. ⊎_elim (λ is. up (subst IsDown (sym is) tt)) (λ is. sound is.0) (state_at who place 0 e))
+tolds_up : (config : EndConfig) (place : Place) (value : ℕ) → ¬ IsDown place → place ≢ Refusing → AllByRecursion IsUp (side_events_by (step_at config place value))
+tolds_up config place value up sound = access_up (access_at config place) (step_at config place value).value (step_at config place value).marks (λ e. ⊎_elim (λ is. up (subst IsDown (sym is) tt)) (λ is. sound is.0) (state_at config place 0 e))
 
 test_up : (b : Bool) (x y : Place) → ¬ IsDown x → ¬ IsDown y → ¬ IsDown (if b then x else y)
 test_up true x y mine theirs = mine
 test_up false x y mine theirs = theirs
 
 clear_up : (at count state : ℕ) → state ≡ 2 → ¬ IsDown (clear_place at count state)
-clear_up at zero state is down = let e : IsDown (Setting 2) = subst (λ k. IsDown (Setting k)) is down in e
+clear_up at zero state is down = let e : IsDown (WritingState 2) = subst (λ k. IsDown (WritingState k)) is down in e
 clear_up at (suc more) state is down = down
 
-fill_up : (job : Job) (at count : ℕ) → ¬ IsDown (fill_place job at count)
-fill_up job at zero down = down
-fill_up job at (suc more) down = down
+fill_up : (pending : PendingOffer) (at count : ℕ) → ¬ IsDown (fill_place pending at count)
+fill_up pending at zero down = down
+fill_up pending at (suc more) down = down
 
-ids_up : (who : Who) (job : Job) (freed count : ℕ) → ¬ IsDown (ids_place who job freed count)
-ids_up who job freed zero = test_up (finds_room who job freed) (fill_place job 0 (words_for (length job.frame))) Closed (fill_up job 0 (words_for (length job.frame))) (λ d. d)
-ids_up who job freed (suc more) = λ d. d
+ids_up : (config : EndConfig) (pending : PendingOffer) (freed count : ℕ) → ¬ IsDown (ids_place config pending freed count)
+ids_up config pending freed zero = test_up (frame_fits config pending freed) (fill_place pending 0 (words_for (length pending.frame))) Closed (fill_up pending 0 (words_for (length pending.frame))) (λ d. d)
+ids_up config pending freed (suc more) = λ d. d
 
 none_up : (taken : ℕ) (last : Bool) → ¬ IsDown (none_place taken last)
-none_up taken last = test_up last Closed (Arming taken) (λ d. d) (λ d. d)
+none_up taken last = test_up last Closed (WritingAvailEvent taken) (λ d. d) (λ d. d)
 
 items_up : (number count : ℕ) → ¬ IsDown (items_place number count)
 items_up number zero down = down
@@ -230,83 +230,83 @@ words_up number more entry address bytes read zero down = down
 words_up number more entry address bytes read (suc words) down = down
 
 -- only a tick that saw 0 in READY or RUN leads there
-next_up : (ground : Ground) (p : ℕ) (memory : ℕ → ℕ) (end : End) (place : Place) (value : ℕ) → Holds ground memory p end place → ((handshake : Standing) → place ≡ AtState handshake → ¬ IsDown (tick_place (who_of ground p) (move_of handshake value))) → ¬ IsDown (next_place (who_of ground p) place value)
-next_up ground p memory end Closed value h tick = λ d. d
-next_up ground p memory end (AtState handshake) value h tick = tick handshake refl
-next_up ground p memory end (Clearing at more state) value h tick = clear_up (at + 1) more state h.1
-next_up ground p memory end (Setting state) value h tick = λ d. d
-next_up ground p memory end Refusing value h tick = λ d. d
-next_up ground p memory end Downed value h tick = λ d. d
-next_up ground p memory end (AtUsedIndex job freed) value h tick = test_up (nat_le (returned_by freed value) (job.number - freed)) (ids_place (who_of ground p) job freed (returned_by freed value)) Refusing (ids_up (who_of ground p) job freed (returned_by freed value)) (λ d. d)
-next_up ground p memory end (AtUsedId job freed more) value h tick = test_up (value == descriptor_of (who_of ground p) freed) (ids_place (who_of ground p) job (freed + 1) more) Refusing (ids_up (who_of ground p) job (freed + 1) more) (λ d. d)
-next_up ground p memory end (Filling job at more) value h tick = fill_up job (at + 1) more
-next_up ground p memory end (WritingLow job) value h tick = λ d. d
-next_up ground p memory end (WritingHigh job) value h tick = λ d. d
-next_up ground p memory end (WritingLength job) value h tick = λ d. d
-next_up ground p memory end (WritingFlags job) value h tick = λ d. d
-next_up ground p memory end (WritingEntry job) value h tick = λ d. d
-next_up ground p memory end (WritingIndex job) value h tick = test_up (has_events ground.sizes) (AtEvent job.number) RingingOffer (λ d. d) (λ d. d)
-next_up ground p memory end (AtEvent number) value h tick = test_up (asks_for (low_half value) number) RingingOffer Closed (λ d. d) (λ d. d)
-next_up ground p memory end RingingOffer value h tick = λ d. d
-next_up ground p memory end (AtAvailIndex taken last) value h tick = test_up (nat_le (published_by taken value) (size_of ground.sizes)) (if published_by taken value == 0 then none_place taken last else items_place taken (published_by taken value)) Refusing
+next_up : (link_config : LinkConfig) (p : ℕ) (memory : ℕ → ℕ) (end : End) (place : Place) (value : ℕ) → PlaceInvariant link_config memory p end place → ((handshake : HandshakeState) → place ≡ ReadingOtherState handshake → ¬ IsDown (tick_place (config_of link_config p) (move_of handshake value))) → ¬ IsDown (next_place (config_of link_config p) place value)
+next_up link_config p memory end Closed value h tick = λ d. d
+next_up link_config p memory end (ReadingOtherState handshake) value h tick = tick handshake refl
+next_up link_config p memory end (Clearing at more state) value h tick = clear_up (at + 1) more state h.1
+next_up link_config p memory end (WritingState state) value h tick = λ d. d
+next_up link_config p memory end Refusing value h tick = λ d. d
+next_up link_config p memory end NotInRun value h tick = λ d. d
+next_up link_config p memory end (ReadingUsedIndex pending freed) value h tick = test_up (nat_le (returned_by freed value) (pending.number - freed)) (ids_place (config_of link_config p) pending freed (returned_by freed value)) Refusing (ids_up (config_of link_config p) pending freed (returned_by freed value)) (λ d. d)
+next_up link_config p memory end (ReadingUsedId pending freed more) value h tick = test_up (value == descriptor_of (config_of link_config p) freed) (ids_place (config_of link_config p) pending (freed + 1) more) Refusing (ids_up (config_of link_config p) pending (freed + 1) more) (λ d. d)
+next_up link_config p memory end (WritingFrameWord pending at more) value h tick = fill_up pending (at + 1) more
+next_up link_config p memory end (WritingDescAddressLow pending) value h tick = λ d. d
+next_up link_config p memory end (WritingDescAddressHigh pending) value h tick = λ d. d
+next_up link_config p memory end (WritingDescLength pending) value h tick = λ d. d
+next_up link_config p memory end (WritingDescFlags pending) value h tick = λ d. d
+next_up link_config p memory end (WritingAvailEntry pending) value h tick = λ d. d
+next_up link_config p memory end (WritingAvailIndex pending) value h tick = test_up (has_events link_config.sizes) (ReadingAvailEvent pending.number) RingingOffer (λ d. d) (λ d. d)
+next_up link_config p memory end (ReadingAvailEvent number) value h tick = test_up (wants_doorbell (low_half value) number) RingingOffer Closed (λ d. d) (λ d. d)
+next_up link_config p memory end RingingOffer value h tick = λ d. d
+next_up link_config p memory end (ReadingAvailIndex taken last) value h tick = test_up (nat_le (published_by taken value) (size_of link_config.sizes)) (if published_by taken value == 0 then none_place taken last else items_place taken (published_by taken value)) Refusing
     (test_up (published_by taken value == 0) (none_place taken last) (items_place taken (published_by taken value)) (none_up taken last) (items_up taken (published_by taken value))) (λ d. d)
-next_up ground p memory end (Arming taken) value h tick = λ d. d
-next_up ground p memory end (AtEntry number more) value h tick = let e = entry_half (number % size_of ground.sizes) value in test_up (is_entry ground.sizes e) (AtLow number more e) Refusing (λ d. d) (λ d. d)
-next_up ground p memory end (AtLow number more entry) value h tick = λ d. d
-next_up ground p memory end (AtHigh number more entry low) value h tick = test_up (is_address ground.sizes (address_of low value)) (AtLength number more entry (address_of low value)) Refusing (λ d. d) (λ d. d)
-next_up ground p memory end (AtLength number more entry address) value h tick = test_up (is_length ground.sizes address value) (AtFlags number more entry address value) Refusing (λ d. d) (λ d. d)
-next_up ground p memory end (AtFlags number more entry address bytes) value h tick = test_up (low_half value == 0) (words_place number more entry address bytes [] (words_for bytes)) Refusing (words_up number more entry address bytes [] (words_for bytes)) (λ d. d)
-next_up ground p memory end (AtWord number more entry address bytes read words) value h tick = words_up number more entry address bytes (read ++ value ∷ []) words
-next_up ground p memory end (GivingId number more entry) value h tick = λ d. d
-next_up ground p memory end (GivingLength number more) value h tick = λ d. d
-next_up ground p memory end (GivingIndex number more) value h tick = items_up (number + 1) more
-next_up ground p memory end RingingPoll value h tick = λ d. d
+next_up link_config p memory end (WritingAvailEvent taken) value h tick = λ d. d
+next_up link_config p memory end (ReadingAvailEntry number more) value h tick = let e = entry_half (number % size_of link_config.sizes) value in test_up (is_entry link_config.sizes e) (ReadingDescAddressLow number more e) Refusing (λ d. d) (λ d. d)
+next_up link_config p memory end (ReadingDescAddressLow number more entry) value h tick = λ d. d
+next_up link_config p memory end (ReadingDescAddressHigh number more entry low) value h tick = test_up (is_address link_config.sizes (address_of low value)) (ReadingDescLength number more entry (address_of low value)) Refusing (λ d. d) (λ d. d)
+next_up link_config p memory end (ReadingDescLength number more entry address) value h tick = test_up (is_length link_config.sizes address value) (ReadingDescFlags number more entry address value) Refusing (λ d. d) (λ d. d)
+next_up link_config p memory end (ReadingDescFlags number more entry address bytes) value h tick = test_up (low_half value == 0) (words_place number more entry address bytes [] (words_for bytes)) Refusing (words_up number more entry address bytes [] (words_for bytes)) (λ d. d)
+next_up link_config p memory end (ReadingFrameWord number more entry address bytes read words) value h tick = words_up number more entry address bytes (read ++ value ∷ []) words
+next_up link_config p memory end (WritingUsedId number more entry) value h tick = λ d. d
+next_up link_config p memory end (WritingUsedLength number more) value h tick = λ d. d
+next_up link_config p memory end (WritingUsedIndex number more) value h tick = items_up (number + 1) more
+next_up link_config p memory end RingingPoll value h tick = λ d. d
 
-tick_up : (who : Who) (phase : Phase) (value : ℕ) → (2 ≤ state_of phase → 1 ≤ value) → ¬ IsDown (tick_place who (move_on phase value))
-tick_up who Reset zero some = λ d. d
-tick_up who Reset (suc zero) some = λ d. d
-tick_up who Reset (suc (suc more)) some = λ d. d
-tick_up who Init zero some = λ d. d
-tick_up who Init (suc more) some = clear_up who.own who.words 2 refl
-tick_up who Ready zero some = λ d. let one : 1 ≤ 0 = some (omega arith) in omega arith
-tick_up who Ready (suc zero) some = λ d. d
-tick_up who Ready (suc (suc more)) some = λ d. d
-tick_up who Run zero some = λ d. let one : 1 ≤ 0 = some (omega arith) in omega arith
-tick_up who Run (suc more) some = λ d. d
+tick_up : (config : EndConfig) (phase : Phase) (value : ℕ) → (2 ≤ state_of phase → 1 ≤ value) → ¬ IsDown (tick_place config (move_on phase value))
+tick_up config Reset zero some = λ d. d
+tick_up config Reset (suc zero) some = λ d. d
+tick_up config Reset (suc (suc more)) some = λ d. d
+tick_up config Init zero some = λ d. d
+tick_up config Init (suc more) some = clear_up config.own config.words 2 refl
+tick_up config Ready zero some = λ d. let one : 1 ≤ 0 = some (omega arith) in omega arith
+tick_up config Ready (suc zero) some = λ d. d
+tick_up config Ready (suc (suc more)) some = λ d. d
+tick_up config Run zero some = λ d. let one : 1 ≤ 0 = some (omega arith) in omega arith
+tick_up config Run (suc more) some = λ d. d
 
-move_up : (who : Who) (handshake : Standing) (value : ℕ) → (2 ≤ state_of handshake.phase → 1 ≤ value) → ¬ IsDown (tick_place who (move_of handshake value))
-move_up who handshake value some = by_mark handshake.mark
+move_up : (config : EndConfig) (handshake : HandshakeState) (value : ℕ) → (2 ≤ state_of handshake.phase → 1 ≤ value) → ¬ IsDown (tick_place config (move_of handshake value))
+move_up config handshake value some = by_mark handshake.mark
   where
-    by_mark : (b : Bool) → ¬ IsDown (tick_place who (if b then Stay else move_on handshake.phase value))
+    by_mark : (b : Bool) → ¬ IsDown (tick_place config (if b then Stay else move_on handshake.phase value))
     by_mark true = λ d. d
-    by_mark false = tick_up who handshake.phase value some
+    by_mark false = tick_up config handshake.phase value some
 
-first_up : (who : Who) (end : End) (call : Call) → call ≢ Stop → ¬ IsDown (first_place who end call)
-first_up who end Tick ne = λ d. d
-first_up who end Stop ne = absurd (ne refl)
-first_up who end (Offer frame) ne = test_up (in_run end.handshake.phase) (AtUsedIndex (job_of who end frame) end.freed) Downed (λ d. d) (λ d. d)
-first_up who end Poll ne = test_up (in_run end.handshake.phase) (AtAvailIndex (length end.delivered) (is_last who end.found_none)) Downed (λ d. d) (λ d. d)
+first_up : (config : EndConfig) (end : End) (call : Call) → call ≢ Stop → ¬ IsDown (first_place config end call)
+first_up config end Tick ne = λ d. d
+first_up config end Stop ne = absurd (ne refl)
+first_up config end (Offer frame) ne = test_up (in_run end.handshake.phase) (ReadingUsedIndex (pending_of config end frame) end.freed) NotInRun (λ d. d) (λ d. d)
+first_up config end Poll ne = test_up (in_run end.handshake.phase) (ReadingAvailIndex (length end.delivered) (is_last config end.found_none)) NotInRun (λ d. d) (λ d. d)
 
 -- Runs
 
-honest_lem : (ground : Ground) (memory : ℕ → ℕ) (ends : ℕ → End) (places : ℕ → Place) → CalmRuns ground memory ends places → HonestRuns ground memory ends places
-honest_lem ground _ _ _ (starts memory ends places none new closed) = honest.starts memory ends places none new closed
-honest_lem ground _ _ _ (begins memory ends after_ends places after_places p call run p2 ne begun) = honest.begins memory ends after_ends places after_places p call (honest_lem ground memory ends places run) p2 refl begun
-honest_lem ground _ _ _ (steps memory after ends after_ends places after_places p value run p2 step) = honest.steps memory after ends after_ends places after_places p value (honest_lem ground memory ends places run) p2 refl step
-honest_lem ground _ _ _ (others memory after ends places run keep) = honest.others memory after ends places (honest_lem ground memory ends places run) (λ q q2 _. keep q q2)
+honest_lem : (link_config : LinkConfig) (memory : ℕ → ℕ) (ends : ℕ → End) (places : ℕ → Place) → CalmRuns link_config memory ends places → HonestRuns link_config memory ends places
+honest_lem link_config _ _ _ (starts memory ends places none new closed) = honest.starts memory ends places none new closed
+honest_lem link_config _ _ _ (begins memory ends after_ends places after_places p call run p2 ne begun) = honest.begins memory ends after_ends places after_places p call (honest_lem link_config memory ends places run) p2 refl begun
+honest_lem link_config _ _ _ (steps memory after ends after_ends places after_places p value run p2 step) = honest.steps memory after ends after_ends places after_places p value (honest_lem link_config memory ends places run) p2 refl step
+honest_lem link_config _ _ _ (others memory after ends places run keep) = honest.others memory after ends places (honest_lem link_config memory ends places run) (λ q q2 _. keep q q2)
 
 -- the ends are calm sides, and none is about to set 0
-record AreCalm (ground : Ground) (ends : ℕ → End) (places : ℕ → Place) : Type 0 where
+record AreCalm (link_config : LinkConfig) (ends : ℕ → End) (places : ℕ → Place) : Type 0 where
   sides : ℕ → Side
   logs : ℕ → Log
-  run : MachineRuns ground.sizes (λ p. true) sides logs
+  run : MachineRuns link_config.sizes (λ p. true) sides logs
   are : (p : ℕ) → p < 2 → SideIs (ends p) (places p) (sides p)
   calm : (p : ℕ) → p < 2 → Calm (sides p) (sides (1 - p)) (logs p)
   up : (p : ℕ) → p < 2 → ¬ IsDown (places p)
 
-moved : (ground : Ground) (ends after_ends : ℕ → End) (places after_places : ℕ → Place) (p : ℕ) (end : End) (place : Place) (new : Side) → p < 2 → (r : AreCalm ground ends places) → Along ground.sizes r.sides p new → SideIs end place new → ¬ IsDown place →
-    OnlyComes ends after_ends places after_places p end place → AreCalm ground after_ends after_places
-moved ground ends after_ends places after_places p end place new p2 r x is up only = record {
+moved : (link_config : LinkConfig) (ends after_ends : ℕ → End) (places after_places : ℕ → Place) (p : ℕ) (end : End) (place : Place) (new : Side) → p < 2 → (r : AreCalm link_config ends places) → Along link_config.sizes r.sides p new → SideIs end place new → ¬ IsDown place →
+    OnlyEndChanges ends after_ends places after_places p end place → AreCalm link_config after_ends after_places
+moved link_config ends after_ends places after_places p end place new p2 r x is up only = record {
   sides = x.sides';
   logs = x.logs';
   run = x.run;
@@ -319,35 +319,35 @@ moved ground ends after_ends places after_places p end place new p2 r x is up on
       (λ ne. subst (λ x. ¬ IsDown x) (sym (only.places_stay q ne)) (r.up q q2));
 }
 
-calm_lem : (ground : Ground) (memory : ℕ → ℕ) (ends : ℕ → End) (places : ℕ → Place) → IsGround ground → CalmRuns ground memory ends places → AreCalm ground ends places
-calm_lem ground _ _ _ is (starts memory ends places none new closed) = record {
-  sides = λ p. fresh_side;
+calm_lem : (link_config : LinkConfig) (memory : ℕ → ℕ) (ends : ℕ → End) (places : ℕ → Place) → IsLinkConfig link_config → CalmRuns link_config memory ends places → AreCalm link_config ends places
+calm_lem link_config _ _ _ is (starts memory ends places none new closed) = record {
+  sides = λ p. initial_side;
   logs = λ p. no_sessions;
-  run = machine.starts (λ p. fresh_side) (λ p. no_sessions) (λ p. refl) (λ p. refl);
-  are = λ p p2. side_like fresh (ends p) Closed (places p) fresh_side fresh_side (new p) (closed p) refl follow_lem.starts;
+  run = machine.starts (λ p. initial_side) (λ p. no_sessions) (λ p. refl) (λ p. refl);
+  are = λ p p2. side_like fresh (ends p) Closed (places p) initial_side initial_side (new p) (closed p) refl follow_lem.starts;
   calm = λ p p2. record { most = omega arith; stays = λ one. absurd (omega arith); none = λ e. (refl, refl); low = λ e. inl refl };
   up = λ p p2 d. subst IsDown (closed p) d;
 }
-calm_lem ground _ _ _ is (begins memory ends after_ends places after_places p call run p2 ne begun) = let r = calm_lem ground memory ends places is run in
-    moved ground ends after_ends places after_places p (ends p) (first_place (who_of ground p) (ends p) call) (r.sides p) p2 r
+calm_lem link_config _ _ _ is (begins memory ends after_ends places after_places p call run p2 ne begun) = let r = calm_lem link_config memory ends places is run in
+    moved link_config ends after_ends places after_places p (ends p) (first_place (config_of link_config p) (ends p) call) (r.sides p) p2 r
     record { sides' = r.sides; logs' = r.logs; run = r.run; calm = r.calm; side_is = refl; sides_stay = λ q ne. refl }
-    (follow_lem.begins (who_of ground p) (ends p) call (r.sides p) (subst (λ (x : Place). SideIs (ends p) x (r.sides p)) begun.closed (r.are p p2))) (first_up (who_of ground p) (ends p) call ne) begun.comes
-calm_lem ground _ _ _ is (steps memory after ends after_ends places after_places p value run p2 step) = let r = calm_lem ground memory ends places is run in let o2 : 1 - p < 2 = omega arith in
-    let held = whole_lem ground (λ p. true) memory ends places is (honest_lem ground memory ends places run) in let who = who_of ground p in
+    (follow_lem.begins (config_of link_config p) (ends p) call (r.sides p) (subst (λ (x : Place). SideIs (ends p) x (r.sides p)) begun.closed (r.are p p2))) (first_up (config_of link_config p) (ends p) call ne) begun.comes
+calm_lem link_config _ _ _ is (steps memory after ends after_ends places after_places p value run p2 step) = let r = calm_lem link_config memory ends places is run in let o2 : 1 - p < 2 = omega arith in
+    let held = whole_lem link_config (λ p. true) memory ends places is (honest_lem link_config memory ends places run) in let config = config_of link_config p in
     let state : (r.sides (1 - p)).state ≡ memory (1 - p) = (r.are (1 - p) o2).state ∙ sym (held.alone (1 - p) o2 refl).state in
-    let f = follow_lem.steps ground (λ p. true) memory ends places p value (r.sides p) (r.sides (1 - p)) is p2 refl held (r.are p p2) state (λ _. r.are (1 - p) o2) step.opened step.meets in
-    moved ground ends after_ends places after_places p _ (next_place who (places p) value) f.0 p2 r
-    (along ground.sizes p p2 (told_by (step_at who (places p) value)) r.sides r.logs f.0 r.run r.calm (tolds_up who (places p) value (r.up p p2) ((held.pair refl refl).sound p p2).1) f.1) f.2
-    (next_up ground p memory (ends p) (places p) value (held.alone p p2 refl).holds (λ handshake at. move_up who handshake value (λ high. some r handshake at (subst (λ x. Holds ground memory p (ends p) x) at (held.alone p p2 refl).holds) state (subst (λ x. Meets memory (access_at who x) value) at step.meets) high))) step.comes
+    let f = follow_lem.steps link_config (λ p. true) memory ends places p value (r.sides p) (r.sides (1 - p)) is p2 refl held (r.are p p2) state (λ _. r.are (1 - p) o2) step.opened step.meets in
+    moved link_config ends after_ends places after_places p _ (next_place config (places p) value) f.0 p2 r
+    (along link_config.sizes p p2 (side_events_by (step_at config (places p) value)) r.sides r.logs f.0 r.run r.calm (tolds_up config (places p) value (r.up p p2) ((held.pair refl refl).sound p p2).1) f.1) f.2
+    (next_up link_config p memory (ends p) (places p) value (held.alone p p2 refl).holds (λ handshake at. move_up config handshake value (λ high. some r handshake at (subst (λ x. PlaceInvariant link_config memory p (ends p) x) at (held.alone p p2 refl).holds) state (subst (λ x. ReadsMemory memory (access_at config x) value) at step.meets) high))) step.comes
   where
-    some : (r : AreCalm ground ends places) (handshake : Standing) → places p ≡ AtState handshake → handshake ≡ (ends p).handshake → (r.sides (1 - p)).state ≡ memory (1 - p) → value ≡ memory (1 - p) → 2 ≤ state_of handshake.phase → 1 ≤ value
+    some : (r : AreCalm link_config ends places) (handshake : HandshakeState) → places p ≡ ReadingOtherState handshake → handshake ≡ (ends p).handshake → (r.sides (1 - p)).state ≡ memory (1 - p) → value ≡ memory (1 - p) → 2 ≤ state_of handshake.phase → 1 ≤ value
     some r handshake at same state met high = let o2 : 1 - p < 2 = omega arith in let back : 1 - (1 - p) ≡ p = omega arith in
-        let mine : (r.sides p).state ≡ state_of handshake.phase = (r.are p p2).state ∙ ap (λ (h : Standing). state_of h.phase) (sym same) in
+        let mine : (r.sides p).state ≡ state_of handshake.phase = (r.are p p2).state ∙ ap (λ (h : HandshakeState). state_of h.phase) (sym same) in
         dite (ℕ_discrete value 0)
         (λ e. let low : ((r.sides p).state ≡ 0) ⊎ (((r.sides p).state ≡ 1) × ¬ SawSome (r.sides p).seen) = subst (λ k. ((r.sides k).state ≡ 0) ⊎ (((r.sides k).state ≡ 1) × ¬ SawSome (r.sides k).seen)) back ((r.calm (1 - p) o2).low (state ∙ (sym met ∙ e))) in
         ⊎_elim (λ z. absurd (omega arith)) (λ z. absurd (let one = z.0 in omega arith)) low)
         (λ ne. omega arith)
-calm_lem ground _ _ _ is (others memory after ends places run keep) = calm_lem ground memory ends places is run
+calm_lem link_config _ _ _ is (others memory after ends places run keep) = calm_lem link_config memory ends places is run
 
 -- What follows
 
@@ -379,13 +379,13 @@ still_is end place side init si none = record {
 }
 
 pub deliver_lem : CalmRunsDeliver
-deliver_lem ground memory ends places is run = let r = calm_lem ground memory ends places is run in (r.sides, r.logs, r.run, λ p p2. (r.are p p2, once r p p2, prefix r p p2))
+deliver_lem link_config memory ends places is run = let r = calm_lem link_config memory ends places is run in (r.sides, r.logs, r.run, λ p p2. (r.are p p2, once r p p2, prefix r p p2))
   where
-    once : (r : AreCalm ground ends places) (p : ℕ) → p < 2 → IsOnce (ends p) (ends (1 - p)) (places p) (places (1 - p)) (r.logs p)
+    once : (r : AreCalm link_config ends places) (p : ℕ) → p < 2 → IsOnce (ends p) (ends (1 - p)) (places p) (places (1 - p)) (r.logs p)
     once r p p2 = let o2 : 1 - p < 2 = omega arith in let c = r.calm p p2 in let mine = r.are p p2 in let theirs = r.are (1 - p) o2 in record {
       most = c.most;
       stays = λ one. let two = c.stays one in let s = mine.state in omega arith;
-      counted = λ two. (half_of ground.sizes (λ p. true) r.sides r.logs refl refl r.run p p2).one (let s = mine.state in omega arith);
+      counted = λ two. (half_of link_config.sizes (λ p. true) r.sides r.logs refl refl r.run p p2).one (let s = mine.state in omega arith);
       none = λ e. let old = c.none e in (sym mine.accepted ∙ old.0, sym mine.delivered ∙ old.1);
       up = λ e. r.up p p2 (subst IsDown (sym e) tt);
       low = λ reset. ⊎_elim (λ z. inl (phase_reset (ends (1 - p)).handshake.phase (sym theirs.state ∙ z)))
@@ -393,9 +393,9 @@ deliver_lem ground memory ends places is run = let r = calm_lem ground memory en
           (c.low (mine.state ∙ ap state_of reset));
     }
 
-    prefix : (r : AreCalm ground ends places) (p : ℕ) → p < 2 → (rest : List (List ℕ)) × ((ends p).accepted ≡ (ends (1 - p)).delivered ++ rest)
+    prefix : (r : AreCalm link_config ends places) (p : ℕ) → p < 2 → (rest : List (List ℕ)) × ((ends p).accepted ≡ (ends (1 - p)).delivered ++ rest)
     prefix r p p2 = let o2 : 1 - p < 2 = omega arith in let back : 1 - (1 - p) ≡ p = omega arith in let s = r.sides (1 - p) in
-        let h = half_of ground.sizes (λ p. true) r.sides r.logs refl refl r.run (1 - p) o2 in let few = h.few in let c = r.calm (1 - p) o2 in
+        let h = half_of link_config.sizes (λ p. true) r.sides r.logs refl refl r.run (1 - p) o2 in let few = h.few in let c = r.calm (1 - p) o2 in
         let mine = r.are p p2 in let theirs = r.are (1 - p) o2 in
         dite (ℕ_discrete s.state 3)
         (λ e. let f = h.prefix (inl (inl e)) in (f.0, sym mine.accepted ∙ (ap (λ k. (r.sides k).accepted) (sym back) ∙ (f.1 ∙ ap (λ (x : List (List ℕ)). x ++ f.0) theirs.delivered))))

@@ -8,12 +8,12 @@ use Rattle.split_ring.specs.declared.steps.Access.TheVariants as access
 use Rattle.link_handshake.specs.declared.Phase.{Phase}
 use Rattle.link_handshake.specs.PhaseTable.{phase_at, state_of}
 use Rattle.call_grammar.specs.Ends.{End, after_reset, end_after}
-use Rattle.call_grammar.specs.Ticks.{Who}
-use Rattle.call_grammar.specs.Places.{Place, Closed, AtState, Clearing, Setting, Refusing, Downed, AtUsedIndex, AtUsedId, Filling, WritingLow, WritingHigh, WritingLength, WritingFlags, WritingEntry, WritingIndex, AtEvent, RingingOffer, AtAvailIndex, Arming, AtEntry, AtLow, AtHigh, AtLength, AtFlags, AtWord, GivingId, GivingLength, GivingIndex, RingingPoll, access_at, step_at}
+use Rattle.call_grammar.specs.Ticks.{EndConfig}
+use Rattle.call_grammar.specs.Places.{Place, Closed, ReadingOtherState, Clearing, WritingState, Refusing, NotInRun, ReadingUsedIndex, ReadingUsedId, WritingFrameWord, WritingDescAddressLow, WritingDescAddressHigh, WritingDescLength, WritingDescFlags, WritingAvailEntry, WritingAvailIndex, ReadingAvailEvent, RingingOffer, ReadingAvailIndex, WritingAvailEvent, ReadingAvailEntry, ReadingDescAddressLow, ReadingDescAddressHigh, ReadingDescLength, ReadingDescFlags, ReadingFrameWord, WritingUsedId, WritingUsedLength, WritingUsedIndex, RingingPoll, access_at, step_at}
 use Rattle.call_grammar.proofs.OfferLists.{yes, no}
 use Rattle.call_grammar.proofs.Phases.{phases}
-use Rattle.ends_pair.specs.Ground.{Ground}
-use Rattle.ends_pair.specs.Alone.{MaySet, Holds}
+use Rattle.link_invariant.specs.LinkConfig.{LinkConfig}
+use Rattle.link_invariant.specs.EndInvariant.{MaySet, PlaceInvariant}
 use Rattle.pair_sessions.specs.Numbers.{Numbers, numbers_after, numbers_reset, with_stored, IsNumbered, WordIs}
 
 -- the state that an access writes
@@ -22,47 +22,47 @@ state_in (access.State state) = state
 state_in _ = 0
 
 -- a State step is that of an open tick or a Stop, or the one after a refusal
-pub state_at : (who : Who) (place : Place) (state : ℕ) → access_at who place ≡ access.State state → (place ≡ Setting state) ⊎ ((place ≡ Refusing) × (state ≡ 0))
-state_at who Closed state e = absurd (cc)
-state_at who (AtState handshake) state e = absurd (cc)
-state_at who (Clearing at more s) state e = absurd (cc)
-state_at who (Setting s) state e = inl (ap Setting (ap state_in e))
-state_at who Refusing state e = inr (refl, sym (ap state_in e))
-state_at who Downed state e = absurd (cc)
-state_at who (AtUsedIndex job freed) state e = absurd (cc)
-state_at who (AtUsedId job freed more) state e = absurd (cc)
-state_at who (Filling job at more) state e = absurd (cc)
-state_at who (WritingLow job) state e = absurd (cc)
-state_at who (WritingHigh job) state e = absurd (cc)
-state_at who (WritingLength job) state e = absurd (cc)
-state_at who (WritingFlags job) state e = absurd (cc)
-state_at who (WritingEntry job) state e = absurd (cc)
-state_at who (WritingIndex job) state e = absurd (cc)
-state_at who (AtEvent number) state e = absurd (cc)
-state_at who RingingOffer state e = absurd (cc)
-state_at who (AtAvailIndex taken last) state e = absurd (cc)
-state_at who (Arming taken) state e = absurd (cc)
-state_at who (AtEntry number more) state e = absurd (cc)
-state_at who (AtLow number more entry) state e = absurd (cc)
-state_at who (AtHigh number more entry low) state e = absurd (cc)
-state_at who (AtLength number more entry address) state e = absurd (cc)
-state_at who (AtFlags number more entry address bytes) state e = absurd (cc)
-state_at who (AtWord number more entry address bytes read words) state e = absurd (cc)
-state_at who (GivingId number more entry) state e = absurd (cc)
-state_at who (GivingLength number more) state e = absurd (cc)
-state_at who (GivingIndex number more) state e = absurd (cc)
-state_at who RingingPoll state e = absurd (cc)
+pub state_at : (config : EndConfig) (place : Place) (state : ℕ) → access_at config place ≡ access.State state → (place ≡ WritingState state) ⊎ ((place ≡ Refusing) × (state ≡ 0))
+state_at config Closed state e = absurd (cc)
+state_at config (ReadingOtherState handshake) state e = absurd (cc)
+state_at config (Clearing at more s) state e = absurd (cc)
+state_at config (WritingState s) state e = inl (ap WritingState (ap state_in e))
+state_at config Refusing state e = inr (refl, sym (ap state_in e))
+state_at config NotInRun state e = absurd (cc)
+state_at config (ReadingUsedIndex pending freed) state e = absurd (cc)
+state_at config (ReadingUsedId pending freed more) state e = absurd (cc)
+state_at config (WritingFrameWord pending at more) state e = absurd (cc)
+state_at config (WritingDescAddressLow pending) state e = absurd (cc)
+state_at config (WritingDescAddressHigh pending) state e = absurd (cc)
+state_at config (WritingDescLength pending) state e = absurd (cc)
+state_at config (WritingDescFlags pending) state e = absurd (cc)
+state_at config (WritingAvailEntry pending) state e = absurd (cc)
+state_at config (WritingAvailIndex pending) state e = absurd (cc)
+state_at config (ReadingAvailEvent number) state e = absurd (cc)
+state_at config RingingOffer state e = absurd (cc)
+state_at config (ReadingAvailIndex taken last) state e = absurd (cc)
+state_at config (WritingAvailEvent taken) state e = absurd (cc)
+state_at config (ReadingAvailEntry number more) state e = absurd (cc)
+state_at config (ReadingDescAddressLow number more entry) state e = absurd (cc)
+state_at config (ReadingDescAddressHigh number more entry low) state e = absurd (cc)
+state_at config (ReadingDescLength number more entry address) state e = absurd (cc)
+state_at config (ReadingDescFlags number more entry address bytes) state e = absurd (cc)
+state_at config (ReadingFrameWord number more entry address bytes read words) state e = absurd (cc)
+state_at config (WritingUsedId number more entry) state e = absurd (cc)
+state_at config (WritingUsedLength number more) state e = absurd (cc)
+state_at config (WritingUsedIndex number more) state e = absurd (cc)
+state_at config RingingPoll state e = absurd (cc)
 
 -- an end in RESET or INIT writes 2 at most
-low_at : (ground : Ground) (p : ℕ) (memory : ℕ → ℕ) (phase : Phase) (state : ℕ) → MaySet ground memory p phase state → state_of phase ≤ 1 → state ≤ 2
-low_at ground p memory phase zero may low = omega arith
-low_at ground p memory phase (suc zero) may low = omega arith
-low_at ground p memory phase (suc (suc zero)) may low = omega arith
-low_at ground p memory phase (suc (suc (suc zero))) may low = let s = ap state_of may in absurd (omega arith)
-low_at ground p memory phase (suc (suc (suc (suc more)))) may low = absurd may
+low_at : (link_config : LinkConfig) (p : ℕ) (memory : ℕ → ℕ) (phase : Phase) (state : ℕ) → MaySet link_config memory p phase state → state_of phase ≤ 1 → state ≤ 2
+low_at link_config p memory phase zero may low = omega arith
+low_at link_config p memory phase (suc zero) may low = omega arith
+low_at link_config p memory phase (suc (suc zero)) may low = omega arith
+low_at link_config p memory phase (suc (suc (suc zero))) may low = let s = ap state_of may in absurd (omega arith)
+low_at link_config p memory phase (suc (suc (suc (suc more)))) may low = absurd may
 
-pub low_writes : (ground : Ground) (p : ℕ) (memory : ℕ → ℕ) (end : End) (who : Who) (place : Place) (state : ℕ) → Holds ground memory p end place → access_at who place ≡ access.State state → state_of end.handshake.phase ≤ 1 → state ≤ 2
-low_writes ground p memory end who place state holds e low = ⊎_elim (λ is. low_at ground p memory end.handshake.phase state (subst (Holds ground memory p end) is holds) low) (λ z. let none = z.1 in omega arith) (state_at who place state e)
+pub low_writes : (link_config : LinkConfig) (p : ℕ) (memory : ℕ → ℕ) (end : End) (config : EndConfig) (place : Place) (state : ℕ) → PlaceInvariant link_config memory p end place → access_at config place ≡ access.State state → state_of end.handshake.phase ≤ 1 → state ≤ 2
+low_writes link_config p memory end config place state holds e low = ⊎_elim (λ is. low_at link_config p memory end.handshake.phase state (subst (PlaceInvariant link_config memory p end) is holds) low) (λ z. let none = z.1 in omega arith) (state_at config place state e)
 
 low_state : (state : ℕ) → state ≤ 1 → state_of (phase_at state) ≤ 1
 low_state zero h = h
@@ -88,18 +88,18 @@ word_state end end' n word state same low is w = dite (ℕ_discrete state 2)
     (λ h. inl (st ∙ h.0, h.1 ∙ sym op))
     (λ h. inr (st ∙ h.0, h.1 ∙ ap (λ k. k + 1) (sym op), let two = low h.2 in subst (λ x. state_of x ≤ 1) (sym same) (low_state state (omega arith)))) w)
 
-word_by : (who : Who) (place : Place) (end : End) (n : Numbers) (word value : ℕ) (a : Access) → access_at who place ≡ a → ((state : ℕ) → a ≡ access.State state → state_of end.handshake.phase ≤ 1 → state ≤ 2) → IsNumbered n a → WordIs end n word →
-    WordIs (end_after end (step_at who place value)) (numbers_after n end a) word
-word_by who place end n word value (access.State state) is low numbered w = word_state end (end_after end (step_at who place value)) n word state (phases.written end (step_at who place value) state is) (low state refl) numbered w
-word_by who place end n word value (access.Read r) is low numbered w = word_else end (end_after end (step_at who place value)) n word (phases.kept end (step_at who place value) (λ state e. let h = sym is ∙ e in absurd (cc))) w
-word_by who place end n word value (access.Write r v) is low numbered w = word_else end (end_after end (step_at who place value)) n word (phases.kept end (step_at who place value) (λ state e. let h = sym is ∙ e in absurd (cc))) w
-word_by who place end n word value (access.Ring t v) is low numbered w = word_else end (end_after end (step_at who place value)) n word (phases.kept end (step_at who place value) (λ state e. let h = sym is ∙ e in absurd (cc))) w
-word_by who place end n word value access.Nothing is low numbered w = word_else end (end_after end (step_at who place value)) n word (phases.kept end (step_at who place value) (λ state e. let h = sym is ∙ e in absurd (cc))) w
+word_by : (config : EndConfig) (place : Place) (end : End) (n : Numbers) (word value : ℕ) (a : Access) → access_at config place ≡ a → ((state : ℕ) → a ≡ access.State state → state_of end.handshake.phase ≤ 1 → state ≤ 2) → IsNumbered n a → WordIs end n word →
+    WordIs (end_after end (step_at config place value)) (numbers_after n end a) word
+word_by config place end n word value (access.State state) is low numbered w = word_state end (end_after end (step_at config place value)) n word state (phases.written end (step_at config place value) state is) (low state refl) numbered w
+word_by config place end n word value (access.Read r) is low numbered w = word_else end (end_after end (step_at config place value)) n word (phases.kept end (step_at config place value) (λ state e. let h = sym is ∙ e in absurd (cc))) w
+word_by config place end n word value (access.Write r v) is low numbered w = word_else end (end_after end (step_at config place value)) n word (phases.kept end (step_at config place value) (λ state e. let h = sym is ∙ e in absurd (cc))) w
+word_by config place end n word value (access.Ring t v) is low numbered w = word_else end (end_after end (step_at config place value)) n word (phases.kept end (step_at config place value) (λ state e. let h = sym is ∙ e in absurd (cc))) w
+word_by config place end n word value access.Nothing is low numbered w = word_else end (end_after end (step_at config place value)) n word (phases.kept end (step_at config place value) (λ state e. let h = sym is ∙ e in absurd (cc))) w
 
 -- a step of an end at a place
-pub word_step : (who : Who) (place : Place) (end : End) (n : Numbers) (word value : ℕ) → ((state : ℕ) → access_at who place ≡ access.State state → state_of end.handshake.phase ≤ 1 → state ≤ 2) → IsNumbered n (access_at who place) → WordIs end n word →
-    WordIs (end_after end (step_at who place value)) (numbers_after n end (access_at who place)) word
-word_step who place end n word value low numbered w = word_by who place end n word value (access_at who place) refl low numbered w
+pub word_step : (config : EndConfig) (place : Place) (end : End) (n : Numbers) (word value : ℕ) → ((state : ℕ) → access_at config place ≡ access.State state → state_of end.handshake.phase ≤ 1 → state ≤ 2) → IsNumbered n (access_at config place) → WordIs end n word →
+    WordIs (end_after end (step_at config place value)) (numbers_after n end (access_at config place)) word
+word_step config place end n word value low numbered w = word_by config place end n word value (access_at config place) refl low numbered w
 
 pub word_reset : (end : End) (n : Numbers) (word : ℕ) → WordIs end n word → WordIs (after_reset end) (numbers_reset n end) word
 word_reset end n word (inl h) = inl h

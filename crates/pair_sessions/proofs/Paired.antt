@@ -12,24 +12,24 @@ use Rattle.link_handshake.specs.PhaseTable.{state_of}
 use Rattle.call_grammar.specs.Steps.{Mark}
 use Rattle.call_grammar.specs.Rows.{MovesTo}
 use Rattle.call_grammar.specs.Ends.{End, fresh, after_reset}
-use Rattle.call_grammar.specs.Places.{Place, Closed, Setting, first_place, access_at, step_at}
-use Rattle.link_machine.specs.LinkMachine.{Side, fresh_side, Told, Gave, Wrote, Marked, WasReset, Row, Ended, Log, no_sessions, accepted_in, ended_with, log_after, MachineRuns, AreBeginnings, CarriedFall, DeliversInOrder}
+use Rattle.call_grammar.specs.Places.{Place, Closed, WritingState, first_place, access_at, step_at}
+use Rattle.link_machine.specs.LinkMachine.{Side, initial_side, SideEvent, Gave, Wrote, Marked, WasReset, Row, Ended, Log, no_sessions, accepted_in, ended_with, log_after, MachineRuns, AreBeginnings, CarriedFall, DeliversInOrder}
 use Rattle.link_machine.specs.LinkMachine as machine
 use Rattle.link_machine.proofs.MachineLaws.{machine as machine_lem, SawLow, SawHigh, Attends, Begins, Half, Kind, falls_to, inits, opens, runs, sees, accepts, delivers, counts, table, kind_of, half_of}
 use Rattle.call_grammar.proofs.OfferLists.{yes, no}
-use Rattle.ends_pair.specs.Ground.{Ground, IsGround, who_of}
-use Rattle.ends_pair.specs.Steps.{OnlyComes}
-use Rattle.ends_pair.specs.Sides.{told_of, told_by, RowsAlong, CallIs, SideIs}
-use Rattle.ends_pair.specs.Runs.{HonestRuns}
-use Rattle.ends_pair.specs.Runs as honest
-use Rattle.ends_pair.proofs.RowsKept.{follow_lem}
-use Rattle.ends_pair.proofs.RunsKept.{whole_lem, Stepped, row_step, rows_on, side_like}
+use Rattle.link_invariant.specs.LinkConfig.{LinkConfig, IsLinkConfig, config_of}
+use Rattle.link_invariant.specs.Steps.{OnlyEndChanges}
+use Rattle.link_invariant.specs.Sides.{side_events_of, side_events_by, FollowsRows, CallIs, SideIs}
+use Rattle.link_invariant.specs.Runs.{HonestRuns}
+use Rattle.link_invariant.specs.Runs as honest
+use Rattle.link_invariant.proofs.RowsKept.{follow_lem}
+use Rattle.link_invariant.proofs.RunsKept.{whole_lem, Stepped, row_step, rows_on, side_like}
 use Rattle.pair_sessions.specs.Numbers.{Numbers, no_numbers, number_of, own_side, numbers_after, numbers_reset, with_stored, with_loaded, IsNumbered, WordIs, OnlyNumbers, NumberedRuns, starts, begins, steps, resets, others, stores, loads, IsPaired, SessionsArePaired}
 use Rattle.pair_sessions.proofs.Numbering.{state_in, state_at, clash, low_writes, word_step, word_reset, word_stored, word_like}
 
 -- Marks leave the log, and a State step is told
 
-marks_step : (sizes : Sizes) (p : ℕ) (p2 : p < 2) (marks : List Mark) (sides : ℕ → Side) (logs : ℕ → Log) (new : Side) → MachineRuns sizes (λ p. true) sides logs → RowsAlong sizes true (sides (1 - p)) (sides p) (map Marked marks) new → Stepped sizes sides logs p new (logs p)
+marks_step : (sizes : Sizes) (p : ℕ) (p2 : p < 2) (marks : List Mark) (sides : ℕ → Side) (logs : ℕ → Log) (new : Side) → MachineRuns sizes (λ p. true) sides logs → FollowsRows sizes true (sides (1 - p)) (sides p) (map Marked marks) new → Stepped sizes sides logs p new (logs p)
 marks_step sizes p p2 [] sides logs new r along = record { sides' = sides; logs' = logs; run = r; side_is = sym along; log_is = refl; sides_stay = λ q ne. refl; logs_stay = λ q ne. refl }
 marks_step sizes p p2 (mark ∷ marks) sides logs new r along = let a = row_step sizes p p2 sides logs (Marked mark) along.0 r along.1 in let b = marks_step sizes p p2 marks a.sides' a.logs' new a.run (rows_on sizes p p2 (map Marked marks) sides logs along.0 new _ a along.2) in record {
   sides' = b.sides';
@@ -41,7 +41,7 @@ marks_step sizes p p2 (mark ∷ marks) sides logs new r along = let a = row_step
   logs_stay = λ q ne. b.logs_stay q ne ∙ a.logs_stay q ne;
 }
 
-told_then : (sizes : Sizes) (p : ℕ) (p2 : p < 2) (told : Told) (marks : List Mark) (sides : ℕ → Side) (logs : ℕ → Log) (new : Side) → MachineRuns sizes (λ p. true) sides logs → RowsAlong sizes true (sides (1 - p)) (sides p) (told ∷ map Marked marks) new →
+told_then : (sizes : Sizes) (p : ℕ) (p2 : p < 2) (told : SideEvent) (marks : List Mark) (sides : ℕ → Side) (logs : ℕ → Log) (new : Side) → MachineRuns sizes (λ p. true) sides logs → FollowsRows sizes true (sides (1 - p)) (sides p) (told ∷ map Marked marks) new →
     Stepped sizes sides logs p new (log_after (logs p) (logs (1 - p)) (sides p) told)
 told_then sizes p p2 told marks sides logs new r along = let a = row_step sizes p p2 sides logs told along.0 r along.1 in let b = marks_step sizes p p2 marks a.sides' a.logs' new a.run (rows_on sizes p p2 (map Marked marks) sides logs along.0 new _ a along.2) in record {
   sides' = b.sides';
@@ -61,7 +61,7 @@ log_by l m side (access.Write word value) = l
 log_by l m side (access.Ring target vector) = l
 log_by l m side access.Nothing = l
 
-told_step : (sizes : Sizes) (p : ℕ) (p2 : p < 2) (a : Access) (value : ℕ) (marks : List Mark) (sides : ℕ → Side) (logs : ℕ → Log) (new : Side) → MachineRuns sizes (λ p. true) sides logs → RowsAlong sizes true (sides (1 - p)) (sides p) (told_of a value ++ map Marked marks) new →
+told_step : (sizes : Sizes) (p : ℕ) (p2 : p < 2) (a : Access) (value : ℕ) (marks : List Mark) (sides : ℕ → Side) (logs : ℕ → Log) (new : Side) → MachineRuns sizes (λ p. true) sides logs → FollowsRows sizes true (sides (1 - p)) (sides p) (side_events_of a value ++ map Marked marks) new →
     Stepped sizes sides logs p new (log_by (logs p) (logs (1 - p)) (sides p) a)
 told_step sizes p p2 (access.Read word) value marks sides logs new r along = told_then sizes p p2 (Gave value) marks sides logs new r along
 told_step sizes p p2 (access.Write word written) value marks sides logs new r along = marks_step sizes p p2 marks sides logs new r along
@@ -85,7 +85,7 @@ stays_away p q new l m l' (delivers z frame s n a d got is) low away attends = a
 stays_away p q new l m l' (counts s n k is) low away (inl e) = away (inl (sym s ∙ e))
 stays_away p q new l m l' (counts s n k is) low away (inr e) = away (inr (sym s ∙ e.0, subst SawHigh n e.1))
 
-away_along : (sizes : Sizes) (other : Side) (l m : Log) (tolds : List Told) (side new : Side) → RowsAlong sizes true other side tolds new → other.state ≤ 1 → ¬ Attends side → ¬ Attends new
+away_along : (sizes : Sizes) (other : Side) (l m : Log) (tolds : List SideEvent) (side new : Side) → FollowsRows sizes true other side tolds new → other.state ≤ 1 → ¬ Attends side → ¬ Attends new
 away_along sizes other l m [] side new along low away = subst (λ x. ¬ Attends x) (sym along) away
 away_along sizes other l m (told ∷ tolds) side new along low away = away_along sizes other l m tolds along.0 new along.2 low (stays_away side other along.0 l m _ (kind_of sizes side other l m told along.0 along.1) low away)
 
@@ -105,7 +105,7 @@ goes_to : (phase : Phase) (side : Side) (state : ℕ) → side.state ≡ state_o
 goes_to phase side state is (inl e) = inl e
 goes_to phase side state is (inr h) = goes_by phase side h.0 state is h.1 (table phase h.0 state h.2)
 
-seen_at : (end : End) (place : Place) (side : Side) (state : ℕ) → place ≡ Setting state → SideIs end place side → StateGoes state side
+seen_at : (end : End) (place : Place) (side : Side) (state : ℕ) → place ≡ WritingState state → SideIs end place side → StateGoes state side
 seen_at end place side state e is = goes_to end.handshake.phase side state is.state (subst (λ x. CallIs end x side) e is.call).0
 
 goes_one : (side : Side) (state : ℕ) → state ≡ 1 → StateGoes state side → (side.state ≡ 0) × SawLow side.seen
@@ -126,26 +126,26 @@ goes_three side state is (inr (inl t)) = absurd (let e = t.0 in omega arith)
 goes_three side state is (inr (inr (inl t))) = absurd (let e = t.0 in omega arith)
 goes_three side state is (inr (inr (inr t))) = (t.1, t.2)
 
-seen_one : (end : End) (place : Place) (side : Side) → place ≡ Setting 1 → SideIs end place side → (side.state ≡ 0) × SawLow side.seen
+seen_one : (end : End) (place : Place) (side : Side) → place ≡ WritingState 1 → SideIs end place side → (side.state ≡ 0) × SawLow side.seen
 seen_one end place side e is = goes_one side 1 refl (seen_at end place side 1 e is)
 
-seen_two : (end : End) (place : Place) (side : Side) → place ≡ Setting 2 → SideIs end place side → side.state ≡ 1
+seen_two : (end : End) (place : Place) (side : Side) → place ≡ WritingState 2 → SideIs end place side → side.state ≡ 1
 seen_two end place side e is = goes_two side 2 refl (seen_at end place side 2 e is)
 
-seen_three : (end : End) (place : Place) (side : Side) → place ≡ Setting 3 → SideIs end place side → (side.state ≡ 2) × SawHigh side.seen
+seen_three : (end : End) (place : Place) (side : Side) → place ≡ WritingState 3 → SideIs end place side → (side.state ≡ 2) × SawHigh side.seen
 seen_three end place side e is = goes_three side 3 refl (seen_at end place side 3 e is)
 
 -- The logs of the lists
 
 -- what was loaded is the number that the other opened
 abbrev LoadIs : Place → Numbers → ℕ → Type 0
-LoadIs place n opened = (n.loaded ≡ None) ⊎ ((n.loaded ≡ Some opened) × (place ≡ Setting 3))
+LoadIs place n opened = (n.loaded ≡ None) ⊎ ((n.loaded ≡ Some opened) × (place ≡ WritingState 3))
 
 -- the sides and logs of a run, with what ties them to the ends, their numbers and session words
-record Tied (ground : Ground) (words : ℕ → ℕ) (ends : ℕ → End) (places : ℕ → Place) (numbers : ℕ → Numbers) : Type 0 where
+record Tied (link_config : LinkConfig) (words : ℕ → ℕ) (ends : ℕ → End) (places : ℕ → Place) (numbers : ℕ → Numbers) : Type 0 where
   sides : ℕ → Side
   logs : ℕ → Log
-  run : MachineRuns ground.sizes (λ p. true) sides logs
+  run : MachineRuns link_config.sizes (λ p. true) sides logs
   are : (p : ℕ) → p < 2 → SideIs (ends p) (places p) (sides p)
   own : (p : ℕ) → p < 2 → (numbers p).log ≡ logs p
   word : (p : ℕ) → p < 2 → WordIs (ends p) (numbers p) (words p)
@@ -189,7 +189,7 @@ own_after end place n l m side opened (access.Ring target vector) is e load o nu
 own_after end place n l m side opened access.Nothing is e load o numbered = e
 
 -- what an access leaves of what was loaded and stored
-load_after : (place place' : Place) (end : End) (n : Numbers) (opened : ℕ) (a : Access) → (place ≡ Setting 3 → a ≡ access.State 3) → LoadIs place n opened → LoadIs place' (numbers_after n end a) opened
+load_after : (place place' : Place) (end : End) (n : Numbers) (opened : ℕ) (a : Access) → (place ≡ WritingState 3 → a ≡ access.State 3) → LoadIs place n opened → LoadIs place' (numbers_after n end a) opened
 load_after place place' end n opened (access.State state) at load = inl refl
 load_after place place' end n opened (access.Read word) at (inl e) = inl e
 load_after place place' end n opened (access.Read word) at (inr h) = let e = at h.1 in absurd (cc)
@@ -228,10 +228,10 @@ load_like : (place place' : Place) (n n' : Numbers) (o o' : ℕ) → place' ≡ 
 load_like place place' n n' o o' e f g h = subst (λ x. LoadIs x n' o') (sym e) (subst (λ x. LoadIs place x o') (sym f) (subst (LoadIs place n) (sym g) h))
 
 -- p comes to an end, a place and numbers, by a step of its side, or by none
-tied_moved : (ground : Ground) (words now : ℕ → ℕ) (ends after_ends : ℕ → End) (places after_places : ℕ → Place) (numbers next : ℕ → Numbers) (p : ℕ) (end : End) (place : Place) (n : Numbers) (new : Side) (log : Log) → p < 2 → (t : Tied ground words ends places numbers) → Stepped ground.sizes t.sides t.logs p new log →
+tied_moved : (link_config : LinkConfig) (words now : ℕ → ℕ) (ends after_ends : ℕ → End) (places after_places : ℕ → Place) (numbers next : ℕ → Numbers) (p : ℕ) (end : End) (place : Place) (n : Numbers) (new : Side) (log : Log) → p < 2 → (t : Tied link_config words ends places numbers) → Stepped link_config.sizes t.sides t.logs p new log →
     SideIs end place new → n.log ≡ log → WordIs end n (now p) → ((q : ℕ) → q ≢ p → now q ≡ words q) → (n.stored ≡ true → ¬ Attends (t.sides (1 - p))) → ((numbers (1 - p)).stored ≡ true → ¬ Attends new) → LoadIs place n (numbers (1 - p)).log.opened → LoadIs (places (1 - p)) (numbers (1 - p)) n.log.opened →
-    OnlyComes ends after_ends places after_places p end place → OnlyNumbers numbers next p n → Tied ground now after_ends after_places next
-tied_moved ground words now ends after_ends places after_places numbers next p end place n new log p2 t x is own word stay cross away load theirs only nums = record {
+    OnlyEndChanges ends after_ends places after_places p end place → OnlyNumbers numbers next p n → Tied link_config now after_ends after_places next
+tied_moved link_config words now ends after_ends places after_places numbers next p end place n new log p2 t x is own word stay cross away load theirs only nums = record {
   sides = x.sides';
   logs = x.logs';
   run = x.run;
@@ -240,29 +240,29 @@ tied_moved ground words now ends after_ends places after_places numbers next p e
       (λ ne. side_like (ends q) (after_ends q) (places q) (after_places q) (t.sides q) (x.sides' q) (only.ends_stay q ne) (only.places_stay q ne) (x.sides_stay q ne) (t.are q q2));
   own = λ q q2. dite (ℕ_discrete q p)
       (λ e. ap (λ k. (next k).log) e ∙ (ap (λ (m : Numbers). m.log) nums.here ∙ (own ∙ (sym x.log_is ∙ ap x.logs' (sym e)))))
-      (λ ne. ap (λ (m : Numbers). m.log) (nums.beside q ne) ∙ (t.own q q2 ∙ sym (x.logs_stay q ne)));
+      (λ ne. ap (λ (m : Numbers). m.log) (nums.neighbour_word q ne) ∙ (t.own q q2 ∙ sym (x.logs_stay q ne)));
   word = λ q q2. dite (ℕ_discrete q p)
       (λ e. word_like end (after_ends q) n (next q) (now p) (now q) (ap after_ends e ∙ only.end_is) (ap next e ∙ nums.here) (ap now e) word)
-      (λ ne. word_like (ends q) (after_ends q) (numbers q) (next q) (words q) (now q) (only.ends_stay q ne) (nums.beside q ne) (stay q ne) (t.word q q2));
+      (λ ne. word_like (ends q) (after_ends q) (numbers q) (next q) (words q) (now q) (only.ends_stay q ne) (nums.neighbour_word q ne) (stay q ne) (t.word q q2));
   cross = λ q q2 st. dite (ℕ_discrete q p)
       (λ e. let o : 1 - q ≢ p = λ f. omega arith in subst (λ (s : Side). ¬ Attends s) (sym (x.sides_stay (1 - q) o ∙ ap (λ k. t.sides (1 - k)) e)) (cross (sym (ap (λ (m : Numbers). m.stored) (ap next e ∙ nums.here)) ∙ st)))
-      (λ ne. let o : q ≡ 1 - p = omega arith in let b : 1 - q ≡ p = omega arith in subst (λ (s : Side). ¬ Attends s) (sym (ap x.sides' b ∙ x.side_is)) (away (sym (ap (λ (m : Numbers). m.stored) (nums.beside q ne ∙ ap numbers o)) ∙ st)));
+      (λ ne. let o : q ≡ 1 - p = omega arith in let b : 1 - q ≡ p = omega arith in subst (λ (s : Side). ¬ Attends s) (sym (ap x.sides' b ∙ x.side_is)) (away (sym (ap (λ (m : Numbers). m.stored) (nums.neighbour_word q ne ∙ ap numbers o)) ∙ st)));
   load = λ q q2. dite (ℕ_discrete q p)
-      (λ e. let o : 1 - q ≢ p = λ f. omega arith in load_like place (after_places q) n (next q) (numbers (1 - p)).log.opened (next (1 - q)).log.opened (ap after_places e ∙ only.place_is) (ap next e ∙ nums.here) (ap (λ (m : Numbers). m.log.opened) (nums.beside (1 - q) o ∙ ap (λ k. numbers (1 - k)) e)) load)
-      (λ ne. let o : q ≡ 1 - p = omega arith in let b : 1 - q ≡ p = omega arith in load_like (places (1 - p)) (after_places q) (numbers (1 - p)) (next q) n.log.opened (next (1 - q)).log.opened (only.places_stay q ne ∙ ap places o) (nums.beside q ne ∙ ap numbers o) (ap (λ (m : Numbers). m.log.opened) (ap next b ∙ nums.here)) theirs);
+      (λ e. let o : 1 - q ≢ p = λ f. omega arith in load_like place (after_places q) n (next q) (numbers (1 - p)).log.opened (next (1 - q)).log.opened (ap after_places e ∙ only.place_is) (ap next e ∙ nums.here) (ap (λ (m : Numbers). m.log.opened) (nums.neighbour_word (1 - q) o ∙ ap (λ k. numbers (1 - k)) e)) load)
+      (λ ne. let o : q ≡ 1 - p = omega arith in let b : 1 - q ≡ p = omega arith in load_like (places (1 - p)) (after_places q) (numbers (1 - p)) (next q) n.log.opened (next (1 - q)).log.opened (only.places_stay q ne ∙ ap places o) (nums.neighbour_word q ne ∙ ap numbers o) (ap (λ (m : Numbers). m.log.opened) (ap next b ∙ nums.here)) theirs);
 }
 
 -- no step of a side
 stood_still : (sizes : Sizes) (sides : ℕ → Side) (logs : ℕ → Log) (p : ℕ) → MachineRuns sizes (λ p. true) sides logs → Stepped sizes sides logs p (sides p) (logs p)
 stood_still sizes sides logs p r = record { sides' = sides; logs' = logs; run = r; side_is = refl; log_is = refl; sides_stay = λ q ne. refl; logs_stay = λ q ne. refl }
 
-same_end : (ends : ℕ → End) (places : ℕ → Place) (p : ℕ) → OnlyComes ends ends places places p (ends p) (places p)
+same_end : (ends : ℕ → End) (places : ℕ → Place) (p : ℕ) → OnlyEndChanges ends ends places places p (ends p) (places p)
 same_end ends places p = record { end_is = refl; place_is = refl; ends_stay = λ q ne. refl; places_stay = λ q ne. refl }
 
 -- while the other is at its State step with 3, an end isn't in INIT
-module _ (ground : Ground) (words : ℕ → ℕ) (ends : ℕ → End) (places : ℕ → Place) (numbers : ℕ → Numbers) (t : Tied ground words ends places numbers) where
+module _ (link_config : LinkConfig) (words : ℕ → ℕ) (ends : ℕ → End) (places : ℕ → Place) (numbers : ℕ → Numbers) (t : Tied link_config words ends places numbers) where
   half_at : (p : ℕ) → p < 2 → Half (t.sides p) (t.sides (1 - p)) (t.logs p) (t.logs (1 - p))
-  half_at p p2 = half_of ground.sizes (λ p. true) t.sides t.logs refl refl t.run p p2
+  half_at p p2 = half_of link_config.sizes (λ p. true) t.sides t.logs refl refl t.run p p2
 
   back : (p : ℕ) → p < 2 → 1 - (1 - p) ≡ p
   back p p2 = omega arith
@@ -270,17 +270,17 @@ module _ (ground : Ground) (words : ℕ → ℕ) (ends : ℕ → End) (places : 
   opens_none : (p : ℕ) → p < 2 → Attends (t.sides (1 - p)) → (t.sides p).state ≡ 1 → ⊥
   opens_none p p2 attends init = ((half_at (1 - p) (omega arith)).cross attends).0 (ap (λ k. (t.sides k).state) (back p p2) ∙ init)
 
-  attends_at : (p : ℕ) → p < 2 → places p ≡ Setting 3 → Attends (t.sides p)
+  attends_at : (p : ℕ) → p < 2 → places p ≡ WritingState 3 → Attends (t.sides p)
   attends_at p p2 e = inr (seen_three (ends p) (places p) (t.sides p) e (t.are p p2))
 
-  init_at : (p : ℕ) → p < 2 → places p ≡ Setting 2 → (t.sides p).state ≡ 1
+  init_at : (p : ℕ) → p < 2 → places p ≡ WritingState 2 → (t.sides p).state ≡ 1
   init_at p p2 e = seen_two (ends p) (places p) (t.sides p) e (t.are p p2)
 
   load_back : (p : ℕ) → p < 2 → LoadIs (places (1 - p)) (numbers (1 - p)) (numbers p).log.opened
   load_back p p2 = subst (λ k. LoadIs (places (1 - p)) (numbers (1 - p)) (numbers k).log.opened) (back p p2) (t.load (1 - p) (omega arith))
 
   -- what the other loaded stays the number opened
-  theirs_after : (p : ℕ) → p < 2 → (a : Access) → (a ≡ access.State 2 → places p ≡ Setting 2) → LoadIs (places (1 - p)) (numbers (1 - p)) (numbers_after (numbers p) (ends p) a).log.opened
+  theirs_after : (p : ℕ) → p < 2 → (a : Access) → (a ≡ access.State 2 → places p ≡ WritingState 2) → LoadIs (places (1 - p)) (numbers (1 - p)) (numbers_after (numbers p) (ends p) a).log.opened
   theirs_after p p2 a at = ⊎_elim
       (λ two. ⊎_elim (λ h. inl h) (λ h. absurd (opens_none p p2 (attends_at (1 - p) (omega arith) h.1) (init_at p p2 (at two)))) (load_back p p2))
       (λ not. subst (LoadIs (places (1 - p)) (numbers (1 - p))) (sym (opened_after (ends p) (numbers p) a not)) (load_back p p2))
@@ -295,63 +295,63 @@ module _ (ground : Ground) (words : ℕ → ℕ) (ends : ℕ → End) (places : 
   word_at p p2 attends = ⊎_elim (λ h. h.1) (λ h. absurd (t.cross p p2 h.0 attends)) (t.word p p2)
 
 -- without the numbers they are runs of honest ends
-pub honest_lem : (ground : Ground) (memory words : ℕ → ℕ) (ends : ℕ → End) (places : ℕ → Place) (numbers : ℕ → Numbers) → NumberedRuns ground memory words ends places numbers → HonestRuns ground memory ends places
-honest_lem ground _ _ _ _ _ (starts memory words ends places numbers none zeros new closed fresh_numbers) = honest.starts memory ends places none new closed
-honest_lem ground _ _ _ _ _ (begins memory words ends after_ends places after_places numbers p call run p2 begun) = honest.begins memory ends after_ends places after_places p call (honest_lem ground memory words ends places numbers run) p2 refl begun
-honest_lem ground _ _ _ _ _ (steps memory after words ends after_ends places after_places numbers next p value run p2 step numbered nums) = honest.steps memory after ends after_ends places after_places p value (honest_lem ground memory words ends places numbers run) p2 refl step
-honest_lem ground _ _ _ _ _ (resets memory after words ends after_ends places after_places numbers next p run p2 reset nums) = honest.resets memory after ends after_ends places after_places p (honest_lem ground memory words ends places numbers run) p2 refl reset
-honest_lem ground _ _ _ _ _ (others memory after words ends places numbers run keep) = honest.others memory after ends places (honest_lem ground memory words ends places numbers run) (λ q q2 _. keep q q2)
-honest_lem ground _ _ _ _ _ (stores memory words now ends places numbers next p run p2 at now_is stay nums) = honest_lem ground memory words ends places numbers run
-honest_lem ground _ _ _ _ _ (loads memory words ends places numbers next p run p2 at nums) = honest_lem ground memory words ends places numbers run
+pub honest_lem : (link_config : LinkConfig) (memory words : ℕ → ℕ) (ends : ℕ → End) (places : ℕ → Place) (numbers : ℕ → Numbers) → NumberedRuns link_config memory words ends places numbers → HonestRuns link_config memory ends places
+honest_lem link_config _ _ _ _ _ (starts memory words ends places numbers none zeros new closed fresh_numbers) = honest.starts memory ends places none new closed
+honest_lem link_config _ _ _ _ _ (begins memory words ends after_ends places after_places numbers p call run p2 begun) = honest.begins memory ends after_ends places after_places p call (honest_lem link_config memory words ends places numbers run) p2 refl begun
+honest_lem link_config _ _ _ _ _ (steps memory after words ends after_ends places after_places numbers next p value run p2 step numbered nums) = honest.steps memory after ends after_ends places after_places p value (honest_lem link_config memory words ends places numbers run) p2 refl step
+honest_lem link_config _ _ _ _ _ (resets memory after words ends after_ends places after_places numbers next p run p2 reset nums) = honest.resets memory after ends after_ends places after_places p (honest_lem link_config memory words ends places numbers run) p2 refl reset
+honest_lem link_config _ _ _ _ _ (others memory after words ends places numbers run keep) = honest.others memory after ends places (honest_lem link_config memory words ends places numbers run) (λ q q2 _. keep q q2)
+honest_lem link_config _ _ _ _ _ (stores memory words now ends places numbers next p run p2 at now_is stay nums) = honest_lem link_config memory words ends places numbers run
+honest_lem link_config _ _ _ _ _ (loads memory words ends places numbers next p run p2 at nums) = honest_lem link_config memory words ends places numbers run
 
-tied : (ground : Ground) (memory words : ℕ → ℕ) (ends : ℕ → End) (places : ℕ → Place) (numbers : ℕ → Numbers) → IsGround ground → NumberedRuns ground memory words ends places numbers → Tied ground words ends places numbers
-tied ground _ _ _ _ _ is (starts memory words ends places numbers none zeros new closed fresh_numbers) = record {
-  sides = λ p. fresh_side;
+tied : (link_config : LinkConfig) (memory words : ℕ → ℕ) (ends : ℕ → End) (places : ℕ → Place) (numbers : ℕ → Numbers) → IsLinkConfig link_config → NumberedRuns link_config memory words ends places numbers → Tied link_config words ends places numbers
+tied link_config _ _ _ _ _ is (starts memory words ends places numbers none zeros new closed fresh_numbers) = record {
+  sides = λ p. initial_side;
   logs = λ p. no_sessions;
-  run = machine.starts (λ p. fresh_side) (λ p. no_sessions) (λ p. refl) (λ p. refl);
-  are = λ p p2. side_like fresh (ends p) Closed (places p) fresh_side fresh_side (new p) (closed p) refl follow_lem.starts;
+  run = machine.starts (λ p. initial_side) (λ p. no_sessions) (λ p. refl) (λ p. refl);
+  are = λ p p2. side_like fresh (ends p) Closed (places p) initial_side initial_side (new p) (closed p) refl follow_lem.starts;
   own = λ p p2. ap (λ (m : Numbers). m.log) (fresh_numbers p);
   word = λ p p2. word_like (ends p) (ends p) no_numbers (numbers p) 0 (words p) refl (fresh_numbers p) (zeros p) (inl (refl, refl));
   cross = λ p p2 st. absurd (clash (sym (ap (λ (m : Numbers). m.stored) (fresh_numbers p)) ∙ st));
   load = λ p p2. inl (ap (λ (m : Numbers). m.loaded) (fresh_numbers p));
 }
-tied ground _ _ _ _ _ is (begins memory words ends after_ends places after_places numbers p call run p2 begun) = let t = tied ground memory words ends places numbers is run in
-    tied_moved ground words words ends after_ends places after_places numbers numbers p (ends p) (first_place (who_of ground p) (ends p) call) (numbers p) (t.sides p) (t.logs p) p2 t (stood_still ground.sizes t.sides t.logs p t.run)
-    (follow_lem.begins (who_of ground p) (ends p) call (t.sides p) (subst (λ (x : Place). SideIs (ends p) x (t.sides p)) begun.closed (t.are p p2))) (t.own p p2) (t.word p p2) (λ q ne. refl) (t.cross p p2)
-    (λ st. subst (λ k. ¬ Attends (t.sides k)) (back ground words ends places numbers t p p2) (t.cross (1 - p) (omega arith) st))
-    (⊎_elim (λ h. inl h) (λ h. let e = sym begun.closed ∙ h.1 in absurd (cc)) (t.load p p2)) (load_back ground words ends places numbers t p p2) begun.comes record { here = refl; beside = λ q ne. refl }
-tied ground _ _ _ _ _ is (steps memory after words ends after_ends places after_places numbers next p value run p2 step numbered nums) = let t = tied ground memory words ends places numbers is run in let o2 : 1 - p < 2 = omega arith in
-    let held = whole_lem ground (λ p. true) memory ends places is (honest_lem ground memory words ends places numbers run) in
-    let who = who_of ground p in let a = access_at who (places p) in let mine = held.alone p p2 refl in
+tied link_config _ _ _ _ _ is (begins memory words ends after_ends places after_places numbers p call run p2 begun) = let t = tied link_config memory words ends places numbers is run in
+    tied_moved link_config words words ends after_ends places after_places numbers numbers p (ends p) (first_place (config_of link_config p) (ends p) call) (numbers p) (t.sides p) (t.logs p) p2 t (stood_still link_config.sizes t.sides t.logs p t.run)
+    (follow_lem.begins (config_of link_config p) (ends p) call (t.sides p) (subst (λ (x : Place). SideIs (ends p) x (t.sides p)) begun.closed (t.are p p2))) (t.own p p2) (t.word p p2) (λ q ne. refl) (t.cross p p2)
+    (λ st. subst (λ k. ¬ Attends (t.sides k)) (back link_config words ends places numbers t p p2) (t.cross (1 - p) (omega arith) st))
+    (⊎_elim (λ h. inl h) (λ h. let e = sym begun.closed ∙ h.1 in absurd (cc)) (t.load p p2)) (load_back link_config words ends places numbers t p p2) begun.comes record { here = refl; neighbour_word = λ q ne. refl }
+tied link_config _ _ _ _ _ is (steps memory after words ends after_ends places after_places numbers next p value run p2 step numbered nums) = let t = tied link_config memory words ends places numbers is run in let o2 : 1 - p < 2 = omega arith in
+    let held = whole_lem link_config (λ p. true) memory ends places is (honest_lem link_config memory words ends places numbers run) in
+    let config = config_of link_config p in let a = access_at config (places p) in let mine = held.alone p p2 refl in
     let state : (t.sides (1 - p)).state ≡ memory (1 - p) = (t.are (1 - p) o2).state ∙ sym (held.alone (1 - p) o2 refl).state in
-    let f = follow_lem.steps ground (λ p. true) memory ends places p value (t.sides p) (t.sides (1 - p)) is p2 refl held (t.are p p2) state (λ _. t.are (1 - p) o2) step.opened step.meets in
-    let x = told_step ground.sizes p p2 a (step_at who (places p) value).value (step_at who (places p) value).marks t.sides t.logs f.0 t.run f.1 in
-    tied_moved ground words words ends after_ends places after_places numbers next p _ _ (numbers_after (numbers p) (ends p) a) f.0 (log_by (t.logs p) (t.logs (1 - p)) (t.sides p) a) p2 t x f.2
+    let f = follow_lem.steps link_config (λ p. true) memory ends places p value (t.sides p) (t.sides (1 - p)) is p2 refl held (t.are p p2) state (λ _. t.are (1 - p) o2) step.opened step.meets in
+    let x = told_step link_config.sizes p p2 a (step_at config (places p) value).value (step_at config (places p) value).marks t.sides t.logs f.0 t.run f.1 in
+    tied_moved link_config words words ends after_ends places after_places numbers next p _ _ (numbers_after (numbers p) (ends p) a) f.0 (log_by (t.logs p) (t.logs (1 - p)) (t.sides p) a) p2 t x f.2
     (own_after (ends p) (places p) (numbers p) (t.logs p) (t.logs (1 - p)) (t.sides p) (numbers (1 - p)).log.opened a (t.are p p2) (t.own p p2) (t.load p p2) (ap (λ (l : Log). l.opened) (t.own (1 - p) o2)) numbered)
-    (word_step who (places p) (ends p) (numbers p) (words p) value (λ s e low. low_writes ground p memory (ends p) who (places p) s mine.holds e low) numbered (t.word p p2)) (λ q ne. refl)
+    (word_step config (places p) (ends p) (numbers p) (words p) value (λ s e low. low_writes link_config p memory (ends p) config (places p) s mine.holds e low) numbered (t.word p p2)) (λ q ne. refl)
     (λ st. t.cross p p2 (stored_before (ends p) (numbers p) a st))
-    (λ st. away_along ground.sizes (t.sides (1 - p)) no_sessions no_sessions (told_by (step_at who (places p) value)) (t.sides p) f.0 f.1 (low_other ground words ends places numbers t (1 - p) o2 st) (subst (λ k. ¬ Attends (t.sides k)) (back ground words ends places numbers t p p2) (t.cross (1 - p) o2 st)))
-    (load_after (places p) _ (ends p) (numbers p) (numbers (1 - p)).log.opened a (λ e. ap (access_at who) e) (t.load p p2))
-    (theirs_after ground words ends places numbers t p p2 a (λ e. ⊎_elim (λ h. h) (λ z. let none = z.1 in absurd (omega arith)) (state_at who (places p) 2 e))) step.comes nums
-tied ground _ _ _ _ _ is (resets memory after words ends after_ends places after_places numbers next p run p2 reset nums) = let t = tied ground memory words ends places numbers is run in let o2 : 1 - p < 2 = omega arith in
-    let f = follow_lem.resets ground.sizes true (ends p) (places p) (t.sides p) (t.sides (1 - p)) (t.are p p2) in
-    let x = row_step ground.sizes p p2 t.sides t.logs WasReset f.0 t.run f.1 in
-    tied_moved ground words words ends after_ends places after_places numbers next p (after_reset (ends p)) Closed (numbers_reset (numbers p) (ends p)) f.0 (log_after (t.logs p) (t.logs (1 - p)) (t.sides p) WasReset) p2 t x f.2
+    (λ st. away_along link_config.sizes (t.sides (1 - p)) no_sessions no_sessions (side_events_by (step_at config (places p) value)) (t.sides p) f.0 f.1 (low_other link_config words ends places numbers t (1 - p) o2 st) (subst (λ k. ¬ Attends (t.sides k)) (back link_config words ends places numbers t p p2) (t.cross (1 - p) o2 st)))
+    (load_after (places p) _ (ends p) (numbers p) (numbers (1 - p)).log.opened a (λ e. ap (access_at config) e) (t.load p p2))
+    (theirs_after link_config words ends places numbers t p p2 a (λ e. ⊎_elim (λ h. h) (λ z. let none = z.1 in absurd (omega arith)) (state_at config (places p) 2 e))) step.comes nums
+tied link_config _ _ _ _ _ is (resets memory after words ends after_ends places after_places numbers next p run p2 reset nums) = let t = tied link_config memory words ends places numbers is run in let o2 : 1 - p < 2 = omega arith in
+    let f = follow_lem.resets link_config.sizes true (ends p) (places p) (t.sides p) (t.sides (1 - p)) (t.are p p2) in
+    let x = row_step link_config.sizes p p2 t.sides t.logs WasReset f.0 t.run f.1 in
+    tied_moved link_config words words ends after_ends places after_places numbers next p (after_reset (ends p)) Closed (numbers_reset (numbers p) (ends p)) f.0 (log_after (t.logs p) (t.logs (1 - p)) (t.sides p) WasReset) p2 t x f.2
     (reset_like (t.logs p) (numbers p).log (t.logs (1 - p)) (record no_sessions { opened = number_of (numbers p).loaded }) (t.sides p) (own_side (ends p)) (t.own p p2) (sym (t.are p p2).state) (sym (t.are p p2).delivered))
     (word_reset (ends p) (numbers p) (words p) (t.word p p2)) (λ q ne. refl) (t.cross p p2)
-    (λ st. away_along ground.sizes (t.sides (1 - p)) no_sessions no_sessions (WasReset ∷ []) (t.sides p) f.0 (f.0, f.1, refl) (low_other ground words ends places numbers t (1 - p) o2 st) (subst (λ k. ¬ Attends (t.sides k)) (back ground words ends places numbers t p p2) (t.cross (1 - p) o2 st)))
-    (inl refl) (load_back ground words ends places numbers t p p2) reset.comes nums
-tied ground _ _ _ _ _ is (others memory after words ends places numbers run keep) = tied ground memory words ends places numbers is run
-tied ground _ _ _ _ _ is (stores memory words now ends places numbers next p run p2 phase now_is stay nums) = let t = tied ground memory words ends places numbers is run in
+    (λ st. away_along link_config.sizes (t.sides (1 - p)) no_sessions no_sessions (WasReset ∷ []) (t.sides p) f.0 (f.0, f.1, refl) (low_other link_config words ends places numbers t (1 - p) o2 st) (subst (λ k. ¬ Attends (t.sides k)) (back link_config words ends places numbers t p p2) (t.cross (1 - p) o2 st)))
+    (inl refl) (load_back link_config words ends places numbers t p p2) reset.comes nums
+tied link_config _ _ _ _ _ is (others memory after words ends places numbers run keep) = tied link_config memory words ends places numbers is run
+tied link_config _ _ _ _ _ is (stores memory words now ends places numbers next p run p2 phase now_is stay nums) = let t = tied link_config memory words ends places numbers is run in
     let init : (t.sides p).state ≡ 1 = (t.are p p2).state ∙ ap state_of phase in
-    tied_moved ground words now ends ends places places numbers next p (ends p) (places p) (with_stored (numbers p)) (t.sides p) (t.logs p) p2 t (stood_still ground.sizes t.sides t.logs p t.run) (t.are p p2) (t.own p p2)
-    (word_stored (ends p) (numbers p) (now p) (ap state_of phase) now_is) stay (λ st attends. opens_none ground words ends places numbers t p p2 attends init)
-    (λ st. subst (λ k. ¬ Attends (t.sides k)) (back ground words ends places numbers t p p2) (t.cross (1 - p) (omega arith) st)) (t.load p p2) (load_back ground words ends places numbers t p p2) (same_end ends places p) nums
-tied ground _ _ _ _ _ is (loads memory words ends places numbers next p run p2 at nums) = let t = tied ground memory words ends places numbers is run in let o2 : 1 - p < 2 = omega arith in
-    let seen : words (1 - p) ≡ (numbers (1 - p)).log.opened = word_at ground words ends places numbers t (1 - p) o2 (subst (λ k. Attends (t.sides k)) (sym (back ground words ends places numbers t p p2)) (attends_at ground words ends places numbers t p p2 at)) in
-    tied_moved ground words words ends ends places places numbers next p (ends p) (places p) (with_loaded (numbers p) (words (1 - p))) (t.sides p) (t.logs p) p2 t (stood_still ground.sizes t.sides t.logs p t.run) (t.are p p2) (t.own p p2)
+    tied_moved link_config words now ends ends places places numbers next p (ends p) (places p) (with_stored (numbers p)) (t.sides p) (t.logs p) p2 t (stood_still link_config.sizes t.sides t.logs p t.run) (t.are p p2) (t.own p p2)
+    (word_stored (ends p) (numbers p) (now p) (ap state_of phase) now_is) stay (λ st attends. opens_none link_config words ends places numbers t p p2 attends init)
+    (λ st. subst (λ k. ¬ Attends (t.sides k)) (back link_config words ends places numbers t p p2) (t.cross (1 - p) (omega arith) st)) (t.load p p2) (load_back link_config words ends places numbers t p p2) (same_end ends places p) nums
+tied link_config _ _ _ _ _ is (loads memory words ends places numbers next p run p2 at nums) = let t = tied link_config memory words ends places numbers is run in let o2 : 1 - p < 2 = omega arith in
+    let seen : words (1 - p) ≡ (numbers (1 - p)).log.opened = word_at link_config words ends places numbers t (1 - p) o2 (subst (λ k. Attends (t.sides k)) (sym (back link_config words ends places numbers t p p2)) (attends_at link_config words ends places numbers t p p2 at)) in
+    tied_moved link_config words words ends ends places places numbers next p (ends p) (places p) (with_loaded (numbers p) (words (1 - p))) (t.sides p) (t.logs p) p2 t (stood_still link_config.sizes t.sides t.logs p t.run) (t.are p p2) (t.own p p2)
     (t.word p p2) (λ q ne. refl) (t.cross p p2)
-    (λ st. subst (λ k. ¬ Attends (t.sides k)) (back ground words ends places numbers t p p2) (t.cross (1 - p) o2 st)) (inr (ap Some seen, at)) (load_back ground words ends places numbers t p p2) (same_end ends places p) nums
+    (λ st. subst (λ k. ¬ Attends (t.sides k)) (back link_config words ends places numbers t p p2) (t.cross (1 - p) o2 st)) (inr (ap Some seen, at)) (load_back link_config words ends places numbers t p p2) (same_end ends places p) nums
 
 -- What the numbers say of the two ends
 
@@ -367,14 +367,14 @@ delivers_like p p' q q' l m st de ac d = record {
 }
 
 pub paired_lem : SessionsArePaired
-paired_lem ground memory words ends places numbers is run = let t = tied ground memory words ends places numbers is run in (honest_lem ground memory words ends places numbers run, (t.sides, t.logs, t.run, λ p p2. (t.are p p2, t.own p p2, paired t p p2)))
+paired_lem link_config memory words ends places numbers is run = let t = tied link_config memory words ends places numbers is run in (honest_lem link_config memory words ends places numbers run, (t.sides, t.logs, t.run, λ p p2. (t.are p p2, t.own p p2, paired t p p2)))
   where
-    paired : (t : Tied ground words ends places numbers) (p : ℕ) → p < 2 → IsPaired (ends p) (ends (1 - p)) (places p) (places (1 - p)) (numbers p) (numbers (1 - p)) (words p)
-    paired t p p2 = let o2 : 1 - p < 2 = omega arith in let h = half_at ground words ends places numbers t p p2 in let mine = t.are p p2 in let theirs = t.are (1 - p) o2 in
+    paired : (t : Tied link_config words ends places numbers) (p : ℕ) → p < 2 → IsPaired (ends p) (ends (1 - p)) (places p) (places (1 - p)) (numbers p) (numbers (1 - p)) (words p)
+    paired t p p2 = let o2 : 1 - p < 2 = omega arith in let h = half_at link_config words ends places numbers t p p2 in let mine = t.are p p2 in let theirs = t.are (1 - p) o2 in
         let n = sym (t.own p p2) in let m = sym (t.own (1 - p) o2) in
         let opened : (t.logs (1 - p)).opened ≡ (numbers (1 - p)).log.opened = ap (λ (l : Log). l.opened) m in let carried : (t.logs p).carried ≡ (numbers p).log.carried = ap (λ (l : Log). l.carried) n in record {
           deliver = subst (λ (l : Log). DeliversInOrder (own_side (ends p)) (own_side (ends (1 - p))) l (numbers (1 - p)).log) n (subst (λ (l : Log). DeliversInOrder (own_side (ends p)) (own_side (ends (1 - p))) (t.logs p) l) m
-              (delivers_like (t.sides p) (own_side (ends p)) (t.sides (1 - p)) (own_side (ends (1 - p))) (t.logs p) (t.logs (1 - p)) (sym mine.state) (sym mine.delivered) (sym theirs.accepted) (machine_lem ground.sizes (λ p. true) t.sides t.logs refl refl t.run p p2)));
+              (delivers_like (t.sides p) (own_side (ends p)) (t.sides (1 - p)) (own_side (ends (1 - p))) (t.logs p) (t.logs (1 - p)) (sym mine.state) (sym mine.delivered) (sym theirs.accepted) (machine_lem link_config.sizes (λ p. true) t.sides t.logs refl refl t.run p p2)));
           one = λ up. let up' : 2 ≤ (t.sides p).state = subst (λ k. 2 ≤ k) (sym mine.state) up in subst (λ (l : Log). 1 ≤ l.opened) n (h.one up');
           risen = let r = h.risen in omega arith;
           on_the_way = λ way up. let up' : 2 ≤ (t.sides (1 - p)).state = subst (λ k. 2 ≤ k) (sym theirs.state) up in
@@ -382,5 +382,5 @@ paired_lem ground memory words ends places numbers is run = let t = tied ground 
           attends = λ at. let s = seen_three (ends p) (places p) (t.sides p) at mine in let r = h.attends s.0 s.1 in omega arith;
           loaded = λ number e. ⊎_elim (λ none. let f = sym e ∙ none in absurd (cc)) (λ k. (ap number_of (sym e ∙ k.0), k.1)) (t.load p p2);
           word_is = t.word p p2;
-          carried = λ at. word_at ground words ends places numbers t p p2 (⊎_elim (λ e. inl (theirs.state ∙ e)) (λ e. attends_at ground words ends places numbers t (1 - p) o2 e) at);
+          carried = λ at. word_at link_config words ends places numbers t p p2 (⊎_elim (λ e. inl (theirs.state ∙ e)) (λ e. attends_at link_config words ends places numbers t (1 - p) o2 e) at);
         }

@@ -8,12 +8,12 @@ use Rattle.link_handshake.specs.declared.Phase.TheVariants.{Init}
 use Rattle.link_handshake.specs.PhaseTable.{state_of}
 use Rattle.call_grammar.specs.Ends.{End, fresh}
 use Rattle.call_grammar.specs.Calls.{Call}
-use Rattle.call_grammar.specs.Places.{Place, Closed, Setting, access_at}
-use Rattle.link_machine.specs.LinkMachine.{Side, fresh_side, Told, Wrote, WasReset, Log, no_sessions, log_after, MachineRuns, DeliversInOrder}
-use Rattle.ends_pair.specs.Ground.{Ground, IsGround, who_of}
-use Rattle.ends_pair.specs.Steps.{IsUntouched, BeginsCall, TakesStep, IsReset}
-use Rattle.ends_pair.specs.Sides.{SideIs}
-use Rattle.ends_pair.specs.Runs.{HonestRuns}
+use Rattle.call_grammar.specs.Places.{Place, Closed, WritingState, access_at}
+use Rattle.link_machine.specs.LinkMachine.{Side, initial_side, SideEvent, Wrote, WasReset, Log, no_sessions, log_after, MachineRuns, DeliversInOrder}
+use Rattle.link_invariant.specs.LinkConfig.{LinkConfig, IsLinkConfig, config_of}
+use Rattle.link_invariant.specs.Steps.{IsUntouched, BeginsCall, TakesStep, IsReset}
+use Rattle.link_invariant.specs.Sides.{SideIs}
+use Rattle.link_invariant.specs.Runs.{HonestRuns}
 
 -- an end's sessions, whether it stored its session word since it opened one, and what it loaded for its next State step
 pub record Numbers : Type 0 where
@@ -30,19 +30,19 @@ number_of (Some number) = number
 
 -- an end as a side of the machine, by what its sessions depend on
 abbrev pub own_side : End → Side
-own_side end = record fresh_side { state = state_of end.handshake.phase; accepted = end.accepted; delivered = end.delivered }
+own_side end = record initial_side { state = state_of end.handshake.phase; accepted = end.accepted; delivered = end.delivered }
 
 -- its sessions after what it tells, where the session of the other is the one that was loaded
-abbrev pub log_told : Numbers → End → Told → Log
-log_told n end told = log_after n.log (record no_sessions { opened = number_of n.loaded }) (own_side end) told
+abbrev pub log_after_event : Numbers → End → SideEvent → Log
+log_after_event n end told = log_after n.log (record no_sessions { opened = number_of n.loaded }) (own_side end) told
 
 -- its numbers after an access of a call, a reset, a store and a load
 abbrev pub numbers_after : Numbers → End → Access → Numbers
-numbers_after n end (access.State state) = record { log = log_told n end (Wrote state); stored = if state == 2 then false else n.stored; loaded = None }
+numbers_after n end (access.State state) = record { log = log_after_event n end (Wrote state); stored = if state == 2 then false else n.stored; loaded = None }
 numbers_after n end _ = n
 
 abbrev pub numbers_reset : Numbers → End → Numbers
-numbers_reset n end = record { log = log_told n end WasReset; stored = n.stored; loaded = None }
+numbers_reset n end = record { log = log_after_event n end WasReset; stored = n.stored; loaded = None }
 
 abbrev pub with_stored : Numbers → Numbers
 with_stored n = record { log = n.log; stored = true; loaded = n.loaded }
@@ -58,33 +58,33 @@ IsNumbered n _ = Unit {0}
 -- end p comes to these numbers, and the other's stay
 pub record OnlyNumbers (numbers next : ℕ → Numbers) (p : ℕ) (n : Numbers) : Type 0 where
   pub here : next p ≡ n
-  pub beside : (q : ℕ) → q ≢ p → next q ≡ numbers q
+  pub neighbour_word : (q : ℕ) → q ≢ p → next q ≡ numbers q
 
 -- where two honest ends come that number their sessions: they begin calls, take their steps and are reset as ever; and besides an end in INIT stores the next
 -- number in its session word, and one that is about to set RUN loads the other's
-pub data NumberedRuns (ground : Ground) : (memory words : ℕ → ℕ) → (ℕ → End) → (ℕ → Place) → (ℕ → Numbers) → Type 0 where
+pub data NumberedRuns (link_config : LinkConfig) : (memory words : ℕ → ℕ) → (ℕ → End) → (ℕ → Place) → (ℕ → Numbers) → Type 0 where
   starts : (memory words : ℕ → ℕ) (ends : ℕ → End) (places : ℕ → Place) (numbers : ℕ → Numbers) → ((w : ℕ) → memory w ≡ 0) → ((p : ℕ) → words p ≡ 0) →
-      ((p : ℕ) → ends p ≡ fresh) → ((p : ℕ) → places p ≡ Closed) → ((p : ℕ) → numbers p ≡ no_numbers) → NumberedRuns ground memory words ends places numbers
+      ((p : ℕ) → ends p ≡ fresh) → ((p : ℕ) → places p ≡ Closed) → ((p : ℕ) → numbers p ≡ no_numbers) → NumberedRuns link_config memory words ends places numbers
   begins : (memory words : ℕ → ℕ) (ends after_ends : ℕ → End) (places after_places : ℕ → Place) (numbers : ℕ → Numbers) (p : ℕ) (call : Call) →
-      NumberedRuns ground memory words ends places numbers → p < 2 → BeginsCall ground ends after_ends places after_places p call →
-      NumberedRuns ground memory words after_ends after_places numbers
+      NumberedRuns link_config memory words ends places numbers → p < 2 → BeginsCall link_config ends after_ends places after_places p call →
+      NumberedRuns link_config memory words after_ends after_places numbers
   steps : (memory after words : ℕ → ℕ) (ends after_ends : ℕ → End) (places after_places : ℕ → Place) (numbers next : ℕ → Numbers) (p value : ℕ) →
-      NumberedRuns ground memory words ends places numbers → p < 2 → TakesStep ground memory after ends after_ends places after_places p value →
-      IsNumbered (numbers p) (access_at (who_of ground p) (places p)) →
-      OnlyNumbers numbers next p (numbers_after (numbers p) (ends p) (access_at (who_of ground p) (places p))) →
-      NumberedRuns ground after words after_ends after_places next
+      NumberedRuns link_config memory words ends places numbers → p < 2 → TakesStep link_config memory after ends after_ends places after_places p value →
+      IsNumbered (numbers p) (access_at (config_of link_config p) (places p)) →
+      OnlyNumbers numbers next p (numbers_after (numbers p) (ends p) (access_at (config_of link_config p) (places p))) →
+      NumberedRuns link_config after words after_ends after_places next
   resets : (memory after words : ℕ → ℕ) (ends after_ends : ℕ → End) (places after_places : ℕ → Place) (numbers next : ℕ → Numbers) (p : ℕ) →
-      NumberedRuns ground memory words ends places numbers → p < 2 → IsReset memory after ends after_ends places after_places p →
-      OnlyNumbers numbers next p (numbers_reset (numbers p) (ends p)) → NumberedRuns ground after words after_ends after_places next
+      NumberedRuns link_config memory words ends places numbers → p < 2 → IsReset memory after ends after_ends places after_places p →
+      OnlyNumbers numbers next p (numbers_reset (numbers p) (ends p)) → NumberedRuns link_config after words after_ends after_places next
   others : (memory after words : ℕ → ℕ) (ends : ℕ → End) (places : ℕ → Place) (numbers : ℕ → Numbers) →
-      NumberedRuns ground memory words ends places numbers → ((q : ℕ) → q < 2 → IsUntouched ground memory after q) →
-      NumberedRuns ground after words ends places numbers
+      NumberedRuns link_config memory words ends places numbers → ((q : ℕ) → q < 2 → IsUntouched link_config memory after q) →
+      NumberedRuns link_config after words ends places numbers
   stores : (memory words now : ℕ → ℕ) (ends : ℕ → End) (places : ℕ → Place) (numbers next : ℕ → Numbers) (p : ℕ) →
-      NumberedRuns ground memory words ends places numbers → p < 2 → (ends p).handshake.phase ≡ Init → now p ≡ (numbers p).log.opened + 1 →
-      ((q : ℕ) → q ≢ p → now q ≡ words q) → OnlyNumbers numbers next p (with_stored (numbers p)) → NumberedRuns ground memory now ends places next
+      NumberedRuns link_config memory words ends places numbers → p < 2 → (ends p).handshake.phase ≡ Init → now p ≡ (numbers p).log.opened + 1 →
+      ((q : ℕ) → q ≢ p → now q ≡ words q) → OnlyNumbers numbers next p (with_stored (numbers p)) → NumberedRuns link_config memory now ends places next
   loads : (memory words : ℕ → ℕ) (ends : ℕ → End) (places : ℕ → Place) (numbers next : ℕ → Numbers) (p : ℕ) →
-      NumberedRuns ground memory words ends places numbers → p < 2 → places p ≡ Setting 3 →
-      OnlyNumbers numbers next p (with_loaded (numbers p) (words (1 - p))) → NumberedRuns ground memory words ends places next
+      NumberedRuns link_config memory words ends places numbers → p < 2 → places p ≡ WritingState 3 →
+      OnlyNumbers numbers next p (with_loaded (numbers p) (words (1 - p))) → NumberedRuns link_config memory words ends places next
 
 -- the session word is the number of sessions opened; or one more, which was stored, and then the end is in RESET or INIT
 abbrev pub WordIs : End → Numbers → ℕ → Type 0
@@ -92,11 +92,11 @@ WordIs end n word = ((n.stored ≡ false) × (word ≡ n.log.opened)) ⊎ ((n.st
 
 -- an end that is in RUN, or about to set it
 abbrev pub IsCarrying : End → Place → Type 0
-IsCarrying end place = (state_of end.handshake.phase ≡ 3) ⊎ (place ≡ Setting 3)
+IsCarrying end place = (state_of end.handshake.phase ≡ 3) ⊎ (place ≡ WritingState 3)
 
 -- an end that is in INIT or READY, or about to set INIT
 abbrev pub IsOnItsWay : End → Place → Type 0
-IsOnItsWay end place = (state_of end.handshake.phase ≡ 1) ⊎ ((state_of end.handshake.phase ≡ 2) ⊎ ((state_of end.handshake.phase ≡ 0) × (place ≡ Setting 1)))
+IsOnItsWay end place = (state_of end.handshake.phase ≡ 1) ⊎ ((state_of end.handshake.phase ≡ 2) ⊎ ((state_of end.handshake.phase ≡ 0) × (place ≡ WritingState 1)))
 
 -- the numbers n of one end, at its place, against the numbers m of the other: it delivers in order by its own log; what it carried was opened, and is older
 -- than what it carries next; what it loaded is the session that the other opened last; and its session word is the number of its own while the other carries
@@ -106,16 +106,16 @@ pub record IsPaired (end other : End) (place others_place : Place) (n m : Number
   pub one : 2 ≤ state_of end.handshake.phase → 1 ≤ n.log.opened
   pub risen : n.log.carried ≤ m.log.opened
   pub on_the_way : IsOnItsWay end place → 2 ≤ state_of other.handshake.phase → n.log.carried < m.log.opened
-  pub attends : place ≡ Setting 3 → n.log.carried < m.log.opened
-  pub loaded : (number : ℕ) → n.loaded ≡ Some number → (number ≡ m.log.opened) × (place ≡ Setting 3)
+  pub attends : place ≡ WritingState 3 → n.log.carried < m.log.opened
+  pub loaded : (number : ℕ) → n.loaded ≡ Some number → (number ≡ m.log.opened) × (place ≡ WritingState 3)
   pub word_is : WordIs end n word
   pub carried : IsCarrying other others_place → word ≡ n.log.opened
 
 -- the runs are runs of honest ends, and of the link machine, whose logs are those that the ends keep by the numbers which they load; and the sessions are
 -- paired
 abbrev pub SessionsArePaired : Type 0
-SessionsArePaired = (ground : Ground) (memory words : ℕ → ℕ) (ends : ℕ → End) (places : ℕ → Place) (numbers : ℕ → Numbers) → IsGround ground →
-    NumberedRuns ground memory words ends places numbers → HonestRuns ground memory ends places ×
-    ((sides : ℕ → Side) × (logs : ℕ → Log) × MachineRuns ground.sizes (λ p. true) sides logs ×
+SessionsArePaired = (link_config : LinkConfig) (memory words : ℕ → ℕ) (ends : ℕ → End) (places : ℕ → Place) (numbers : ℕ → Numbers) → IsLinkConfig link_config →
+    NumberedRuns link_config memory words ends places numbers → HonestRuns link_config memory ends places ×
+    ((sides : ℕ → Side) × (logs : ℕ → Log) × MachineRuns link_config.sizes (λ p. true) sides logs ×
     ((p : ℕ) → p < 2 → SideIs (ends p) (places p) (sides p) × ((numbers p).log ≡ logs p) ×
     IsPaired (ends p) (ends (1 - p)) (places p) (places (1 - p)) (numbers p) (numbers (1 - p)) (words p)))

@@ -4,27 +4,27 @@ use Rattle.link_handshake.specs.declared.Phase.TheVariants.{Reset, Init}
 use Rattle.link_handshake.specs.PhaseTable.{state_of}
 use Rattle.call_grammar.specs.Ends.{End, fresh}
 use Rattle.call_grammar.specs.Calls.{Call, Stop}
-use Rattle.call_grammar.specs.Places.{Place, Closed, Clearing, Setting}
+use Rattle.call_grammar.specs.Places.{Place, Closed, Clearing, WritingState}
 use Rattle.link_machine.specs.LinkMachine.{Side, Log, MachineRuns}
-use Rattle.ends_pair.specs.Ground.{Ground, IsGround}
-use Rattle.ends_pair.specs.Steps.{IsUntouched, BeginsCall, TakesStep}
-use Rattle.ends_pair.specs.Sides.{SideIs}
+use Rattle.link_invariant.specs.LinkConfig.{LinkConfig, IsLinkConfig}
+use Rattle.link_invariant.specs.Steps.{IsUntouched, BeginsCall, TakesStep}
+use Rattle.link_invariant.specs.Sides.{SideIs}
 
 -- where two honest ends come without Stop and without a reset
-pub data CalmRuns (ground : Ground) : (ℕ → ℕ) → (ℕ → End) → (ℕ → Place) → Type 0 where
+pub data CalmRuns (link_config : LinkConfig) : (ℕ → ℕ) → (ℕ → End) → (ℕ → Place) → Type 0 where
   starts : (memory : ℕ → ℕ) (ends : ℕ → End) (places : ℕ → Place) →
-      ((w : ℕ) → memory w ≡ 0) → ((p : ℕ) → ends p ≡ fresh) → ((p : ℕ) → places p ≡ Closed) → CalmRuns ground memory ends places
-  begins : (memory : ℕ → ℕ) (ends after_ends : ℕ → End) (places after_places : ℕ → Place) (p : ℕ) (call : Call) → CalmRuns ground memory ends places →
-      p < 2 → call ≢ Stop → BeginsCall ground ends after_ends places after_places p call → CalmRuns ground memory after_ends after_places
-  steps : (memory after : ℕ → ℕ) (ends after_ends : ℕ → End) (places after_places : ℕ → Place) (p value : ℕ) → CalmRuns ground memory ends places →
-      p < 2 → TakesStep ground memory after ends after_ends places after_places p value → CalmRuns ground after after_ends after_places
-  others : (memory after : ℕ → ℕ) (ends : ℕ → End) (places : ℕ → Place) → CalmRuns ground memory ends places →
-      ((q : ℕ) → q < 2 → IsUntouched ground memory after q) → CalmRuns ground after ends places
+      ((w : ℕ) → memory w ≡ 0) → ((p : ℕ) → ends p ≡ fresh) → ((p : ℕ) → places p ≡ Closed) → CalmRuns link_config memory ends places
+  begins : (memory : ℕ → ℕ) (ends after_ends : ℕ → End) (places after_places : ℕ → Place) (p : ℕ) (call : Call) → CalmRuns link_config memory ends places →
+      p < 2 → call ≢ Stop → BeginsCall link_config ends after_ends places after_places p call → CalmRuns link_config memory after_ends after_places
+  steps : (memory after : ℕ → ℕ) (ends after_ends : ℕ → End) (places after_places : ℕ → Place) (p value : ℕ) → CalmRuns link_config memory ends places →
+      p < 2 → TakesStep link_config memory after ends after_ends places after_places p value → CalmRuns link_config after after_ends after_places
+  others : (memory after : ℕ → ℕ) (ends : ℕ → End) (places : ℕ → Place) → CalmRuns link_config memory ends places →
+      ((q : ℕ) → q < 2 → IsUntouched link_config memory after q) → CalmRuns link_config after ends places
 
 -- an end that isn't on its way from INIT to READY
 pub record IsStill (place : Place) : Type 0 where
   pub clears : (at more state : ℕ) → place ≢ Clearing at more state
-  pub sets : place ≢ Setting 2
+  pub sets : place ≢ WritingState 2
 
 -- an end that has opened at most one session, and is in READY or RUN ever after; before it, its lists are empty; no open tick takes it back; and while it is
 -- in RESET the other is in RESET too, or in INIT and not on its way
@@ -33,12 +33,12 @@ pub record IsOnce (end other : End) (place others_place : Place) (log : Log) : T
   pub stays : 1 ≤ log.opened → 2 ≤ state_of end.handshake.phase
   pub counted : 2 ≤ state_of end.handshake.phase → 1 ≤ log.opened
   pub none : log.opened ≡ 0 → (end.accepted ≡ []) × (end.delivered ≡ [])
-  pub up : place ≢ Setting 0
+  pub up : place ≢ WritingState 0
   pub low : end.handshake.phase ≡ Reset → (other.handshake.phase ≡ Reset) ⊎ ((other.handshake.phase ≡ Init) × IsStill others_place)
 
 -- the ends are the sides of a run of the machine; by its logs each opens one session at most; and all that one delivered begins what the other accepted
 abbrev pub CalmRunsDeliver : Type 0
-CalmRunsDeliver = (ground : Ground) (memory : ℕ → ℕ) (ends : ℕ → End) (places : ℕ → Place) → IsGround ground → CalmRuns ground memory ends places →
-    (sides : ℕ → Side) × (logs : ℕ → Log) × MachineRuns ground.sizes (λ p. true) sides logs ×
+CalmRunsDeliver = (link_config : LinkConfig) (memory : ℕ → ℕ) (ends : ℕ → End) (places : ℕ → Place) → IsLinkConfig link_config → CalmRuns link_config memory ends places →
+    (sides : ℕ → Side) × (logs : ℕ → Log) × MachineRuns link_config.sizes (λ p. true) sides logs ×
     ((p : ℕ) → p < 2 → SideIs (ends p) (places p) (sides p) × IsOnce (ends p) (ends (1 - p)) (places p) (places (1 - p)) (logs p) ×
     ((rest : List (List ℕ)) × ((ends p).accepted ≡ (ends (1 - p)).delivered ++ rest)))

@@ -1,5 +1,5 @@
 //! The sessions of two honest ends: runs in which each opens one at most, and runs in which the ends number them by a session word each.
-//! It stands on `ends_pair` for the runs and on `link_machine` for the logs of sessions. It holds no code: each law is the contract of
+//! It stands on `link_invariant` for the runs and on `link_machine` for the logs of sessions. It holds no code: each law is the contract of
 //! a function with an empty body.
 //!
 //! # Design

@@ -12,20 +12,20 @@ use Rattle.split_ring.specs.declared.steps.Access.TheVariants as access
 use Rattle.doorbell_irq.specs.declared.route.Route.{Route}
 use Rattle.doorbell_irq.specs.DeviceRules.{bit}
 use Rattle.doorbell_irq.specs.Routes.{bit_for, bit_rung}
-use Rattle.peer_runner.specs.declared.key.Key.{Key}
-use Rattle.peer_runner.specs.declared.ways.Way.{Way}
-use Rattle.peer_runner.specs.declared.ways.Way.TheVariants.{Silent, Direct, Guarded}
-use Rattle.peer_runner.specs.Standings.{Taken, Deed}
+use Rattle.peer_runner.specs.declared.run_setup.RunSetup.{RunSetup}
+use Rattle.peer_runner.specs.declared.doorbell_paths.DoorbellPath.{DoorbellPath}
+use Rattle.peer_runner.specs.declared.doorbell_paths.DoorbellPath.TheVariants.{Silent, Direct, Guarded}
+use Rattle.peer_runner.specs.DerivedStates.{CallAccess, MemoryOp}
 use Rattle.peer_runner.specs.Actions.{Action}
 use Rattle.peer_runner.specs.Interrupts.{one_if, IsOneShot}
-use Rattle.peer_runner.specs.Ways.{nowhere, route_to, way_by, way_to, is_guarded, rung_by, AreRoutes}
+use Rattle.peer_runner.specs.DoorbellPaths.{nowhere, route_to, doorbell_path_by, doorbell_path_to, is_guarded, rung_by, AreRoutes}
 use Rattle.peer_runner.specs.Turns.{is_set}
-use Rattle.peer_runner.specs.Held.{Held}
+use Rattle.peer_runner.specs.PassView.{PassView}
 use Rattle.peer_runner.specs.Runners.{MayRingBy, made}
 use Rattle.peer_runner.proofs.Keys.{clash}
 
 -- A way that touches a word is one to a peer that is there, by one of 64 bits
-abbrev pub Fits : List Route → (target : ℕ) → Way → Type 0
+abbrev pub Fits : List Route → (target : ℕ) → DoorbellPath → Type 0
 Fits routes target Silent = Unit {0}
 Fits routes target (Direct b) = (target < length routes) × (b < 64) × ((route_to routes target).one_shot ≡ false)
 Fits routes target (Guarded b) = (target < length routes) × (b < 64) × ((route_to routes target).one_shot ≡ true)
@@ -55,25 +55,25 @@ there : (routes : List Route) (target : ℕ) → (route_to routes target).enable
 there routes target on = dite (dec_lt target (length routes)) (λ lt. lt)
     (λ past. absurd (clash (ap (λ (r : Route). r.enabled) (sym (get_or_past routes target nowhere (omega arith))) ∙ on)))
 
-by_way : (routes : List Route) (target : ℕ) (shot : Bool) (o : Option ℕ) (way : Way) → (route_to routes target).one_shot ≡ shot → ((b : ℕ) → o ≡ Some b → (target < length routes) × (b < 64)) → way_by shot o ≡ way → Fits routes target way
-by_way routes target shot None way shot_is fits is = subst (Fits routes target) is tt
-by_way routes target true (Some b) way shot_is fits is = let f = fits b refl in subst (Fits routes target) is (f.0, f.1, shot_is)
-by_way routes target false (Some b) way shot_is fits is = let f = fits b refl in subst (Fits routes target) is (f.0, f.1, shot_is)
+by_way : (routes : List Route) (target : ℕ) (shot : Bool) (o : Option ℕ) (doorbell_path : DoorbellPath) → (route_to routes target).one_shot ≡ shot → ((b : ℕ) → o ≡ Some b → (target < length routes) × (b < 64)) → doorbell_path_by shot o ≡ doorbell_path → Fits routes target doorbell_path
+by_way routes target shot None doorbell_path shot_is fits is = subst (Fits routes target) is tt
+by_way routes target true (Some b) doorbell_path shot_is fits is = let f = fits b refl in subst (Fits routes target) is (f.0, f.1, shot_is)
+by_way routes target false (Some b) doorbell_path shot_is fits is = let f = fits b refl in subst (Fits routes target) is (f.0, f.1, shot_is)
 
-pub way_fits : (routes : List Route) (target vector : ℕ) (way : Way) → way_to routes target vector ≡ way → Fits routes target way
-unfolding way_to
-way_fits routes target vector way is = let route = route_to routes target in by_way routes target route.one_shot (bit_rung route vector) way refl
+pub way_fits : (routes : List Route) (target vector : ℕ) (doorbell_path : DoorbellPath) → doorbell_path_to routes target vector ≡ doorbell_path → Fits routes target doorbell_path
+unfolding doorbell_path_to
+way_fits routes target vector doorbell_path is = let route = route_to routes target in by_way routes target route.one_shot (bit_rung route vector) doorbell_path refl
     (λ b some. let f = rung_fits route vector b some in (there routes target f.0, f.1)) is
 
-pub way_of : (routes : List Route) (target vector : ℕ) (route : Route) (o : Option ℕ) → route ≡ route_to routes target → o ≡ bit_rung route vector → way_by route.one_shot o ≡ way_to routes target vector
-unfolding way_to
-way_of routes target vector route o at is = λ i. way_by (at i).one_shot ((is ∙ ap (λ (r : Route). bit_rung r vector) at) i)
+pub way_of : (routes : List Route) (target vector : ℕ) (route : Route) (o : Option ℕ) → route ≡ route_to routes target → o ≡ bit_rung route vector → doorbell_path_by route.one_shot o ≡ doorbell_path_to routes target vector
+unfolding doorbell_path_to
+way_of routes target vector route o at is = λ i. doorbell_path_by (at i).one_shot ((is ∙ ap (λ (r : Route). bit_rung r vector) at) i)
 
 -- Which peers are in one-shot mode
-pub never_one_shot : (key : Key) (routes : List Route) (target : ℕ) → AreRoutes key routes → target < length routes → (route_to routes target).one_shot ≡ false → IsOneShot key target → ⊥
+pub never_one_shot : (key : RunSetup) (routes : List Route) (target : ℕ) → AreRoutes key routes → target < length routes → (route_to routes target).one_shot ≡ false → IsOneShot key target → ⊥
 never_one_shot key routes target are lt off shot = let count = are.count in let bit_is : bit_at key.one_shot target ≡ 0 = are.one_shot target (omega arith) ∙ ap one_if off in omega arith
 
-pub is_one_shot_at : (key : Key) (routes : List Route) (target : ℕ) → AreRoutes key routes → target < length routes → (route_to routes target).one_shot ≡ true → IsOneShot key target
+pub is_one_shot_at : (key : RunSetup) (routes : List Route) (target : ℕ) → AreRoutes key routes → target < length routes → (route_to routes target).one_shot ≡ true → IsOneShot key target
 is_one_shot_at key routes target are lt on = let count = are.count in are.one_shot target (omega arith) ∙ ap one_if on
 
 -- The ends of the match
@@ -83,15 +83,15 @@ not_so true never = absurd (never refl)
 not_so false never = refl
 
 -- no ring is to come where the doorbell isn't guarded
-pub never_ringing : (routes : List Route) (target vector : ℕ) (way : Way) (ringing : Bool) (list : List (Action (Deed Taken))) → way_to routes target vector ≡ way → is_guarded way ≡ false → (ringing ≡ true → MayRingBy routes (access.Ring target vector) list) → ringing ≡ false
-never_ringing routes target vector way ringing list is off may = not_so ringing (λ on. clash (sym (ap is_guarded is ∙ off) ∙ (may on).0))
+pub never_ringing : (routes : List Route) (target vector : ℕ) (doorbell_path : DoorbellPath) (ringing : Bool) (list : List (Action (MemoryOp CallAccess))) → doorbell_path_to routes target vector ≡ doorbell_path → is_guarded doorbell_path ≡ false → (ringing ≡ true → MayRingBy routes (access.Ring target vector) list) → ringing ≡ false
+never_ringing routes target vector doorbell_path ringing list is off may = not_so ringing (λ on. clash (sym (ap is_guarded is ∙ off) ∙ (may on).0))
 
 -- nor with an access that is no doorbell
-pub no_ring : (routes : List Route) (a : Access) (ringing : Bool) (list : List (Action (Deed Taken))) → (MayRingBy routes a list → ⊥) → (ringing ≡ true → MayRingBy routes a list) → ringing ≡ false
+pub no_ring : (routes : List Route) (a : Access) (ringing : Bool) (list : List (Action (MemoryOp CallAccess))) → (MayRingBy routes a list → ⊥) → (ringing ≡ true → MayRingBy routes a list) → ringing ≡ false
 no_ring routes a ringing list none may = not_so ringing (λ on. none (may on))
 
-pub rung_made : (routes : List Route) (target vector : ℕ) (way : Way) (old : Held) → way_to routes target vector ≡ way → made old (rung_by way target) ≡ made old (rung_by (way_to routes target vector) target)
-rung_made routes target vector way old is = ap (λ (w : Way). made old (rung_by w target)) (sym is)
+pub rung_made : (routes : List Route) (target vector : ℕ) (doorbell_path : DoorbellPath) (old : PassView) → doorbell_path_to routes target vector ≡ doorbell_path → made old (rung_by doorbell_path target) ≡ made old (rung_by (doorbell_path_to routes target vector) target)
+rung_made routes target vector doorbell_path old is = ap (λ (w : DoorbellPath). made old (rung_by w target)) (sym is)
 
 pub set_found : (found : ℕ) → is_set found ≡ true → bit_at found 0 ≡ 1
 set_found found is = eqb-true (bit_at found 0) 1 is

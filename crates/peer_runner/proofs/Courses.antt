@@ -15,40 +15,40 @@ use Rattle.doorbell_irq.specs.declared.route.Route.{Route}
 use Rattle.ivs_base.specs.declared.NoMemory.{NoMemory}
 use Rattle.record_text.specs.Parts.{Part}
 use Rattle.record_text.specs.declared.own_trace.OwnTrace.{OwnTrace}
-use Rattle.peer_runner.specs.declared.key.Key.{Key}
+use Rattle.peer_runner.specs.declared.run_setup.RunSetup.{RunSetup}
 use Rattle.peer_runner.specs.declared.sessions.SessionWord.{SessionWord}
 use Rattle.peer_runner.specs.declared.sessions.SessionWord.TheVariants.{Own, Others}
 use Rattle.peer_runner.specs.declared.turns.AutoPeer.{AutoPeer}
-use Rattle.peer_runner.specs.Held.{Held}
-use Rattle.peer_runner.specs.Keys.{who_in}
-use Rattle.peer_runner.specs.Standings.{Taken, Deed}
+use Rattle.peer_runner.specs.PassView.{PassView}
+use Rattle.peer_runner.specs.RunSetups.{config_in}
+use Rattle.peer_runner.specs.DerivedStates.{CallAccess, MemoryOp}
 use Rattle.peer_runner.specs.Actions.{Action}
 use Rattle.peer_runner.specs.Passes.{held, IsOf}
-use Rattle.peer_runner.specs.Turns.{Turn, all_turns, has_turn_left, spent, IsSpanSpent, later, told_in, told_of}
-use Rattle.peer_runner.specs.Runners.{Runner, beginning, chosen, round_on, finishes, has_finished, turn_met, restarted_on, IsThere, IsAutoPeer}
-use Rattle.peer_runner.specs.Courses.{GoesOn, starts, follows, IsOnCourse, WentTo}
+use Rattle.peer_runner.specs.Turns.{Turn, all_turns, has_turn_left, spent, IsSpanSpent, later, lines_in, lines_of_turns}
+use Rattle.peer_runner.specs.Runners.{Runner, initial_runner, chosen, round_on, finishes, has_finished, turn_met, restarted_on, IsThere, IsAutoPeer}
+use Rattle.peer_runner.specs.Trajectories.{GoesOn, starts, follows, IsOnTrajectory, WentTo}
 use Rattle.peer_runner.specs.Drives.{MayBeAuto, automatic, Did, Drove}
-use Rattle.peer_runner.specs.OwnRecord.{IsToldBy}
+use Rattle.peer_runner.specs.OwnRecord.{IsTraceOf}
 use Rattle.peer_runner.proofs.Keys.{clash}
 use Rattle.peer_runner.proofs.Turning.{plan_cut}
 use Rattle.peer_runner.proofs.Runs.{refused_of, told_snoc, all_spent, all_later, IsCounted, counted_of, far_of, finished_same, there_first, plan_first, lent, did, err_free}
 
 -- one turn more, and its lines
 
-of_on : (id : TableId) (key : Key) (old pass : Held) (me : ℕ) (l m : List (Action (Deed Taken))) → IsOf id key old → old.from ≡ me → old.lists ≡ l ∷ [] → pass.table_id ≡ old.table_id → pass.from ≡ me → pass.lists ≡ m ∷ [] → IsOf id key pass
+of_on : (id : TableId) (key : RunSetup) (old pass : PassView) (me : ℕ) (l m : List (Action (MemoryOp CallAccess))) → IsOf id key old → old.from ≡ me → old.lists ≡ l ∷ [] → pass.table_id ≡ old.table_id → pass.from ≡ me → pass.lists ≡ m ∷ [] → IsOf id key pass
 of_on id key old pass me l m of from lists same from' lists' = let inside = of.2 in let one = ap length lists in let one' = ap length lists' in (same ∙ of.0, of.1, omega arith, of.3)
 
-pub course_on : (id : TableId) (key : Key) (me : ℕ) (routes : List Route) (plan : Plan) (spans : List ℕ) (r next : Runner) (old pass : Held) (p q : AutoPeer) → IsOnCourse id key me routes plan spans r old p → GoesOn (who_in key me) routes r next →
-    IsThere key me routes next pass q.end → IsAutoPeer q next → pass.table_id ≡ old.table_id → IsOnCourse id key me routes plan spans next pass q
+pub course_on : (id : TableId) (key : RunSetup) (me : ℕ) (routes : List Route) (plan : Plan) (spans : List ℕ) (r next : Runner) (old pass : PassView) (p q : AutoPeer) → IsOnTrajectory id key me routes plan spans r old p → GoesOn (config_in key me) routes r next →
+    IsThere key me routes next pass q.end → IsAutoPeer q next → pass.table_id ≡ old.table_id → IsOnTrajectory id key me routes plan spans next pass q
 course_on id key me routes plan spans r next old pass p q on goes there is same = record {
-  comes = follows r next p.end on.comes on.there.stands goes;
+  comes = follows r next p.end on.comes on.there.refines goes;
   of = of_on id key old pass me r.actions next.actions on.of on.there.from on.there.lists same there.from there.lists;
   there = there;
   is = is;
 }
 
-pub told_further : (me : ℕ) (so_far now : List Turn) (turn : Turn) (old new : List Line) → now ≡ so_far ++ turn ∷ [] → old ≡ told_of me so_far → new ≡ old ++ told_in me turn → new ≡ told_of me now
-told_further me so_far now turn old new grows told is = is ∙ (ap (λ ls. ls ++ told_in me turn) told ∙ sym (ap (told_of me) grows ∙ told_snoc me so_far turn))
+pub told_further : (me : ℕ) (so_far now : List Turn) (turn : Turn) (old new : List Line) → now ≡ so_far ++ turn ∷ [] → old ≡ lines_of_turns me so_far → new ≡ old ++ lines_in me turn → new ≡ lines_of_turns me now
+told_further me so_far now turn old new grows told is = is ∙ (ap (λ ls. ls ++ lines_in me turn) told ∙ sym (ap (lines_of_turns me) grows ∙ told_snoc me so_far turn))
 
 -- a choice moves the round alone, and not where the peer is finished
 
@@ -69,8 +69,8 @@ round_cut auto (Some automatic.IsFinished) = refl
 pub planned_still : (plan : Plan) (r : Runner) → has_finished r ≡ true → IsPlanOf plan (round_on r.auto (chosen r)) → IsPlanOf plan r.auto
 planned_still plan r is planned = subst (IsPlanOf plan) (round_still r.auto (chosen r) is) planned
 
-pub course_still : (id : TableId) (key : Key) (me : ℕ) (routes : List Route) (plan : Plan) (spans : List ℕ) (r : Runner) (pass : Held) (p : AutoPeer) (auto : Plan) → IsOnCourse id key me routes plan spans r pass p → has_finished r ≡ true →
-    IsPlanOf auto (round_on r.auto (chosen r)) → IsOnCourse id key me routes plan spans r pass (record p { auto = auto })
+pub course_still : (id : TableId) (key : RunSetup) (me : ℕ) (routes : List Route) (plan : Plan) (spans : List ℕ) (r : Runner) (pass : PassView) (p : AutoPeer) (auto : Plan) → IsOnTrajectory id key me routes plan spans r pass p → has_finished r ≡ true →
+    IsPlanOf auto (round_on r.auto (chosen r)) → IsOnTrajectory id key me routes plan spans r pass (record p { auto = auto })
 course_still id key me routes plan spans r pass p auto on is planned = record {
   comes = on.comes;
   of = on.of;
@@ -83,12 +83,12 @@ planned_cut plan cut r planned is = subst (λ (p : Plan). IsPlanOf p (restarted_
     (subst (IsPlanOf (record plan { round = Anew })) (round_cut r.auto (chosen r)) (plan_cut plan (record r { auto = round_on r.auto (chosen r) }) planned))
 
 -- a turn at a session word tells nothing
-pub met_silent : (me number : ℕ) (word : SessionWord) → told_in me (turn_met word number) ≡ []
+pub met_silent : (me number : ℕ) (word : SessionWord) → lines_in me (turn_met word number) ≡ []
 met_silent me number Own = refl
 met_silent me number Others = refl
 
 -- what a turn asks of the pass
-pub seated : (id : TableId) (key : Key) (me : ℕ) (routes : List Route) (plan : Plan) (spans : List ℕ) (r : Runner) (pass : Held) (p : AutoPeer) → IsOnCourse id key me routes plan spans r pass p → IsOf id key pass × (pass.from ≡ me) × (0 < length pass.lists)
+pub seated : (id : TableId) (key : RunSetup) (me : ℕ) (routes : List Route) (plan : Plan) (spans : List ℕ) (r : Runner) (pass : PassView) (p : AutoPeer) → IsOnTrajectory id key me routes plan spans r pass p → IsOf id key pass × (pass.from ≡ me) × (0 < length pass.lists)
 seated id key me routes plan spans r pass p on = (on.of, on.there.from, (let one = ap length on.there.lists in omega arith))
 
 -- a session more can be numbered, and so can a turn
@@ -96,13 +96,13 @@ pub few_opened : (spans : List ℕ) (r : Runner) → IsCounted spans r → has_t
 few_opened spans r is left few = let count = is.count in let most = is.opened in let one = all_spent r.spans left in omega arith
 
 -- so many turns of a span are taken, by which the runner came there from r
-pub record IsInSpan (id : TableId) (key : Key) (me : ℕ) (routes : List Route) (plan : Plan) (spans : List ℕ) (span taken : ℕ) (rest : List ℕ) (next : Runner) (pass : Held) (p : AutoPeer) (turns : ℕ) (lines : List Line) : Type 0 where
-  pub on : IsOnCourse id key me routes plan spans next pass p
+pub record IsInSpan (id : TableId) (key : RunSetup) (me : ℕ) (routes : List Route) (plan : Plan) (spans : List ℕ) (span taken : ℕ) (rest : List ℕ) (next : Runner) (pass : PassView) (p : AutoPeer) (turns : ℕ) (lines : List Line) : Type 0 where
+  pub on : IsOnTrajectory id key me routes plan spans next pass p
   pub left : ℕ
   pub spans_are : next.spans ≡ left ∷ rest
   pub all : left + taken ≡ span
   pub turns_are : turns ≡ length next.turns
-  pub told : lines ≡ told_of me next.turns
+  pub told : lines ≡ lines_of_turns me next.turns
 
 -- where a turn of it is left
 pub left_in_span : (spans : List ℕ) (left : ℕ) (rest : List ℕ) → spans ≡ left ∷ rest → 0 < left → has_turn_left spans ≡ true
@@ -121,8 +121,8 @@ IsDue spans zero r = r.spans ≡ spans
 IsDue spans (suc k) r = has_finished r ≡ false → r.spans ≡ 0 ∷ drop (suc k) spans
 
 -- the start
-pub course_first : (id : TableId) (key : Key) (me : ℕ) (routes : List Route) (spans : List ℕ) (pass : Held) (p : AutoPeer) → IsOf id key pass → pass.from ≡ me → pass.lists ≡ [] ∷ [] → MayBeAuto key me p.auto p.end →
-    (p.looks ≡ 0) × (p.ringing ≡ false) × (p.opened ≡ 0) × (p.met ≡ None) → IsOnCourse id key me routes p.auto spans (beginning p.auto.frames p.auto.expected spans) pass p
+pub course_first : (id : TableId) (key : RunSetup) (me : ℕ) (routes : List Route) (spans : List ℕ) (pass : PassView) (p : AutoPeer) → IsOf id key pass → pass.from ≡ me → pass.lists ≡ [] ∷ [] → MayBeAuto key me p.auto p.end →
+    (p.looks ≡ 0) × (p.ringing ≡ false) × (p.opened ≡ 0) × (p.met ≡ None) → IsOnTrajectory id key me routes p.auto spans (initial_runner p.auto.frames p.auto.expected spans) pass p
 course_first id key me routes spans pass p of from lists may fresh = record {
   comes = starts;
   of = of;
@@ -161,34 +161,34 @@ one_reset spans r next is then' over goes = let count = is.count in let counts =
 
 -- The peer that is driven, with its turns and lines: a runner of which this holds is there
 
-pub record IsAt (id : TableId) (key : Key) (me : ℕ) (routes : List Route) (plan : Plan) (spans : List ℕ) (P : Runner → Type 0) (pass : Held) (p : AutoPeer) (turns : ℕ) (lines : List Line) : Type 0 where
+pub record IsAt (id : TableId) (key : RunSetup) (me : ℕ) (routes : List Route) (plan : Plan) (spans : List ℕ) (P : Runner → Type 0) (pass : PassView) (p : AutoPeer) (turns : ℕ) (lines : List Line) : Type 0 where
   pub r : Runner
-  pub on : IsOnCourse id key me routes plan spans r pass p
+  pub on : IsOnTrajectory id key me routes plan spans r pass p
   pub holds : P r
   pub turns_are : turns ≡ length r.turns
-  pub told : lines ≡ told_of me r.turns
+  pub told : lines ≡ lines_of_turns me r.turns
 
-module _ (id : TableId) (key : Key) (me : ℕ) (routes : List Route) (plan : Plan) (spans : List ℕ) where
-  pub same_at : (P : Runner → Type 0) (pass pass' : Held) (p p' : AutoPeer) (turns turns' : ℕ) (lines lines' : List Line) → pass' ≡ pass → p' ≡ p → turns' ≡ turns → lines' ≡ lines → IsAt id key me routes plan spans P pass p turns lines →
+module _ (id : TableId) (key : RunSetup) (me : ℕ) (routes : List Route) (plan : Plan) (spans : List ℕ) where
+  pub same_at : (P : Runner → Type 0) (pass pass' : PassView) (p p' : AutoPeer) (turns turns' : ℕ) (lines lines' : List Line) → pass' ≡ pass → p' ≡ p → turns' ≡ turns → lines' ≡ lines → IsAt id key me routes plan spans P pass p turns lines →
       IsAt id key me routes plan spans P pass' p' turns' lines'
   same_at P pass pass' p p' turns turns' lines lines' a b c d at = record {
     r = at.r;
-    on = subst (λ h. IsOnCourse id key me routes plan spans at.r h p') (sym a) (subst (λ q. IsOnCourse id key me routes plan spans at.r pass q) (sym b) at.on);
+    on = subst (λ h. IsOnTrajectory id key me routes plan spans at.r h p') (sym a) (subst (λ q. IsOnTrajectory id key me routes plan spans at.r pass q) (sym b) at.on);
     holds = at.holds;
     turns_are = c ∙ at.turns_are;
     told = d ∙ at.told;
   }
 
-  counts : (r : Runner) (pass : Held) (p : AutoPeer) → IsOnCourse id key me routes plan spans r pass p → IsCounted spans r
+  counts : (r : Runner) (pass : PassView) (p : AutoPeer) → IsOnTrajectory id key me routes plan spans r pass p → IsCounted spans r
   counts r pass p on = counted_of key me routes plan spans r on.comes
 
   -- at a span: the first, or one behind a reset
-  pub enters_first : (k : ℕ) (pass : Held) (p : AutoPeer) (turns : ℕ) (lines : List Line) → k ≡ 0 → k < length spans → IsAt id key me routes plan spans (IsDue spans k) pass p turns lines →
+  pub enters_first : (k : ℕ) (pass : PassView) (p : AutoPeer) (turns : ℕ) (lines : List Line) → k ≡ 0 → k < length spans → IsAt id key me routes plan spans (IsDue spans k) pass p turns lines →
       IsAt id key me routes plan spans (λ r. r.spans ≡ slice_index spans k ∷ drop (suc k) spans) pass p turns lines
   enters_first k pass p turns lines none there at = record { r = at.r; on = at.on; holds = due_first spans k at.r at.holds none there; turns_are = at.turns_are; told = at.told }
 
-  pub enters_later : (k : ℕ) (old pass : Held) (p q : AutoPeer) (turns : ℕ) (before lines : List Line) (went : Bool) (at : IsAt id key me routes plan spans (IsDue spans k) old p turns before) → 0 < k → k < length spans → went ≡ true →
-      (next : Runner) × IsOnCourse id key me routes plan spans next pass q × ((lines ≡ told_of me next.turns) × WentTo (later at.r.spans) at.r next went × (has_finished at.r ≡ not went)) →
+  pub enters_later : (k : ℕ) (old pass : PassView) (p q : AutoPeer) (turns : ℕ) (before lines : List Line) (went : Bool) (at : IsAt id key me routes plan spans (IsDue spans k) old p turns before) → 0 < k → k < length spans → went ≡ true →
+      (next : Runner) × IsOnTrajectory id key me routes plan spans next pass q × ((lines ≡ lines_of_turns me next.turns) × WentTo (later at.r.spans) at.r next went × (has_finished at.r ≡ not went)) →
       IsAt id key me routes plan spans (λ r. r.spans ≡ slice_index spans k ∷ drop (suc k) spans) pass q (turns + 1) lines
   enters_later k old pass p q turns before lines went at some there is took = let next = took.0 in let goes = subst (WentTo (later at.r.spans) at.r next) is took.2.1 in let on = took.2.2 ∙ ap not is in record {
     r = next;
@@ -199,12 +199,12 @@ module _ (id : TableId) (key : Key) (me : ℕ) (routes : List Route) (plan : Pla
   }
 
   -- at the end: all spans are spent, or the peer is finished
-  pub ends_spent : (k : ℕ) (pass : Held) (p : AutoPeer) (turns : ℕ) (lines : List Line) → length spans ≤ k → IsAt id key me routes plan spans (IsDue spans k) pass p turns lines →
+  pub ends_spent : (k : ℕ) (pass : PassView) (p : AutoPeer) (turns : ℕ) (lines : List Line) → length spans ≤ k → IsAt id key me routes plan spans (IsDue spans k) pass p turns lines →
       IsAt id key me routes plan spans (λ r. has_finished r ≡ false → all_turns r.spans ≡ 0) pass p turns lines
   ends_spent k pass p turns lines past at = record { r = at.r; on = at.on; holds = due_last spans k at.r at.holds past; turns_are = at.turns_are; told = at.told }
 
-  pub ends_finished : (k : ℕ) (old pass : Held) (p q : AutoPeer) (turns : ℕ) (before lines : List Line) (went : Bool) (at : IsAt id key me routes plan spans (IsDue spans k) old p turns before) → went ≡ false →
-      (next : Runner) × IsOnCourse id key me routes plan spans next pass q × ((lines ≡ told_of me next.turns) × WentTo (later at.r.spans) at.r next went × (has_finished at.r ≡ not went)) →
+  pub ends_finished : (k : ℕ) (old pass : PassView) (p q : AutoPeer) (turns : ℕ) (before lines : List Line) (went : Bool) (at : IsAt id key me routes plan spans (IsDue spans k) old p turns before) → went ≡ false →
+      (next : Runner) × IsOnTrajectory id key me routes plan spans next pass q × ((lines ≡ lines_of_turns me next.turns) × WentTo (later at.r.spans) at.r next went × (has_finished at.r ≡ not went)) →
       IsAt id key me routes plan spans (λ r. has_finished r ≡ false → all_turns r.spans ≡ 0) pass q turns lines
   ends_finished k old pass p q turns before lines went at is took = let next = took.0 in let ends = subst (WentTo (later at.r.spans) at.r next) is took.2.1 in record {
     r = next;
@@ -215,35 +215,35 @@ module _ (id : TableId) (key : Key) (me : ℕ) (routes : List Route) (plan : Pla
   }
 
   -- what was done there, as it is driven
-  pub pass_at : (first pass : Held) (p : AutoPeer) (r : Runner) → IsOf id key first → IsOnCourse id key me routes plan spans r pass p → pass ≡ held first.table_id me (r.actions ∷ [])
+  pub pass_at : (first pass : PassView) (p : AutoPeer) (r : Runner) → IsOf id key first → IsOnTrajectory id key me routes plan spans r pass p → pass ≡ held first.table_id me (r.actions ∷ [])
   pass_at first pass p r of on = lent pass me r.actions on.there.from on.there.lists ∙ ap (λ i. held i me (r.actions ∷ [])) (on.of.0 ∙ sym of.0)
 
-  pub drove_err : PlacesFollowTrees → (first pass : Held) (p : AutoPeer) (r : Runner) (result : Result OwnTrace NoMemory) → IsOf id key first → IsErr result → IsOnCourse id key me routes plan spans r pass p →
-      (list : List (Action (Deed Taken))) × (pass ≡ held first.table_id me (list ∷ [])) × Drove key routes me spans (automatic plan) list result
+  pub drove_err : PlacesFollowTrees → (first pass : PassView) (p : AutoPeer) (r : Runner) (result : Result OwnTrace NoMemory) → IsOf id key first → IsErr result → IsOnTrajectory id key me routes plan spans r pass p →
+      (list : List (Action (MemoryOp CallAccess))) × (pass ≡ held first.table_id me (list ∷ [])) × Drove key routes me spans (automatic plan) list result
   drove_err follow first pass p r result of is on = (
     r.actions,
     pass_at first pass p r of on,
     (
-      did key me routes plan spans r p.end (far_of follow key me routes plan spans r on.comes) on.there.stands (refused_of follow key me routes plan spans r p.end on.comes on.there.stands),
+      did key me routes plan spans r p.end (far_of follow key me routes plan spans r on.comes) on.there.refines (refused_of follow key me routes plan spans r p.end on.comes on.there.refines),
       most_turns spans r (counts r pass p on),
       err_free _ result is,
     ),
   )
 
-  pub drove_ok : PlacesFollowTrees → (first pass : Held) (p : AutoPeer) (turns : ℕ) (lines : List Line) (part : Part) → IsOf id key first → (at : IsAt id key me routes plan spans (λ r. has_finished r ≡ false → all_turns r.spans ≡ 0) pass p turns lines) →
-      part.peer ≡ me → part.lines ≡ lines → part.turns ≡ turns → part.finished ≡ has_finished at.r → (list : List (Action (Deed Taken))) × (pass ≡ held first.table_id me (list ∷ [])) ×
-      ((done : Did key routes me (automatic plan) spans list) × (length done.turns ≤ all_turns spans) × IsToldBy me (all_turns spans) done.turns done.after part)
+  pub drove_ok : PlacesFollowTrees → (first pass : PassView) (p : AutoPeer) (turns : ℕ) (lines : List Line) (part : Part) → IsOf id key first → (at : IsAt id key me routes plan spans (λ r. has_finished r ≡ false → all_turns r.spans ≡ 0) pass p turns lines) →
+      part.peer ≡ me → part.lines ≡ lines → part.turns ≡ turns → part.finished ≡ has_finished at.r → (list : List (Action (MemoryOp CallAccess))) × (pass ≡ held first.table_id me (list ∷ [])) ×
+      ((done : Did key routes me (automatic plan) spans list) × (length done.turns ≤ all_turns spans) × IsTraceOf me (all_turns spans) done.turns done.after part)
   drove_ok follow first pass p turns lines part of at mine same_lines same_turns finishes = let r = at.r in let on = at.on in let counted = counts r pass p on in let count = counted.count in let turns_are = at.turns_are in (
     r.actions,
     pass_at first pass p r of on,
     (
-      did key me routes plan spans r p.end (far_of follow key me routes plan spans r on.comes) on.there.stands (refused_of follow key me routes plan spans r p.end on.comes on.there.stands),
+      did key me routes plan spans r p.end (far_of follow key me routes plan spans r on.comes) on.there.refines (refused_of follow key me routes plan spans r p.end on.comes on.there.refines),
       most_turns spans r counted,
       record {
         peer = mine;
         lines = same_lines ∙ at.told;
         count = same_turns ∙ turns_are;
-        finished = finishes ∙ finished_same follow (who_in key me) r;
+        finished = finishes ∙ finished_same follow (config_in key me) r;
         most = omega arith;
         spent = λ e. let none = at.holds (sym finishes ∙ e) in omega arith;
       },

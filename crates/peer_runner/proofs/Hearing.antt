@@ -12,21 +12,21 @@ use Rattle.split_ring.specs.declared.steps.Access.TheVariants as access
 use Rattle.call_grammar.specs.Steps.{Mark, Step}
 use Rattle.call_grammar.specs.Steps as mark
 use Rattle.call_grammar.specs.Trees.{CallTree, Ended, Does, Reads, Goes}
-use Rattle.call_grammar.specs.Calls.{Who}
+use Rattle.call_grammar.specs.Calls.{EndConfig}
 use Rattle.lawful_history.specs.declared.line.Line.{Line}
 use Rattle.lawful_history.specs.declared.line.Line.TheVariants as line
-use Rattle.lawful_history.specs.Entries.{access_lines, mark_line}
+use Rattle.lawful_history.specs.EventRecords.{access_lines, mark_line}
 use Rattle.lawful_history.specs.Peers.{Driver, Waits, Chooses, Storms, Peer, opened}
 use Rattle.doorbell_irq.specs.declared.route.Route.{Route}
 use Rattle.doorbell_irq.specs.Routes.{bit_for, bit_rung}
-use Rattle.peer_runner.specs.declared.ways.Way.{Way}
-use Rattle.peer_runner.specs.declared.ways.Way.TheVariants.{Silent, Direct, Guarded}
-use Rattle.peer_runner.specs.Standings.{Taken, Touch, touch_of, Deed, numbered, carried, restarted, deed_by}
+use Rattle.peer_runner.specs.declared.doorbell_paths.DoorbellPath.{DoorbellPath}
+use Rattle.peer_runner.specs.declared.doorbell_paths.DoorbellPath.TheVariants.{Silent, Direct, Guarded}
+use Rattle.peer_runner.specs.DerivedStates.{CallAccess, ObservedAccess, touch_of, MemoryOp, numbered, carried, restarted, memory_op_by}
 use Rattle.peer_runner.specs.Actions.{Action, accessed, rang, looked, cleared, seen_by}
 use Rattle.peer_runner.specs.Interrupts.{weigh, tally, one_if, rings, finds}
 use Rattle.peer_runner.specs.Passes.{shown}
-use Rattle.peer_runner.specs.Ways.{route_to, way_by, way_to, rung_by}
-use Rattle.peer_runner.specs.Turns.{Turn, Looks, Makes, Clears, Rings, Stores, Loads, Enters, Restarts, Running, comes_to, TakesStep, is_set, spent, steps_on, TakesTurn, TakesTurns, acted_by, cleared_by, acted_in, actions_in, heard_bit, heard, is_quiet, lines_of, marks_of, told_in, told_of}
+use Rattle.peer_runner.specs.DoorbellPaths.{route_to, doorbell_path_by, doorbell_path_to, rung_by}
+use Rattle.peer_runner.specs.Turns.{Turn, Looks, Makes, Clears, Rings, Stores, Loads, Enters, Restarts, Running, comes_to, TakesStep, is_set, spent, steps_on, TakesTurn, TakesTurns, acted_by, cleared_by, acted_in, actions_in, interrupt_line, interrupt_lines, is_quiet, lines_of, marks_of, lines_in, lines_of_turns}
 use Rattle.peer_runner.specs.RunningRecord.{how_many, is_interrupt, is_interrupt_by, is_bell}
 use Rattle.peer_runner.proofs.Weights.{weigh_none, weigh_append, weigh_one, tally_same, tally_sum, finds_looked, rings_looked}
 
@@ -98,7 +98,7 @@ step_silent p first a value marks = silent_if (is_quiet first a marks) (access_l
 
 -- A look tells the bits that it found
 
-bit_heard : (p n found v : ℕ) → how_many (is_interrupt_by v) (heard_bit p n found) ≡ (if n == v then bit_at found n else 0)
+bit_heard : (p n found v : ℕ) → how_many (is_interrupt_by v) (interrupt_line p n found) ≡ (if n == v then bit_at found n else 0)
 bit_heard p n found v = let low : bit_at found n < 2 = bit_at-lt found n in dite (ℕ_discrete (bit_at found n) 0)
     (λ e. ap (λ (b : Bool). how_many (is_interrupt_by v) (if b then [] else line.Interrupt p n ∷ [])) (eq-eqb (bit_at found n) 0 e) ∙ (many_none (is_interrupt_by v) ∙ sym (either_zero (n == v) e)))
     (λ ne. ap (λ (b : Bool). how_many (is_interrupt_by v) (if b then [] else line.Interrupt p n ∷ [])) (ne_eqb (bit_at found n) 0 ne) ∙ (many_one (is_interrupt_by v) (line.Interrupt p n) ∙ either_one (n == v) (omega arith)))
@@ -111,17 +111,17 @@ bit_heard p n found v = let low : bit_at found n < 2 = bit_at-lt found n in dite
     either_one true e = sym e
     either_one false e = refl
 
-any_heard : (p n found : ℕ) → how_many is_interrupt (heard_bit p n found) ≡ bit_at found n
+any_heard : (p n found : ℕ) → how_many is_interrupt (interrupt_line p n found) ≡ bit_at found n
 any_heard p n found = let low : bit_at found n < 2 = bit_at-lt found n in dite (ℕ_discrete (bit_at found n) 0)
     (λ e. ap (λ (b : Bool). how_many is_interrupt (if b then [] else line.Interrupt p n ∷ [])) (eq-eqb (bit_at found n) 0 e) ∙ (many_none is_interrupt ∙ sym e))
     (λ ne. ap (λ (b : Bool). how_many is_interrupt (if b then [] else line.Interrupt p n ∷ [])) (ne_eqb (bit_at found n) 0 ne) ∙ (many_one is_interrupt (line.Interrupt p n) ∙ (let one : 1 ≡ bit_at found n = omega arith in one)))
 
-heard_most : (n p found v : ℕ) → how_many (is_interrupt_by v) (heard n p found) ≤ (if nat_lt v n then bit_at found v else 0)
-unfolding heard
+heard_most : (n p found v : ℕ) → how_many (is_interrupt_by v) (interrupt_lines n p found) ≤ (if nat_lt v n then bit_at found v else 0)
+unfolding interrupt_lines
 heard_most zero p found v = let e : how_many (is_interrupt_by v) [] ≡ 0 = many_none (is_interrupt_by v) in omega arith
-heard_most (suc n) p found v = let a : how_many (is_interrupt_by v) (heard n p found ++ heard_bit p n found) ≡ how_many (is_interrupt_by v) (heard n p found) + how_many (is_interrupt_by v) (heard_bit p n found) = many_both (is_interrupt_by v) (heard n p found) (heard_bit p n found) in
-    let d : how_many (is_interrupt_by v) (heard_bit p n found) ≡ (if n == v then bit_at found n else 0) = bit_heard p n found v in
-    let was : how_many (is_interrupt_by v) (heard n p found) ≤ (if nat_lt v n then bit_at found v else 0) = heard_most n p found v in dite (ℕ_discrete n v)
+heard_most (suc n) p found v = let a : how_many (is_interrupt_by v) (interrupt_lines n p found ++ interrupt_line p n found) ≡ how_many (is_interrupt_by v) (interrupt_lines n p found) + how_many (is_interrupt_by v) (interrupt_line p n found) = many_both (is_interrupt_by v) (interrupt_lines n p found) (interrupt_line p n found) in
+    let d : how_many (is_interrupt_by v) (interrupt_line p n found) ≡ (if n == v then bit_at found n else 0) = bit_heard p n found v in
+    let was : how_many (is_interrupt_by v) (interrupt_lines n p found) ≤ (if nat_lt v n then bit_at found v else 0) = heard_most n p found v in dite (ℕ_discrete n v)
     (λ e. let low : (if nat_lt v n then bit_at found v else 0) ≡ 0 = ap (λ (b : Bool). if b then bit_at found v else 0) (not_below v n (omega arith)) in
     let here : (if n == v then bit_at found n else 0) ≡ bit_at found v = ap (λ (b : Bool). if b then bit_at found n else 0) (eq-eqb n v e) ∙ ap (bit_at found) e in
     let next : (if nat_lt v (suc n) then bit_at found v else 0) ≡ bit_at found v = ap (λ (b : Bool). if b then bit_at found v else 0) (is_below v (suc n) (omega arith)) in omega arith)
@@ -137,21 +137,21 @@ heard_most (suc n) p found v = let a : how_many (is_interrupt_by v) (heard n p f
     same_below : (a b : ℕ) → b ≢ a → nat_lt a (suc b) ≡ nat_lt a b
     same_below a b ne = dite (dec_lt a b) (λ lt. is_below a (suc b) (omega arith) ∙ sym (is_below a b lt)) (λ ge. not_below a (suc b) (omega arith) ∙ sym (not_below a b (omega arith)))
 
-look_most : (p found v : ℕ) → how_many (is_interrupt_by v) (heard 64 p found) ≤ bit_at found v
+look_most : (p found v : ℕ) → how_many (is_interrupt_by v) (interrupt_lines 64 p found) ≤ bit_at found v
 look_most p found v = cut (nat_lt v 64) (heard_most 64 p found v)
   where
-    cut : (b : Bool) → how_many (is_interrupt_by v) (heard 64 p found) ≤ (if b then bit_at found v else 0) → how_many (is_interrupt_by v) (heard 64 p found) ≤ bit_at found v
+    cut : (b : Bool) → how_many (is_interrupt_by v) (interrupt_lines 64 p found) ≤ (if b then bit_at found v else 0) → how_many (is_interrupt_by v) (interrupt_lines 64 p found) ≤ bit_at found v
     cut true le = le
     cut false le = omega arith
 
-heard_all : (n p found : ℕ) → how_many is_interrupt (heard n p found) ≡ tally n (λ b. bit_at found b)
-unfolding heard tally
+heard_all : (n p found : ℕ) → how_many is_interrupt (interrupt_lines n p found) ≡ tally n (λ b. bit_at found b)
+unfolding interrupt_lines tally
 heard_all zero p found = many_none is_interrupt
-heard_all (suc n) p found = many_both is_interrupt (heard n p found) (heard_bit p n found) ∙ (λ i. heard_all n p found i + any_heard p n found i)
+heard_all (suc n) p found = many_both is_interrupt (interrupt_lines n p found) (interrupt_line p n found) ∙ (λ i. heard_all n p found i + any_heard p n found i)
 
 -- The looks of turns
 
-blind_rung : (v : ℕ) (way : Way) (target : ℕ) → weigh {A = Deed Touch} (finds v) (rung_by way target) ≡ 0
+blind_rung : (v : ℕ) (doorbell_path : DoorbellPath) (target : ℕ) → weigh {A = MemoryOp ObservedAccess} (finds v) (rung_by doorbell_path target) ≡ 0
 unfolding weigh finds
 blind_rung v Silent target = refl
 blind_rung v (Direct b) target = refl
@@ -162,10 +162,10 @@ unfolding weigh finds
 blind_step v routes (access.Read word) value = refl
 blind_step v routes (access.Write word written) value = refl
 blind_step v routes (access.State state) value = refl
-blind_step v routes (access.Ring target vector) value = blind_rung v (way_to routes target vector) target
+blind_step v routes (access.Ring target vector) value = blind_rung v (doorbell_path_to routes target vector) target
 blind_step v routes access.Nothing value = refl
 
-blind_clear : (v : ℕ) (a : Access) (found : ℕ) → weigh {A = Deed Touch} (finds v) (cleared_by a found) ≡ 0
+blind_clear : (v : ℕ) (a : Access) (found : ℕ) → weigh {A = MemoryOp ObservedAccess} (finds v) (cleared_by a found) ≡ 0
 unfolding weigh finds
 blind_clear v (access.Read word) found = refl
 blind_clear v (access.Write word written) found = refl
@@ -173,33 +173,33 @@ blind_clear v (access.State state) found = refl
 blind_clear v (access.Ring target vector) found = refl
 blind_clear v access.Nothing found = refl
 
-seen_look : (v found : ℕ) → weigh {A = Deed Touch} (finds v) (looked found ∷ []) ≡ bit_at found v
-seen_look v found = weigh_one (finds v) (looked found) ∙ finds_looked (Deed Touch) v found
+seen_look : (v found : ℕ) → weigh {A = MemoryOp ObservedAccess} (finds v) (looked found ∷ []) ≡ bit_at found v
+seen_look v found = weigh_one (finds v) (looked found) ∙ finds_looked (MemoryOp ObservedAccess) v found
 
 -- what a turn tells is at most what it found
-record Hears (lines : List Line) (acts : List (Action (Deed Touch))) : Type 0 where
+record Hears (lines : List Line) (acts : List (Action (MemoryOp ObservedAccess))) : Type 0 where
   each : (v : ℕ) → how_many (is_interrupt_by v) lines ≤ weigh (finds v) acts
   all : how_many is_interrupt lines ≤ tally 64 (λ v. weigh (finds v) acts)
 
-silent_hears : (lines : List Line) (acts : List (Action (Deed Touch))) → IsSilent lines → Hears lines acts
+silent_hears : (lines : List Line) (acts : List (Action (MemoryOp ObservedAccess))) → IsSilent lines → Hears lines acts
 silent_hears lines acts s = record { each = λ v. let none : how_many (is_interrupt_by v) lines ≡ 0 = s.1 v in omega arith; all = let none = s.0 in omega arith }
 
-turn_hears : (p : ℕ) (routes : List Route) (turn : Turn) → Hears (told_in p turn) (acted_in routes turn)
+turn_hears : (p : ℕ) (routes : List Route) (turn : Turn) → Hears (lines_in p turn) (acted_in routes turn)
 turn_hears p routes (Looks found) = record {
-  each = λ v. let a : how_many (is_interrupt_by v) (heard 64 p found) ≤ bit_at found v = look_most p found v in let b : weigh {A = Deed Touch} (finds v) (looked found ∷ []) ≡ bit_at found v = seen_look v found in omega arith;
-  all = let a : how_many is_interrupt (heard 64 p found) ≡ tally 64 (λ b. bit_at found b) = heard_all 64 p found in
-      let b : tally 64 (λ v. weigh {A = Deed Touch} (finds v) (looked found ∷ [])) ≡ tally 64 (λ b. bit_at found b) = tally_same 64 _ _ (λ v lt. seen_look v found) in omega arith;
+  each = λ v. let a : how_many (is_interrupt_by v) (interrupt_lines 64 p found) ≤ bit_at found v = look_most p found v in let b : weigh {A = MemoryOp ObservedAccess} (finds v) (looked found ∷ []) ≡ bit_at found v = seen_look v found in omega arith;
+  all = let a : how_many is_interrupt (interrupt_lines 64 p found) ≡ tally 64 (λ b. bit_at found b) = heard_all 64 p found in
+      let b : tally 64 (λ v. weigh {A = MemoryOp ObservedAccess} (finds v) (looked found ∷ [])) ≡ tally 64 (λ b. bit_at found b) = tally_same 64 _ _ (λ v lt. seen_look v found) in omega arith;
 }
-turn_hears p routes (Makes first step) = silent_hears (told_in p (Makes first step)) (acted_in routes (Makes first step)) (step_silent p first step.access step.value step.marks)
-turn_hears p routes (Clears step found) = silent_hears (told_in p (Clears step found)) (acted_in routes (Clears step found)) (silent_both (access_lines p step.access step.value) (map (mark_line p) (marks_of (Clears step found))) (access_silent p step.access step.value) (marks_silent p (marks_of (Clears step found))))
-turn_hears p routes (Rings step) = silent_hears (told_in p (Rings step)) (acted_in routes (Rings step)) (marks_silent p step.marks)
+turn_hears p routes (Makes first step) = silent_hears (lines_in p (Makes first step)) (acted_in routes (Makes first step)) (step_silent p first step.access step.value step.marks)
+turn_hears p routes (Clears step found) = silent_hears (lines_in p (Clears step found)) (acted_in routes (Clears step found)) (silent_both (access_lines p step.access step.value) (map (mark_line p) (marks_of (Clears step found))) (access_silent p step.access step.value) (marks_silent p (marks_of (Clears step found))))
+turn_hears p routes (Rings step) = silent_hears (lines_in p (Rings step)) (acted_in routes (Rings step)) (marks_silent p step.marks)
 turn_hears p routes (Stores number) = silent_hears [] (acted_in routes (Stores number)) silent_none
 turn_hears p routes (Loads number) = silent_hears [] (acted_in routes (Loads number)) silent_none
-turn_hears p routes (Enters step opened other) = silent_hears (told_in p (Enters step opened other)) (acted_in routes (Enters step opened other)) (silent_both (access_lines p step.access step.value) (line.Session p opened other ∷ map (mark_line p) step.marks) (access_silent p step.access step.value)
+turn_hears p routes (Enters step opened other) = silent_hears (lines_in p (Enters step opened other)) (acted_in routes (Enters step opened other)) (silent_both (access_lines p step.access step.value) (line.Session p opened other ∷ map (mark_line p) step.marks) (access_silent p step.access step.value)
     (silent_both (line.Session p opened other ∷ []) (map (mark_line p) step.marks) (session_silent p opened other) (marks_silent p step.marks)))
 turn_hears p routes Restarts = silent_hears (line.Reset p ∷ []) (acted_in routes Restarts) (reset_silent p)
 
-hears_both : (xs ys : List Line) (ls rs : List (Action (Deed Touch))) → Hears xs ls → Hears ys rs → Hears (xs ++ ys) (ls ++ rs)
+hears_both : (xs ys : List Line) (ls rs : List (Action (MemoryOp ObservedAccess))) → Hears xs ls → Hears ys rs → Hears (xs ++ ys) (ls ++ rs)
 hears_both xs ys ls rs one other = record {
   each = λ v. let a : how_many (is_interrupt_by v) (xs ++ ys) ≡ how_many (is_interrupt_by v) xs + how_many (is_interrupt_by v) ys = many_both (is_interrupt_by v) xs ys in
       let b : weigh (finds v) (ls ++ rs) ≡ weigh (finds v) ls + weigh (finds v) rs = weigh_append (finds v) ls rs in let c = one.each v in let d = other.each v in omega arith;
@@ -208,10 +208,10 @@ hears_both xs ys ls rs one other = record {
       let c = one.all in let d = other.all in omega arith;
 }
 
-turns_hear : (p : ℕ) (routes : List Route) (turns : List Turn) → Hears (told_of p turns) (actions_in routes turns)
-unfolding told_of actions_in
+turns_hear : (p : ℕ) (routes : List Route) (turns : List Turn) → Hears (lines_of_turns p turns) (actions_in routes turns)
+unfolding lines_of_turns actions_in
 turns_hear p routes [] = silent_hears [] [] silent_none
-turns_hear p routes (turn ∷ turns) = hears_both (told_in p turn) (told_of p turns) (acted_in routes turn) (actions_in routes turns) (turn_hears p routes turn) (turns_hear p routes turns)
+turns_hear p routes (turn ∷ turns) = hears_both (lines_in p turn) (lines_of_turns p turns) (acted_in routes turn) (actions_in routes turns) (turn_hears p routes turn) (turns_hear p routes turns)
 
 -- The rings of turns, each with its doorbell
 
@@ -221,27 +221,27 @@ first_access Ended = access.Nothing
 first_access (Does a marks rest) = a
 first_access (Reads word marks rest) = access.Read word
 
-abbrev access_by : Who → (ℕ → Step) → Driver → Peer → Access
-access_by who storm (Storms x) peer = (storm x).access
-access_by who storm _ peer = first_access (opened who peer).left
+abbrev access_by : EndConfig → (ℕ → Step) → Driver → Peer → Access
+access_by config storm (Storms x) peer = (storm x).access
+access_by config storm _ peer = first_access (opened config peer).left
 
 goes_by : (tree new : CallTree) (step : Step) → Goes tree step new → step.access ≡ first_access tree
 goes_by Ended new step goes = absurd goes
 goes_by (Does a marks rest) new step goes = ap (λ (s : Step). s.access) goes.0
 goes_by (Reads word marks rest) new step goes = ap (λ (s : Step). s.access) goes.1
 
-takes_by : (who : Who) (storm : ℕ → Step) (driver : Driver) (peer after : Peer) (step : Step) → TakesStep who storm driver peer step after → step.access ≡ access_by who storm driver peer
-takes_by who storm (Storms x) peer after step took = ap (λ (s : Step). s.access) took.0
-takes_by who storm Waits peer after step took = goes_by (opened who peer).left took.0 step took.1
-takes_by who storm (Chooses auto) peer after step took = goes_by (opened who peer).left took.0 step took.1
+takes_by : (config : EndConfig) (storm : ℕ → Step) (driver : Driver) (peer after : Peer) (step : Step) → TakesStep config storm driver peer step after → step.access ≡ access_by config storm driver peer
+takes_by config storm (Storms x) peer after step took = ap (λ (s : Step). s.access) took.0
+takes_by config storm Waits peer after step took = goes_by (opened config peer).left took.0 step took.1
+takes_by config storm (Chooses auto) peer after step took = goes_by (opened config peer).left took.0 step took.1
 
 module _ (routes : List Route) (p target v : ℕ) (intx : Bool) (line_is : (route_to routes target).intx ≡ intx) where
   -- how often its ring is one of this bit at this target
   abbrev ringing_by : Access → ℕ
   ringing_by a = weigh (rings target v) (acted_by routes a 0)
 
-  abbrev to_come : Who → (ℕ → Step) → Running → ℕ
-  to_come who storm run = if run.ringing then ringing_by (access_by who storm run.peer.driver run.peer) else 0
+  abbrev to_come : EndConfig → (ℕ → Step) → Running → ℕ
+  to_come config storm run = if run.ringing then ringing_by (access_by config storm run.peer.driver run.peer) else 0
 
   rung_bit : (shot : Bool) (vector b : ℕ) → (o : Option ℕ) → o ≡ Some b → (o ≡ bit_rung (route_to routes target) vector) → b ≡ bit_for (route_to routes target) vector
   rung_bit shot vector b o some is = sym (chosen (route_to routes target).enabled _ (sym is ∙ some))
@@ -262,27 +262,27 @@ module _ (routes : List Route) (p target v : ℕ) (intx : Bool) (line_is : (rout
           few false = omega arith
       go false e = let same : b ≡ vector = is ∙ ap (λ (x : Bool). if x then 0 else vector) e in subst (λ k. one_if (b == v) ≤ one_if (k == v)) same (omega arith)
 
-  way_rings : (shot : Bool) (o : Option ℕ) (vector : ℕ) → o ≡ bit_rung (route_to routes target) vector → weigh {A = Deed Touch} (rings target v) (rung_by (way_by shot o) target) ≤ one_if (intx || vector == v)
+  way_rings : (shot : Bool) (o : Option ℕ) (vector : ℕ) → o ≡ bit_rung (route_to routes target) vector → weigh {A = MemoryOp ObservedAccess} (rings target v) (rung_by (doorbell_path_by shot o) target) ≤ one_if (intx || vector == v)
   unfolding weigh rings
   way_rings shot None vector is = omega arith
   way_rings true (Some b) vector is = let le = by_line vector b (rung_bit true vector b (Some b) refl is) in let e : one_if ((target == target) && (b == v)) ≡ one_if (b == v) = ap (λ (x : Bool). one_if (x && (b == v))) (eq-eqb target target refl) in omega arith
   way_rings false (Some b) vector is = let le = by_line vector b (rung_bit false vector b (Some b) refl is) in let e : one_if ((target == target) && (b == v)) ≡ one_if (b == v) = ap (λ (x : Bool). one_if (x && (b == v))) (eq-eqb target target refl) in omega arith
 
-  other_rings : (way : Way) (at : ℕ) → (at == target) ≡ false → weigh {A = Deed Touch} (rings target v) (rung_by way at) ≡ 0
+  other_rings : (doorbell_path : DoorbellPath) (at : ℕ) → (at == target) ≡ false → weigh {A = MemoryOp ObservedAccess} (rings target v) (rung_by doorbell_path at) ≡ 0
   unfolding weigh rings
   other_rings Silent at ne = refl
   other_rings (Direct b) at ne = ap (λ (x : Bool). one_if (x && (b == v)) + 0) ne
   other_rings (Guarded b) at ne = ap (λ (x : Bool). one_if (x && (b == v)) + 0) ne
 
   -- a doorbell's ring, and its line
-  bell_rings : (at vector : ℕ) → weigh {A = Deed Touch} (rings target v) (rung_by (way_to routes at vector) at) ≤ one_if ((at == target) && (intx || vector == v))
-  unfolding way_to
+  bell_rings : (at vector : ℕ) → weigh {A = MemoryOp ObservedAccess} (rings target v) (rung_by (doorbell_path_to routes at vector) at) ≤ one_if ((at == target) && (intx || vector == v))
+  unfolding doorbell_path_to
   bell_rings at vector = by (at == target) refl
     where
-      by : (b : Bool) → (at == target) ≡ b → weigh {A = Deed Touch} (rings target v) (rung_by (way_to routes at vector) at) ≤ one_if (b && (intx || vector == v))
-      by true e = let same : at ≡ target = eqb-true at target e in subst (λ k. weigh {A = Deed Touch} (rings target v) (rung_by (way_to routes k vector) k) ≤ one_if (intx || vector == v)) (sym same)
+      by : (b : Bool) → (at == target) ≡ b → weigh {A = MemoryOp ObservedAccess} (rings target v) (rung_by (doorbell_path_to routes at vector) at) ≤ one_if (b && (intx || vector == v))
+      by true e = let same : at ≡ target = eqb-true at target e in subst (λ k. weigh {A = MemoryOp ObservedAccess} (rings target v) (rung_by (doorbell_path_to routes k vector) k) ≤ one_if (intx || vector == v)) (sym same)
           (way_rings (route_to routes target).one_shot (bit_rung (route_to routes target) vector) vector refl)
-      by false e = let none : weigh {A = Deed Touch} (rings target v) (rung_by (way_to routes at vector) at) ≡ 0 = other_rings (way_to routes at vector) at e in omega arith
+      by false e = let none : weigh {A = MemoryOp ObservedAccess} (rings target v) (rung_by (doorbell_path_to routes at vector) at) ≡ 0 = other_rings (doorbell_path_to routes at vector) at e in omega arith
 
   step_rings : (a : Access) (value : ℕ) → weigh (rings target v) (acted_by routes a value) ≡ ringing_by a
   unfolding weigh rings
@@ -311,7 +311,7 @@ module _ (routes : List Route) (p target v : ℕ) (intx : Bool) (line_is : (rout
       many_both (is_bell intx target v) (access_lines p (access.Ring at vector) value) (map (mark_line p) marks) in omega arith
   step_bells first access.Nothing value marks = omega arith
 
-  clear_rings : (a : Access) (found : ℕ) → weigh {A = Deed Touch} (rings target v) (cleared_by a found) ≡ 0
+  clear_rings : (a : Access) (found : ℕ) → weigh {A = MemoryOp ObservedAccess} (rings target v) (cleared_by a found) ≡ 0
   unfolding weigh rings
   clear_rings (access.Read word) found = refl
   clear_rings (access.Write word written) found = refl
@@ -319,78 +319,78 @@ module _ (routes : List Route) (p target v : ℕ) (intx : Bool) (line_is : (rout
   clear_rings (access.Ring at vector) found = refl
   clear_rings access.Nothing found = refl
 
-  deed_rings : (d : Deed Touch) → weigh (rings target v) (accessed d ∷ []) ≡ 0
+  deed_rings : (d : MemoryOp ObservedAccess) → weigh (rings target v) (accessed d ∷ []) ≡ 0
   unfolding weigh rings
   deed_rings d = refl
 
   -- a turn's rings, and those that are to come, are at most its doorbells and those that were to come
-  turn_bells : (who : Who) (storm : ℕ → Step) (turn : Turn) (run after : Running) → TakesTurn who storm routes run turn after →
-      weigh (rings target v) (acted_in routes turn) + to_come who storm after ≤ how_many (is_bell intx target v) (told_in p turn) + to_come who storm run
-  turn_bells who storm (Looks found) run after took = let none : weigh {A = Deed Touch} (rings target v) (looked found ∷ []) ≡ 0 = weigh_one (rings target v) (looked found) ∙ rings_looked (Deed Touch) target v found in
-      let same : to_come who storm after ≡ to_come who storm run = ap (to_come who storm) took.2 in omega arith
-  turn_bells who storm (Makes first step) run after took = let same : to_come who storm after ≡ 0 = ap (to_come who storm) took.1.4 in let here = step_bells first step.access step.value step.marks in let rung = step_rings step.access step.value in omega arith
-  turn_bells who storm (Clears step found) run after took = let rung = clear_rings step.access found in let here = line_bells step.access step.value in
+  turn_bells : (config : EndConfig) (storm : ℕ → Step) (turn : Turn) (run after : Running) → TakesTurn config storm routes run turn after →
+      weigh (rings target v) (acted_in routes turn) + to_come config storm after ≤ how_many (is_bell intx target v) (lines_in p turn) + to_come config storm run
+  turn_bells config storm (Looks found) run after took = let none : weigh {A = MemoryOp ObservedAccess} (rings target v) (looked found ∷ []) ≡ 0 = weigh_one (rings target v) (looked found) ∙ rings_looked (MemoryOp ObservedAccess) target v found in
+      let same : to_come config storm after ≡ to_come config storm run = ap (to_come config storm) took.2 in omega arith
+  turn_bells config storm (Makes first step) run after took = let same : to_come config storm after ≡ 0 = ap (to_come config storm) took.1.4 in let here = step_bells first step.access step.value step.marks in let rung = step_rings step.access step.value in omega arith
+  turn_bells config storm (Clears step found) run after took = let rung = clear_rings step.access found in let here = line_bells step.access step.value in
       let both : how_many (is_bell intx target v) (access_lines p step.access step.value ++ map (mark_line p) (marks_of (Clears step found))) ≡ how_many (is_bell intx target v) (access_lines p step.access step.value) + how_many (is_bell intx target v) (map (mark_line p) (marks_of (Clears step found))) =
       many_both (is_bell intx target v) (access_lines p step.access step.value) (map (mark_line p) (marks_of (Clears step found))) in
-      let later : to_come who storm after ≤ ringing_by step.access = subst (λ (r : Running). to_come who storm r ≤ ringing_by step.access) (sym took.1.2) (held (is_set found)) in omega arith
+      let later : to_come config storm after ≤ ringing_by step.access = subst (λ (r : Running). to_come config storm r ≤ ringing_by step.access) (sym took.1.2) (held (is_set found)) in omega arith
     where
-      same : access_by who storm run.peer.driver run.peer ≡ step.access
-      same = sym (takes_by who storm run.peer.driver run.peer took.1.0 step took.1.1.takes)
+      same : access_by config storm run.peer.driver run.peer ≡ step.access
+      same = sym (takes_by config storm run.peer.driver run.peer took.1.0 step took.1.1.takes)
 
-      held : (b : Bool) → to_come who storm (if b then record run { looks = 0; ringing = true; spans = spent run.spans } else steps_on run step.access took.1.0) ≤ ringing_by step.access
-      held true = let e : ringing_by (access_by who storm run.peer.driver run.peer) ≡ ringing_by step.access = ap ringing_by same in omega arith
+      held : (b : Bool) → to_come config storm (if b then record run { looks = 0; ringing = true; spans = spent run.spans } else steps_on run step.access took.1.0) ≤ ringing_by step.access
+      held true = let e : ringing_by (access_by config storm run.peer.driver run.peer) ≡ ringing_by step.access = ap ringing_by same in omega arith
       held false = omega arith
-  turn_bells who storm (Rings step) run after took = let same : to_come who storm after ≡ 0 = ap (to_come who storm) took.1.2 in let rung = step_rings step.access step.value in
-      let was : to_come who storm run ≡ ringing_by step.access = ap (λ (b : Bool). if b then ringing_by (access_by who storm run.peer.driver run.peer) else 0) took.1.1.rings ∙ ap ringing_by (sym (takes_by who storm run.peer.driver run.peer took.1.0 step took.1.1.takes)) in omega arith
-  turn_bells who storm (Stores number) run after took = let none : weigh (rings target v) (acted_in routes (Stores number)) ≡ 0 = deed_rings (numbered number) in let same : to_come who storm after ≡ to_come who storm run = ap (to_come who storm) took.4 in omega arith
-  turn_bells who storm (Loads number) run after took = let none : weigh (rings target v) (acted_in routes (Loads number)) ≡ 0 = deed_rings (carried number) in let same : to_come who storm after ≡ to_come who storm run = ap (to_come who storm) took.3 in omega arith
-  turn_bells who storm (Enters step opened other) run after took = let same : to_come who storm after ≡ 0 = ap (to_come who storm) took.3.2 in let here = line_bells step.access step.value in let rung = step_rings step.access step.value in
+  turn_bells config storm (Rings step) run after took = let same : to_come config storm after ≡ 0 = ap (to_come config storm) took.1.2 in let rung = step_rings step.access step.value in
+      let was : to_come config storm run ≡ ringing_by step.access = ap (λ (b : Bool). if b then ringing_by (access_by config storm run.peer.driver run.peer) else 0) took.1.1.rings ∙ ap ringing_by (sym (takes_by config storm run.peer.driver run.peer took.1.0 step took.1.1.takes)) in omega arith
+  turn_bells config storm (Stores number) run after took = let none : weigh (rings target v) (acted_in routes (Stores number)) ≡ 0 = deed_rings (numbered number) in let same : to_come config storm after ≡ to_come config storm run = ap (to_come config storm) took.4 in omega arith
+  turn_bells config storm (Loads number) run after took = let none : weigh (rings target v) (acted_in routes (Loads number)) ≡ 0 = deed_rings (carried number) in let same : to_come config storm after ≡ to_come config storm run = ap (to_come config storm) took.3 in omega arith
+  turn_bells config storm (Enters step opened other) run after took = let same : to_come config storm after ≡ 0 = ap (to_come config storm) took.3.2 in let here = line_bells step.access step.value in let rung = step_rings step.access step.value in
       let both : how_many (is_bell intx target v) (access_lines p step.access step.value ++ line.Session p opened other ∷ map (mark_line p) step.marks) ≡ how_many (is_bell intx target v) (access_lines p step.access step.value) + how_many (is_bell intx target v) (line.Session p opened other ∷ map (mark_line p) step.marks) =
       many_both (is_bell intx target v) (access_lines p step.access step.value) (line.Session p opened other ∷ map (mark_line p) step.marks) in omega arith
-  turn_bells who storm Restarts run after took = let none : weigh (rings target v) (acted_in routes Restarts) ≡ 0 = deed_rings restarted in let same : to_come who storm after ≡ 0 = ap (to_come who storm) took.2 in omega arith
+  turn_bells config storm Restarts run after took = let none : weigh (rings target v) (acted_in routes Restarts) ≡ 0 = deed_rings restarted in let same : to_come config storm after ≡ 0 = ap (to_come config storm) took.2 in omega arith
 
-  turns_bells : (who : Who) (storm : ℕ → Step) (turns : List Turn) (run after : Running) → TakesTurns who storm routes run turns after → weigh (rings target v) (actions_in routes turns) ≤ how_many (is_bell intx target v) (told_of p turns) + to_come who storm run
-  unfolding TakesTurns actions_in told_of
-  turns_bells who storm [] run after took = let none : weigh {A = Deed Touch} (rings target v) [] ≡ 0 = weigh_none (rings target v) in omega arith
-  turns_bells who storm (turn ∷ turns) run after took = let rest = turns_bells who storm turns took.0 after took.2 in let here = turn_bells who storm turn run took.0 took.1 in
+  turns_bells : (config : EndConfig) (storm : ℕ → Step) (turns : List Turn) (run after : Running) → TakesTurns config storm routes run turns after → weigh (rings target v) (actions_in routes turns) ≤ how_many (is_bell intx target v) (lines_of_turns p turns) + to_come config storm run
+  unfolding TakesTurns actions_in lines_of_turns
+  turns_bells config storm [] run after took = let none : weigh {A = MemoryOp ObservedAccess} (rings target v) [] ≡ 0 = weigh_none (rings target v) in omega arith
+  turns_bells config storm (turn ∷ turns) run after took = let rest = turns_bells config storm turns took.0 after took.2 in let here = turn_bells config storm turn run took.0 took.1 in
       let a : weigh (rings target v) (acted_in routes turn ++ actions_in routes turns) ≡ weigh (rings target v) (acted_in routes turn) + weigh (rings target v) (actions_in routes turns) = weigh_append (rings target v) (acted_in routes turn) (actions_in routes turns) in
-      let b : how_many (is_bell intx target v) (told_in p turn ++ told_of p turns) ≡ how_many (is_bell intx target v) (told_in p turn) + how_many (is_bell intx target v) (told_of p turns) = many_both (is_bell intx target v) (told_in p turn) (told_of p turns) in omega arith
+      let b : how_many (is_bell intx target v) (lines_in p turn ++ lines_of_turns p turns) ≡ how_many (is_bell intx target v) (lines_in p turn) + how_many (is_bell intx target v) (lines_of_turns p turns) = many_both (is_bell intx target v) (lines_in p turn) (lines_of_turns p turns) in omega arith
 
-  pub run_bells : (who : Who) (storm : ℕ → Step) (turns : List Turn) (start : Peer) (spans : List ℕ) (after : Running) → TakesTurns who storm routes (comes_to start spans) turns after → weigh (rings target v) (actions_in routes turns) ≤ how_many (is_bell intx target v) (told_of p turns)
-  run_bells who storm turns start spans after took = let most = turns_bells who storm turns (comes_to start spans) after took in omega arith
+  pub run_bells : (config : EndConfig) (storm : ℕ → Step) (turns : List Turn) (start : Peer) (spans : List ℕ) (after : Running) → TakesTurns config storm routes (comes_to start spans) turns after → weigh (rings target v) (actions_in routes turns) ≤ how_many (is_bell intx target v) (lines_of_turns p turns)
+  run_bells config storm turns start spans after took = let most = turns_bells config storm turns (comes_to start spans) after took in omega arith
 
 -- Lists are counted as they are shown
 
-finds_seen : (v : ℕ) (t : Action (Deed Taken)) → finds v (seen_by (deed_by touch_of) t) ≡ finds v t
+finds_seen : (v : ℕ) (t : Action (MemoryOp CallAccess)) → finds v (seen_by (memory_op_by touch_of) t) ≡ finds v t
 unfolding finds
 finds_seen v (accessed a) = refl
 finds_seen v (rang at b) = refl
 finds_seen v (looked found) = refl
 finds_seen v (cleared at found) = refl
 
-rings_seen : (target v : ℕ) (t : Action (Deed Taken)) → rings target v (seen_by (deed_by touch_of) t) ≡ rings target v t
+rings_seen : (target v : ℕ) (t : Action (MemoryOp CallAccess)) → rings target v (seen_by (memory_op_by touch_of) t) ≡ rings target v t
 unfolding rings
 rings_seen target v (accessed a) = refl
 rings_seen target v (rang at b) = refl
 rings_seen target v (looked found) = refl
 rings_seen target v (cleared at found) = refl
 
-weigh_seen : (f : Action (Deed Touch) → ℕ) (g : Action (Deed Taken) → ℕ) → ((t : Action (Deed Taken)) → f (seen_by (deed_by touch_of) t) ≡ g t) → (list : List (Action (Deed Taken))) → weigh f (shown list) ≡ weigh g list
+weigh_seen : (f : Action (MemoryOp ObservedAccess) → ℕ) (g : Action (MemoryOp CallAccess) → ℕ) → ((t : Action (MemoryOp CallAccess)) → f (seen_by (memory_op_by touch_of) t) ≡ g t) → (list : List (Action (MemoryOp CallAccess))) → weigh f (shown list) ≡ weigh g list
 unfolding weigh
 weigh_seen f g same [] = refl
 weigh_seen f g same (t ∷ list) = λ i. same t i + weigh_seen f g same list i
 
 -- what a peer that took these turns tells
-pub record Tells (routes : List Route) (p : ℕ) (list : List (Action (Deed Taken))) (lines : List Line) : Type 0 where
+pub record Tells (routes : List Route) (p : ℕ) (list : List (Action (MemoryOp CallAccess))) (lines : List Line) : Type 0 where
   pub each : (v : ℕ) → how_many (is_interrupt_by v) lines ≤ weigh (finds v) list
   pub all : how_many is_interrupt lines ≤ tally 64 (λ v. weigh (finds v) list)
   pub bells : (target v : ℕ) → weigh (rings target v) list ≤ how_many (is_bell (route_to routes target).intx target v) lines
 
-pub turns_tell : (routes : List Route) (p : ℕ) (who : Who) (storm : ℕ → Step) (turns : List Turn) (start : Peer) (spans : List ℕ) (after : Running) (list : List (Action (Deed Taken))) → TakesTurns who storm routes (comes_to start spans) turns after → shown list ≡ actions_in routes turns → Tells routes p list (told_of p turns)
-turns_tell routes p who storm turns start spans after list took made = let hears = turns_hear p routes turns in
+pub turns_tell : (routes : List Route) (p : ℕ) (config : EndConfig) (storm : ℕ → Step) (turns : List Turn) (start : Peer) (spans : List ℕ) (after : Running) (list : List (Action (MemoryOp CallAccess))) → TakesTurns config storm routes (comes_to start spans) turns after → shown list ≡ actions_in routes turns → Tells routes p list (lines_of_turns p turns)
+turns_tell routes p config storm turns start spans after list took made = let hears = turns_hear p routes turns in
     let found : (v : ℕ) → weigh (finds v) (actions_in routes turns) ≡ weigh (finds v) list = λ v. ap (weigh (finds v)) (sym made) ∙ weigh_seen (finds v) (finds v) (finds_seen v) list in record {
       each = λ v. let a = hears.each v in let b : weigh (finds v) (actions_in routes turns) ≡ weigh (finds v) list = found v in omega arith;
       all = let a = hears.all in let b : tally 64 (λ v. weigh (finds v) (actions_in routes turns)) ≡ tally 64 (λ v. weigh (finds v) list) = tally_same 64 _ _ (λ v lt. found v) in omega arith;
-      bells = λ target v. let a = run_bells routes p target v (route_to routes target).intx refl who storm turns start spans after took in
+      bells = λ target v. let a = run_bells routes p target v (route_to routes target).intx refl config storm turns start spans after took in
           let b : weigh (rings target v) (actions_in routes turns) ≡ weigh (rings target v) list = ap (weigh (rings target v)) (sym made) ∙ weigh_seen (rings target v) (rings target v) (rings_seen target v) list in omega arith;
     }

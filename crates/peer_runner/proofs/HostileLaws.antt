@@ -3,10 +3,10 @@ use Rattle.std.proofs.Common.{◌≡◌, ◌≢◌, ℕ, ◌^◌, ◌<◌, ◌�
 use Rattle.std.specs.Prelude.{None}
 use Rattle.section_map.specs.MayWrite.{InSection}
 use Rattle.split_ring.specs.declared.steps.Access.TheVariants as access
-use Rattle.ends_pair.specs.Steps.{Stored}
-use Rattle.peer_runner.specs.declared.key.Key.{Key}
-use Rattle.peer_runner.specs.Keys.{honest_of, IsFit}
-use Rattle.peer_runner.specs.Standings.{Taken, Deed, called, taken}
+use Rattle.link_invariant.specs.Steps.{Stored}
+use Rattle.peer_runner.specs.declared.run_setup.RunSetup.{RunSetup}
+use Rattle.peer_runner.specs.RunSetups.{honest_of, IsFit}
+use Rattle.peer_runner.specs.DerivedStates.{CallAccess, MemoryOp, called, taken}
 use Rattle.peer_runner.specs.Actions.{Action, accessed}
 use Rattle.peer_runner.specs.Rules.{Memory}
 use Rattle.peer_runner.specs.RunningLaws.{HostileWordsAreFree}
@@ -14,12 +14,12 @@ use Rattle.peer_runner.proofs.Standings.{put, put_here, put_else}
 use Rattle.peer_runner.proofs.Keys.{clash}
 use Rattle.peer_runner.proofs.Touching.{memory_write}
 
-free_lem : (key : Key) (words : List ℕ) (acc : ℕ → List (Action (Deed Taken))) (p w n : ℕ) → IsFit key → Memory key words acc → p < key.geometry.peers → honest_of key p ≡ false → InSection key.geometry p w ⊎ (w ≡ p) → n < 2 ^ 32 →
-    (next : ℕ → List (Action (Deed Taken))) × Memory key (set words w n) next × ((q : ℕ) → q ≢ p → next q ≡ acc q)
+free_lem : (key : RunSetup) (words : List ℕ) (acc : ℕ → List (Action (MemoryOp CallAccess))) (p w n : ℕ) → IsFit key → Memory key words acc → p < key.geometry.peers → honest_of key p ≡ false → InSection key.geometry p w ⊎ (w ≡ p) → n < 2 ^ 32 →
+    (next : ℕ → List (Action (MemoryOp CallAccess))) × Memory key (set words w n) next × ((q : ℕ) → q ≢ p → next q ≡ acc q)
 free_lem key words acc p w n fit m lt h (inl own) small = let t = taken None (access.Write w n) 0 in let list = acc p ++ accessed (called t) ∷ [] in
-    (put acc p list, memory_write key words acc (put acc p list) p w n t fit lt (inl (inl own)) (inl own) small (λ memory. tt) (λ memory after st. st) (λ hp. absurd (clash (sym h ∙ hp))) (record { here = put_here acc p p list refl; beside = λ q ne. put_else acc p q list ne }) m, λ q ne. put_else acc p q list ne)
+    (put acc p list, memory_write key words acc (put acc p list) p w n t fit lt (inl (inl own)) (inl own) small (λ memory. tt) (λ memory after st. st) (λ hp. absurd (clash (sym h ∙ hp))) (record { here = put_here acc p p list refl; neighbour_word = λ q ne. put_else acc p q list ne }) m, λ q ne. put_else acc p q list ne)
 free_lem key words acc p w n fit m lt h (inr own) small = let t = taken None (access.State n) 0 in let list = acc p ++ accessed (called t) ∷ [] in
-    (put acc p list, memory_write key words acc (put acc p list) p w n t fit lt (inr own) tt small (λ memory. tt) (λ memory after st. subst (λ x. Stored memory after x n) own st) (λ hp. absurd (clash (sym h ∙ hp))) (record { here = put_here acc p p list refl; beside = λ q ne. put_else acc p q list ne }) m, λ q ne. put_else acc p q list ne)
+    (put acc p list, memory_write key words acc (put acc p list) p w n t fit lt (inr own) tt small (λ memory. tt) (λ memory after st. subst (λ x. Stored memory after x n) own st) (λ hp. absurd (clash (sym h ∙ hp))) (record { here = put_here acc p p list refl; neighbour_word = λ q ne. put_else acc p q list ne }) m, λ q ne. put_else acc p q list ne)
 
 pub hostile_lem : HostileWordsAreFree
 hostile_lem = record {

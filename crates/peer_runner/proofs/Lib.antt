@@ -23,7 +23,7 @@ pub mod Learns
 pub mod Turning
 pub mod Telling
 pub mod Runs
-pub mod Looking
+pub mod Looks
 pub mod Courses
 pub mod Storming
 pub mod Planning

@@ -1,36 +1,36 @@
--- Deeds that peers do lead the honest ends where their calls reach.
+-- Memory operations that peers do lead the honest ends where their calls reach.
 use Rattle.std.proofs.Common.{◌≡◌, ◌≢◌, ℕ, ◌+◌, ◌<◌, inl, inr, Bool, true, false, List, refl, sym, ap, ◌∙◌}
 use Rattle.split_ring.specs.declared.steps.Access.{Access}
 use Rattle.split_ring.specs.declared.steps.Access.TheVariants as access
-use Rattle.ends_pair.specs.Ground.{section_of}
-use Rattle.ends_pair.specs.Steps.{IsUntouched, Leaves}
-use Rattle.peer_runner.specs.declared.key.Key.{Key}
-use Rattle.peer_runner.specs.Keys.{ground_of, honest_of, IsFit}
-use Rattle.peer_runner.specs.Standings.{Taken, Deed, called, restarted, standing}
-use Rattle.peer_runner.specs.Made.{IsOwned, Made}
-use Rattle.peer_runner.specs.Made as made
+use Rattle.link_invariant.specs.LinkConfig.{section_of}
+use Rattle.link_invariant.specs.Steps.{IsUntouched, MemoryAfter}
+use Rattle.peer_runner.specs.declared.run_setup.RunSetup.{RunSetup}
+use Rattle.peer_runner.specs.RunSetups.{link_config_of, honest_of, IsFit}
+use Rattle.peer_runner.specs.DerivedStates.{CallAccess, MemoryOp, called, restarted, derived_state}
+use Rattle.peer_runner.specs.SharedMemory.{IsOwned, Made}
+use Rattle.peer_runner.specs.SharedMemory as made
 use Rattle.peer_runner.proofs.Reaches as reaches
 use Rattle.peer_runner.proofs.Standings.{standing_none}
 use Rattle.peer_runner.proofs.Keys.{clash, honest_below, apart}
 use Rattle.peer_runner.proofs.Keeping.{R_of, honest_access, honest_store, honest_load, honest_reset, hostile_deed}
 
 -- an access of one peer leaves the words of every other link peer
-untouched : (key : Key) (p q : ℕ) (memory after : ℕ → ℕ) (a : Access) → IsFit key → p < key.geometry.peers → q < 2 → q ≢ p → IsOwned key p a → Leaves p memory a after → IsUntouched (ground_of key) memory after q
+untouched : (key : RunSetup) (p q : ℕ) (memory after : ℕ → ℕ) (a : Access) → IsFit key → p < key.geometry.peers → q < 2 → q ≢ p → IsOwned key p a → MemoryAfter p memory a after → IsUntouched (link_config_of key) memory after q
 untouched key p q memory after (access.Write word value) fit lt q2 ne own leaves = apart key p q word value memory after fit lt q2 ne (inl own) leaves
 untouched key p q memory after (access.State state) fit lt q2 ne own leaves = apart key p q p state memory after fit lt q2 ne (inr refl) leaves
-untouched key p q memory after a fit lt q2 ne own leaves = record { state = ap (λ (m : ℕ → ℕ). m q) leaves; section = λ j below. ap (λ (m : ℕ → ℕ). m (section_of (ground_of key) q + j)) leaves }
+untouched key p q memory after a fit lt q2 ne own leaves = record { state = ap (λ (m : ℕ → ℕ). m q) leaves; section = λ j below. ap (λ (m : ℕ → ℕ). m (section_of (link_config_of key) q + j)) leaves }
 
 pub by_honesty : {P : Type 0} → (b : Bool) → (b ≡ true → P) → (b ≡ false → P) → P
 by_honesty true f g = f refl
 by_honesty false f g = g refl
 
 -- an honest peer is no hostile one
-differs : (key : Key) (p q : ℕ) → honest_of key p ≡ false → honest_of key q ≡ true → q ≢ p
+differs : (key : RunSetup) (p q : ℕ) → honest_of key p ≡ false → honest_of key q ≡ true → q ≢ p
 differs key p q h hq e = clash (sym (ap (honest_of key) e ∙ h) ∙ hq)
 
 -- where the lists leave the ends, by their words
-pub reached_by : (key : Key) → IsFit key → (memory words : ℕ → ℕ) (acc : ℕ → List (Deed Taken)) → Made key memory words acc → R_of key memory words acc
-reached_by key fit memory words acc (made.starts _ _ _ zeros nulls none) = reaches.starts _ _ _ zeros nulls (λ p. ap (standing key p) (none p) ∙ standing_none key p)
+pub reached_by : (key : RunSetup) → IsFit key → (memory words : ℕ → ℕ) (acc : ℕ → List (MemoryOp CallAccess)) → Made key memory words acc → R_of key memory words acc
+reached_by key fit memory words acc (made.starts _ _ _ zeros nulls none) = reaches.starts _ _ _ zeros nulls (λ p. ap (derived_state key p) (none p) ∙ standing_none key p)
 reached_by key fit after words next (made.makes memory _ _ acc _ p t k lt may meets leaves g) = let was = reached_by key fit memory words acc k in by_honesty (honest_of key p)
     (λ h. honest_access key memory after words acc next p t (honest_below key p h) h (may.next h) meets leaves g was)
     (λ h. hostile_deed key memory after words acc next p (called t) h (λ q q2 hq. untouched key p q memory after t.access fit lt q2 (differs key p q h hq) may.owned leaves) g was)

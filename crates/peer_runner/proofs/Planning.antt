@@ -18,29 +18,29 @@ use Rattle.scenario_text.specs.Scenario.{World, IsAllowed, IsWorld, is_link, is_
 use Rattle.section_map.specs.Geometry.{Shape}
 use Rattle.split_ring.specs.Layout.{Sizes}
 use Rattle.call_grammar.specs.Ends.{fresh}
-use Rattle.call_grammar.specs.Calls.{Who}
+use Rattle.call_grammar.specs.Calls.{EndConfig}
 use Rattle.call_grammar.specs.Places.{Closed}
 use Rattle.link_endpoint.specs.Engine.{Engine}
 use Rattle.link_endpoint.specs.Engine as endpoint
-use Rattle.link_endpoint.specs.Stands.{StandsAt}
+use Rattle.link_endpoint.specs.Refinement.{RefinesAt}
 use Rattle.link_endpoint.specs.Plan.{Plan, fresh_plan}
 use Rattle.lawful_history.specs.Sides.{traffic_vector}
 use Rattle.lawful_history.specs.Peers.{Storms, Peer, at_start}
-use Rattle.peer_runner.specs.declared.key.Key.{Key}
-use Rattle.peer_runner.specs.Keys.{who_in, honest_of, IsMadeFor}
+use Rattle.peer_runner.specs.declared.run_setup.RunSetup.{RunSetup}
+use Rattle.peer_runner.specs.RunSetups.{config_in, honest_of, IsMadeFor}
 use Rattle.peer_runner.specs.Interrupts.{one_if}
 use Rattle.peer_runner.specs.Turns.{all_turns}
-use Rattle.peer_runner.specs.OwnRecord.{told, told_all, span_in, spans_of, start_of}
+use Rattle.peer_runner.specs.OwnRecord.{after_act, after_acts, span_in, spans_of, start_of}
 use Rattle.peer_runner.specs.Runners.{IsFrame}
 use Rattle.peer_runner.specs.Drives.{automatic, storming, MayBeAuto, gathered, seeded, Gathers, Seeds}
 use Rattle.peer_runner.proofs.Keys.{clash}
 
 -- Lists of acts
 
-pub told_snoc : (p : ℕ) (peer : Peer) (acts : List Act) (a : Act) → told_all p peer (acts ++ a ∷ []) ≡ told p (told_all p peer acts) a
-unfolding told_all
+pub told_snoc : (p : ℕ) (peer : Peer) (acts : List Act) (a : Act) → after_acts p peer (acts ++ a ∷ []) ≡ after_act p (after_acts p peer acts) a
+unfolding after_acts
 told_snoc p peer [] a = refl
-told_snoc p peer (b ∷ acts) a = told_snoc p (told p peer b) acts a
+told_snoc p peer (b ∷ acts) a = told_snoc p (after_act p peer b) acts a
 
 or_false : (b : Bool) → (b || false) ≡ b
 or_false true = refl
@@ -117,10 +117,10 @@ has_driver w p running has = drives_from w.acts [] (first_line w) p running has
 -- The plan of an automatic peer
 
 -- an act that says nothing to the peer
-plan_stays : (mtu p : ℕ) (before : List Act) (a : Act) (plan : Plan) → ((x : Peer) → told p x a ≡ x) → is_auto p a ≡ false → gathered p plan a ≡ plan → Gathers mtu p before plan → Gathers mtu p (before ++ a ∷ []) (gathered p plan a)
+plan_stays : (mtu p : ℕ) (before : List Act) (a : Act) (plan : Plan) → ((x : Peer) → after_act p x a ≡ x) → is_auto p a ≡ false → gathered p plan a ≡ plan → Gathers mtu p before plan → Gathers mtu p (before ++ a ∷ []) (gathered p plan a)
 plan_stays mtu p before a plan still none same g =
     let has : has_auto (before ++ a ∷ []) p ≡ has_auto before p = auto_snoc p before a ∙ (ap (λ b. has_auto before p || b) none ∙ or_false (has_auto before p)) in
-    let on : told_all p at_start (before ++ a ∷ []) ≡ told_all p at_start before = told_snoc p at_start before a ∙ still (told_all p at_start before) in
+    let on : after_acts p at_start (before ++ a ∷ []) ≡ after_acts p at_start before = told_snoc p at_start before a ∙ still (after_acts p at_start before) in
     subst (Gathers mtu p (before ++ a ∷ [])) (sym same) (record { none = λ e. on ∙ g.none (sym has ∙ e); start = λ e. on ∙ g.start (sym has ∙ e); fresh = g.fresh; frames = g.frames })
 
 or_true : (b : Bool) → (b || true) ≡ true
@@ -136,11 +136,11 @@ plan_named mtu p q expected before plan same is g =
     let a = act.Auto q expected in
     let has : has_auto (before ++ a ∷ []) p ≡ true = auto_snoc p before a ∙ (ap (λ b. has_auto before p || b) is ∙ or_true (has_auto before p)) in
     let gives : gathered p plan a ≡ fresh_plan expected = ap (λ (b : Bool). if b then fresh_plan expected else plan) is in
-    let said : (x : Peer) → told p x a ≡ record x { driver = (automatic (fresh_plan expected)).driver } = λ x. ap (λ (b : Bool). if b then record x { driver = (automatic (fresh_plan expected)).driver } else x) is in
-    let starts : told_all p at_start (before ++ a ∷ []) ≡ automatic (fresh_plan expected) = told_snoc p at_start before a ∙ (said (told_all p at_start before) ∙ named (has_auto before p) refl) in
+    let said : (x : Peer) → after_act p x a ≡ record x { driver = (automatic (fresh_plan expected)).driver } = λ x. ap (λ (b : Bool). if b then record x { driver = (automatic (fresh_plan expected)).driver } else x) is in
+    let starts : after_acts p at_start (before ++ a ∷ []) ≡ automatic (fresh_plan expected) = told_snoc p at_start before a ∙ (said (after_acts p at_start before) ∙ named (has_auto before p) refl) in
     subst (Gathers mtu p (before ++ a ∷ [])) (sym gives) (record { none = λ e. absurd (clash (sym e ∙ has)); start = λ e. starts; fresh = refl; frames = no_frames mtu })
   where
-    named : (b : Bool) → has_auto before p ≡ b → record (told_all p at_start before) { driver = (automatic (fresh_plan expected)).driver } ≡ automatic (fresh_plan expected)
+    named : (b : Bool) → has_auto before p ≡ b → record (after_acts p at_start before) { driver = (automatic (fresh_plan expected)).driver } ≡ automatic (fresh_plan expected)
     named true e = ap (λ (x : Peer). record x { driver = (automatic (fresh_plan expected)).driver }) (g.start e)
     named false e = ap (λ (x : Peer). record x { driver = (automatic (fresh_plan expected)).driver }) (g.none e)
 
@@ -151,7 +151,7 @@ plan_given mtu p q frame before plan is auto fits g =
     let next : Plan = record plan { frames = plan.frames ++ frame ∷ [] } in
     let has : has_auto (before ++ a ∷ []) p ≡ true = auto_snoc p before a ∙ (or_false (has_auto before p) ∙ auto) in
     let gives : gathered p plan a ≡ next = ap (λ (b : Bool). if b then next else plan) is in
-    let starts : told_all p at_start (before ++ a ∷ []) ≡ automatic next = told_snoc p at_start before a ∙ (ap (λ (x : Peer). told p x a) (g.start auto) ∙ ap (λ (b : Bool). if b then automatic next else automatic plan) is) in
+    let starts : after_acts p at_start (before ++ a ∷ []) ≡ automatic next = told_snoc p at_start before a ∙ (ap (λ (x : Peer). after_act p x a) (g.start auto) ∙ ap (λ (b : Bool). if b then automatic next else automatic plan) is) in
     subst (Gathers mtu p (before ++ a ∷ [])) (sym gives) (record {
       none = λ e. absurd (clash (sym e ∙ has));
       start = λ e. starts;
@@ -196,26 +196,26 @@ gathers_on w p before later (act.Offer q frame) plan link allowed goes g = by_te
     (λ is. plan_given w.queue.mtu p q frame before plan is (subst (λ k. has_auto before k ≡ true) (eqb-true q p is) (not_not (has_auto before q) goes)) (offer_fits w before q frame allowed) g)
     (λ is. plan_stays w.queue.mtu p before (act.Offer q frame) plan (λ x. offer_other x is) refl (ap (λ (b : Bool). if b then record plan { frames = plan.frames ++ frame ∷ [] } else plan) is) g)
   where
-    offer_other : (x : Peer) → (q == p) ≡ false → told p x (act.Offer q frame) ≡ x
+    offer_other : (x : Peer) → (q == p) ≡ false → after_act p x (act.Offer q frame) ≡ x
     offer_other x is = rw is refl
 gathers_on w p before later (act.Storm q seed) plan link allowed goes g = by_test (q == p)
     (λ is. absurd (apart p w.geometry.peers (slice_index_or w.honest p false) link (subst (λ k. is_hostile w k ≡ true) (eqb-true q p is) allowed.peer)))
     (λ is. plan_stays w.queue.mtu p before (act.Storm q seed) plan (λ x. storm_other x is) refl refl g)
   where
-    storm_other : (x : Peer) → (q == p) ≡ false → told p x (act.Storm q seed) ≡ x
+    storm_other : (x : Peer) → (q == p) ≡ false → after_act p x (act.Storm q seed) ≡ x
     storm_other x is = rw is refl
 gathers_on w p before later a plan link allowed goes g = plan_stays w.queue.mtu p before a plan (λ x. refl) refl refl g
 
 pub gathers_none : (mtu p expected : ℕ) → Gathers mtu p [] (fresh_plan expected)
-unfolding told_all has_auto
+unfolding after_acts has_auto
 gathers_none mtu p expected = record { none = λ e. refl; start = λ e. absurd (cc); fresh = refl; frames = no_frames mtu }
 
 -- The seed of a storm
 
-seed_stays : (p : ℕ) (before : List Act) (a : Act) (seed : ℕ) → ((x : Peer) → told p x a ≡ x) → is_storm p a ≡ false → seeded p seed a ≡ seed → Seeds p before seed → Seeds p (before ++ a ∷ []) (seeded p seed a)
+seed_stays : (p : ℕ) (before : List Act) (a : Act) (seed : ℕ) → ((x : Peer) → after_act p x a ≡ x) → is_storm p a ≡ false → seeded p seed a ≡ seed → Seeds p before seed → Seeds p (before ++ a ∷ []) (seeded p seed a)
 seed_stays p before a seed still none same g =
     let has : has_storm (before ++ a ∷ []) p ≡ has_storm before p = storm_snoc p before a ∙ (ap (λ b. has_storm before p || b) none ∙ or_false (has_storm before p)) in
-    let on : told_all p at_start (before ++ a ∷ []) ≡ told_all p at_start before = told_snoc p at_start before a ∙ still (told_all p at_start before) in
+    let on : after_acts p at_start (before ++ a ∷ []) ≡ after_acts p at_start before = told_snoc p at_start before a ∙ still (after_acts p at_start before) in
     subst (Seeds p (before ++ a ∷ [])) (sym same) (record { none = λ e. on ∙ g.none (sym has ∙ e); start = λ e. on ∙ g.start (sym has ∙ e) })
 
 seed_named : (p q x : ℕ) (before : List Act) (seed : ℕ) → (q == p) ≡ true → Seeds p before seed → Seeds p (before ++ act.Storm q x ∷ []) (seeded p seed (act.Storm q x))
@@ -223,11 +223,11 @@ seed_named p q x before seed is g =
     let a = act.Storm q x in
     let has : has_storm (before ++ a ∷ []) p ≡ true = storm_snoc p before a ∙ (ap (λ b. has_storm before p || b) is ∙ or_true (has_storm before p)) in
     let gives : seeded p seed a ≡ x = ap (λ (b : Bool). if b then x else seed) is in
-    let said : (y : Peer) → told p y a ≡ record y { driver = Storms x } = λ y. ap (λ (b : Bool). if b then record y { driver = Storms x } else y) is in
-    let starts : told_all p at_start (before ++ a ∷ []) ≡ storming x = told_snoc p at_start before a ∙ (said (told_all p at_start before) ∙ named (has_storm before p) refl) in
+    let said : (y : Peer) → after_act p y a ≡ record y { driver = Storms x } = λ y. ap (λ (b : Bool). if b then record y { driver = Storms x } else y) is in
+    let starts : after_acts p at_start (before ++ a ∷ []) ≡ storming x = told_snoc p at_start before a ∙ (said (after_acts p at_start before) ∙ named (has_storm before p) refl) in
     subst (Seeds p (before ++ a ∷ [])) (sym gives) (record { none = λ e. absurd (clash (sym e ∙ has)); start = λ e. starts })
   where
-    named : (b : Bool) → has_storm before p ≡ b → record (told_all p at_start before) { driver = Storms x } ≡ storming x
+    named : (b : Bool) → has_storm before p ≡ b → record (after_acts p at_start before) { driver = Storms x } ≡ storming x
     named true e = ap (λ (y : Peer). record y { driver = Storms x }) (g.start e)
     named false e = ap (λ (y : Peer). record y { driver = Storms x }) (g.none e)
 
@@ -236,13 +236,13 @@ seeds_on w p before (act.Auto q expected) seed hostile allowed g = by_test (q ==
     (λ is. absurd (clash (sym hostile ∙ subst (λ k. is_link w k ≡ true) (eqb-true q p is) allowed.peer)))
     (λ is. seed_stays p before (act.Auto q expected) seed (λ x. auto_other x is) refl refl g)
   where
-    auto_other : (x : Peer) → (q == p) ≡ false → told p x (act.Auto q expected) ≡ x
+    auto_other : (x : Peer) → (q == p) ≡ false → after_act p x (act.Auto q expected) ≡ x
     auto_other x is = rw is refl
 seeds_on w p before (act.Offer q frame) seed hostile allowed g = by_test (q == p)
     (λ is. absurd (clash (sym hostile ∙ subst (λ k. is_link w k ≡ true) (eqb-true q p is) allowed.peer)))
     (λ is. seed_stays p before (act.Offer q frame) seed (λ x. offer_other x is) refl refl g)
   where
-    offer_other : (x : Peer) → (q == p) ≡ false → told p x (act.Offer q frame) ≡ x
+    offer_other : (x : Peer) → (q == p) ≡ false → after_act p x (act.Offer q frame) ≡ x
     offer_other x is = rw is refl
 seeds_on w p before (act.Storm q x) seed hostile allowed g = by_test (q == p)
     (λ is. seed_named p q x before seed is g)
@@ -250,7 +250,7 @@ seeds_on w p before (act.Storm q x) seed hostile allowed g = by_test (q == p)
 seeds_on w p before a seed hostile allowed g = seed_stays p before a seed (λ x. refl) refl refl g
 
 pub seeds_none : (p seed : ℕ) → Seeds p [] seed
-unfolding told_all has_storm
+unfolding after_acts has_storm
 seeds_none p seed = record { none = λ e. refl; start = λ e. absurd (cc) }
 
 -- one step of a loop over the acts
@@ -421,25 +421,25 @@ or_right false b is none = is
 link_below : (p : ℕ) (flag : Bool) → (nat_lt p 2 && flag) ≡ true → p < 2
 link_below p flag is = grind (arith, nat_tests)
 
-made_who : (w : World) (key : Key) (p vector : ℕ) → IsMadeFor w key → vector ≡ traffic_vector w.wiring → endpoint.who_of w.geometry w.queue p vector ≡ who_in key p
-made_who w key p vector made is = let v : vector ≡ traffic_vector key.wiring = is ∙ ap traffic_vector (sym made.wiring) in λ i. endpoint.who_of (sym made.geometry i) (sym made.queue i) p (v i)
+made_who : (w : World) (key : RunSetup) (p vector : ℕ) → IsMadeFor w key → vector ≡ traffic_vector w.wiring → endpoint.config_of w.geometry w.queue p vector ≡ config_in key p
+made_who w key p vector made is = let v : vector ≡ traffic_vector key.wiring = is ∙ ap traffic_vector (sym made.wiring) in λ i. endpoint.config_of (sym made.geometry i) (sym made.queue i) p (v i)
 
 pub auto_driver : (w : World) (p vector : ℕ) (plan : Plan) (end : Engine) → IsWorld w → not_running w ≡ None → has_turn w.acts p ≡ true → is_link w p ≡ true → vector ≡ traffic_vector w.wiring → Gathers w.queue.mtu p w.acts plan →
-    StandsAt end (endpoint.who_of w.geometry w.queue p vector) fresh Closed → (automatic plan ≡ start_of w.acts p) × ((key : Key) → IsMadeFor w key → MayBeAuto key p plan end)
-auto_driver w p vector plan end is running turns link vec g stands =
+    RefinesAt end (endpoint.config_of w.geometry w.queue p vector) fresh Closed → (automatic plan ≡ start_of w.acts p) × ((key : RunSetup) → IsMadeFor w key → MayBeAuto key p plan end)
+auto_driver w p vector plan end is running turns link vec g refines =
     let auto = or_left (has_auto w.acts p) (has_storm w.acts p) (has_driver w p running turns) (no_storm w p is link) in (
       sym (g.start auto),
       λ key made. record {
         link = link_below p _ link;
         honest = made.honest p ∙ link;
-        stands = subst (λ (who : Who). StandsAt end who fresh Closed) (made_who w key p vector made vec) stands;
+        refines = subst (λ (config : EndConfig). RefinesAt end config fresh Closed) (made_who w key p vector made vec) refines;
         begins = g.fresh;
         frames = subst (λ (q : Sizes). All (IsFrame q.mtu) plan.frames) (sym made.queue) g.frames;
       },
     )
 
 pub storm_driver : (w : World) (p seed : ℕ) → IsWorld w → not_running w ≡ None → has_turn w.acts p ≡ true → is_link w p ≡ false → p < w.geometry.peers → Seeds p w.acts seed →
-    (storming seed ≡ start_of w.acts p) × ((key : Key) → IsMadeFor w key → (p < key.geometry.peers) × (honest_of key p ≡ false) × (w.geometry ≡ key.geometry) × (w.queue ≡ key.queue))
+    (storming seed ≡ start_of w.acts p) × ((key : RunSetup) → IsMadeFor w key → (p < key.geometry.peers) × (honest_of key p ≡ false) × (w.geometry ≡ key.geometry) × (w.queue ≡ key.queue))
 storm_driver w p seed is running turns hostile there g =
     let storm = or_right (has_auto w.acts p) (has_storm w.acts p) (has_driver w p running turns) (no_auto w p is hostile) in (
       sym (g.start storm),

@@ -7,11 +7,11 @@ use lib.ListN.{get_elem?}
 use Rattle.std.proofs.lemmas.List.{length-set, length-take}
 use Rattle.atomic_table.specs.Table.{Splits, Joins}
 use Rattle.atomic_table.proofs.Lists.{at_set}
-use Rattle.peer_runner.specs.declared.key.Key.{Key}
+use Rattle.peer_runner.specs.declared.run_setup.RunSetup.{RunSetup}
 use Rattle.peer_runner.specs.declared.view.View.{View}
-use Rattle.peer_runner.specs.Standings.{Taken, Deed}
+use Rattle.peer_runner.specs.DerivedStates.{CallAccess, MemoryOp}
 use Rattle.peer_runner.specs.Actions.{Action}
-use Rattle.peer_runner.specs.Rules.{Fits, Kept, view, lower, upper, joined}
+use Rattle.peer_runner.specs.Rules.{Fits, TableInvariant, view, lower, upper, joined}
 
 abbrev pick : {P Q : Type 0} → Dec P → Dec Q → ℕ → ℕ → ℕ
 pick (yes _) (yes _) a b = a
@@ -62,18 +62,18 @@ module _ {A : Type 0} where
   at_drop (suc n) (y ∷ l) k x e = let h : suc n + k ≡ suc (n + k) = omega arith in ap (get_elem? (y ∷ l)) h ∙ at_drop n l k x e
 
 -- a peer of the range of the seat id has that seat
-has_seat : (m : ℕ) (seat : ℕ → ℕ) (acc : ℕ → List (Action (Deed Taken))) (id : ℕ) (v : View) (q : ℕ) → Fits m seat acc id v → v.from ≤ q → q < v.from + length v.lists → seat q ≡ id
+has_seat : (m : ℕ) (seat : ℕ → ℕ) (acc : ℕ → List (Action (MemoryOp CallAccess))) (id : ℕ) (v : View) (q : ℕ) → Fits m seat acc id v → v.from ≤ q → q < v.from + length v.lists → seat q ≡ id
 has_seat m seat acc id v q f lo hi = let e : q ≡ v.from + (q - v.from) = omega arith in ap seat e ∙ f.mine (q - v.from) (omega arith)
 
 -- the view of another seat, when the peers of some range of the seat `was` go to the seat n
-beside : (m : ℕ) (seat : ℕ → ℕ) (acc : ℕ → List (Action (Deed Taken))) (p e n was j : ℕ) (v : View) → ((q : ℕ) → p ≤ q → q < e → seat q ≡ was) → j ≢ was → Fits m seat acc j v → Fits m (moved seat p e n) acc j v
+beside : (m : ℕ) (seat : ℕ → ℕ) (acc : ℕ → List (Action (MemoryOp CallAccess))) (p e n was j : ℕ) (v : View) → ((q : ℕ) → p ≤ q → q < e → seat q ≡ was) → j ≢ was → Fits m seat acc j v → Fits m (moved seat p e n) acc j v
 beside m seat acc p e n was j v all ne f = record {
   inside = f.inside;
   mine = λ k lt. moved_out seat p e n (v.from + k) (λ a b. ne (sym (f.mine k lt) ∙ all (v.from + k) a b)) ∙ f.mine k lt;
   known = f.known;
 }
 
-pub split_allowed : (key : Key) (id from p : ℕ) (lists : List (List (Action (Deed Taken)))) → from ≤ p → p ≤ from + length lists → Splits (Kept key) id (view from lists) (lower p (view from lists)) (upper p (view from lists))
+pub split_allowed : (key : RunSetup) (id from p : ℕ) (lists : List (List (Action (MemoryOp CallAccess)))) → from ≤ p → p ≤ from + length lists → Splits (TableInvariant key) id (view from lists) (lower p (view from lists)) (upper p (view from lists))
 split_allowed key id from p lists lo hi s k at = record {
   seat = next;
   acc = k.acc;
@@ -113,8 +113,8 @@ split_allowed key id from p lists lo hi s k at = record {
       known = λ k' l e. let h : p + k' ≡ from + ((p - from) + k') = omega arith in ap k.acc h ∙ was.known ((p - from) + k') l (at_drop (p - from) lists k' l e);
     }
 
-pub join_allowed : (key : Key) (id other : ℕ) (v u : View) → u.from ≡ v.from + length v.lists → Joins (Kept key) id v other u (joined v u) (view 0 [])
-join_allowed key id other v u meet s k at ne at_other = record {
+pub join_allowed : (key : RunSetup) (id other : ℕ) (v u : View) → u.from ≡ v.from + length v.lists → Joins (TableInvariant key) id v other u (joined v u) (view 0 [])
+join_allowed key id other v u exchange_session_number s k at ne at_other = record {
   seat = next;
   acc = k.acc;
   fits = λ j x e. ⊎_elim (λ t. subst (λ i. Fits key.geometry.peers next k.acc i x) (sym t.0) (subst (Fits key.geometry.peers next k.acc other) t.1 spent))

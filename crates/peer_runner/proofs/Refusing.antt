@@ -11,17 +11,17 @@ use Rattle.split_ring.specs.declared.steps.Access.{Access}
 use Rattle.split_ring.specs.declared.steps.Access.TheVariants as access
 use Rattle.call_grammar.specs.Steps.{Mark, Step}
 use Rattle.call_grammar.specs.Steps as mark
-use Rattle.call_grammar.specs.Ends.{End, stated, noted, noted_all}
-use Rattle.call_grammar.specs.Calls.{Who}
+use Rattle.call_grammar.specs.Ends.{End, with_access, with_mark, with_marks}
+use Rattle.call_grammar.specs.Calls.{EndConfig}
 use Rattle.lawful_history.specs.declared.line.Line.{Line}
 use Rattle.lawful_history.specs.declared.line.Line.TheVariants as line
-use Rattle.lawful_history.specs.Entries.{access_lines, mark_line}
+use Rattle.lawful_history.specs.EventRecords.{access_lines, mark_line}
 use Rattle.lawful_history.specs.Peers.{Driver, Waits, Chooses, Storms, Peer, opened}
 use Rattle.doorbell_irq.specs.declared.route.Route.{Route}
-use Rattle.peer_runner.specs.declared.key.Key.{Key}
-use Rattle.peer_runner.specs.Standings.{Taken, Deed, standing, NeverMarked}
-use Rattle.peer_runner.specs.Made.{Made, Grows, starts, makes, stores, loads, resets}
-use Rattle.peer_runner.specs.Turns.{Turn, Looks, Makes, Clears, Rings, Stores, Loads, Enters, Restarts, Running, TakesStep, TakesTurn, is_set, steps_on, spent, heard_bit, heard, is_quiet, lines_of, told_in, told_of}
+use Rattle.peer_runner.specs.declared.run_setup.RunSetup.{RunSetup}
+use Rattle.peer_runner.specs.DerivedStates.{CallAccess, MemoryOp, derived_state, NeverMarked}
+use Rattle.peer_runner.specs.SharedMemory.{Made, Appends, starts, makes, stores, loads, resets}
+use Rattle.peer_runner.specs.Turns.{Turn, Looks, Makes, Clears, Rings, Stores, Loads, Enters, Restarts, Running, TakesStep, TakesTurn, is_set, steps_on, spent, interrupt_line, interrupt_lines, is_quiet, lines_of, lines_in, lines_of_turns}
 use Rattle.peer_runner.specs.RunningRecord.{refuses}
 use Rattle.peer_runner.proofs.Keys.{clash}
 
@@ -32,10 +32,10 @@ refused_on (mark.Refuse refused) = true
 refused_on _ = false
 
 -- an end that isn't marked after these marks wasn't before, and they have no refusal
-marks_clear : (end : End) (marks : List Mark) → (noted_all end marks).handshake.mark ≡ false → (end.handshake.mark ≡ false) × (list_any refused_on marks ≡ false)
+marks_clear : (end : End) (marks : List Mark) → (with_marks end marks).handshake.mark ≡ false → (end.handshake.mark ≡ false) × (list_any refused_on marks ≡ false)
 marks_clear end [] is = (is, refl)
-marks_clear end (mark.Refuse refused ∷ marks) is = let h : true ≡ false = (marks_clear (noted end (mark.Refuse refused)) marks is).0 in absurd (clash (sym h))
-marks_clear end (m ∷ marks) is = marks_clear (noted end m) marks is
+marks_clear end (mark.Refuse refused ∷ marks) is = let h : true ≡ false = (marks_clear (with_mark end (mark.Refuse refused)) marks is).0 in absurd (clash (sym h))
+marks_clear end (m ∷ marks) is = marks_clear (with_mark end m) marks is
 
 -- Lines
 
@@ -73,29 +73,29 @@ step_refuses p first step none = by (is_quiet first step.access step.marks)
     by true = refl
     by false = marked_refuses p step.access step.value step.marks none
 
-bit_refuses : (p bit found : ℕ) → list_any refuses (heard_bit p bit found) ≡ false
+bit_refuses : (p bit found : ℕ) → list_any refuses (interrupt_line p bit found) ≡ false
 bit_refuses p bit found = elim (bit_at found bit == 0) as (λ b. list_any refuses (if b then [] else line.Interrupt p bit ∷ []) ≡ false) [ true ↦ refl | false ↦ refl ]
 
-heard_refuses : (n p found : ℕ) → list_any refuses (heard n p found) ≡ false
-unfolding heard
+heard_refuses : (n p found : ℕ) → list_any refuses (interrupt_lines n p found) ≡ false
+unfolding interrupt_lines
 heard_refuses zero p found = refl
-heard_refuses (suc n) p found = list_any-append refuses (heard n p found) (heard_bit p n found) ∙ (λ i. (heard_refuses n p found i || bit_refuses p n found i))
+heard_refuses (suc n) p found = list_any-append refuses (interrupt_lines n p found) (interrupt_line p n found) ∙ (λ i. (heard_refuses n p found i || bit_refuses p n found i))
 
 -- Turns
 
 abbrev pub IsClear : Peer → Type 0
 IsClear peer = peer.end.handshake.mark ≡ false
 
-step_clear : (who : Who) (storm : ℕ → Step) → ((x : ℕ) → (storm x).marks ≡ []) → (driver : Driver) (peer after : Peer) (step : Step) → TakesStep who storm driver peer step after → IsClear after → list_any refused_on step.marks ≡ false
-step_clear who storm quiet (Storms x) peer after step turn is = ap (λ (s : Step). list_any refused_on s.marks) turn.0 ∙ ap (list_any refused_on) (quiet x)
-step_clear who storm quiet Waits peer after step turn is = (marks_clear (stated (opened who peer).end step.access) step.marks (ap (λ (q : Peer). q.end.handshake.mark) (sym turn.2) ∙ is)).1
-step_clear who storm quiet (Chooses auto) peer after step turn is = (marks_clear (stated (opened who peer).end step.access) step.marks (ap (λ (q : Peer). q.end.handshake.mark) (sym turn.2) ∙ is)).1
+step_clear : (config : EndConfig) (storm : ℕ → Step) → ((x : ℕ) → (storm x).marks ≡ []) → (driver : Driver) (peer after : Peer) (step : Step) → TakesStep config storm driver peer step after → IsClear after → list_any refused_on step.marks ≡ false
+step_clear config storm quiet (Storms x) peer after step turn is = ap (λ (s : Step). list_any refused_on s.marks) turn.0 ∙ ap (list_any refused_on) (quiet x)
+step_clear config storm quiet Waits peer after step turn is = (marks_clear (with_access (opened config peer).end step.access) step.marks (ap (λ (q : Peer). q.end.handshake.mark) (sym turn.2) ∙ is)).1
+step_clear config storm quiet (Chooses auto) peer after step turn is = (marks_clear (with_access (opened config peer).end step.access) step.marks (ap (λ (q : Peer). q.end.handshake.mark) (sym turn.2) ∙ is)).1
 
 -- a turn that leaves no mark tells no refusal
-turn_clear : (who : Who) (storm : ℕ → Step) → ((x : ℕ) → (storm x).marks ≡ []) → (routes : List Route) (p : ℕ) (turn : Turn) (run after : Running) → TakesTurn who storm routes run turn after → IsClear after.peer → list_any refuses (told_in p turn) ≡ false
-turn_clear who storm quiet routes p (Looks found) run after took is = heard_refuses 64 p found
-turn_clear who storm quiet routes p (Makes first step) run after took is = step_refuses p first step (step_clear who storm quiet run.peer.driver run.peer took.1.0 step took.1.1.takes (subst (λ (r : Running). IsClear r.peer) took.1.4 is))
-turn_clear who storm quiet routes p (Clears step found) run after took is = by (is_set found) refl
+turn_clear : (config : EndConfig) (storm : ℕ → Step) → ((x : ℕ) → (storm x).marks ≡ []) → (routes : List Route) (p : ℕ) (turn : Turn) (run after : Running) → TakesTurn config storm routes run turn after → IsClear after.peer → list_any refuses (lines_in p turn) ≡ false
+turn_clear config storm quiet routes p (Looks found) run after took is = heard_refuses 64 p found
+turn_clear config storm quiet routes p (Makes first step) run after took is = step_refuses p first step (step_clear config storm quiet run.peer.driver run.peer took.1.0 step took.1.1.takes (subst (λ (r : Running). IsClear r.peer) took.1.4 is))
+turn_clear config storm quiet routes p (Clears step found) run after took is = by (is_set found) refl
   where
     told : Bool → List Line
     told b = access_lines p step.access step.value ++ map (mark_line p) (if b then [] else step.marks)
@@ -103,62 +103,62 @@ turn_clear who storm quiet routes p (Clears step found) run after took is = by (
     by : (b : Bool) → is_set found ≡ b → list_any refuses (access_lines p step.access step.value ++ map (mark_line p) (if is_set found then [] else step.marks)) ≡ false
     by true set = ap (λ b. list_any refuses (told b)) set ∙ marked_refuses p step.access step.value [] refl
     by false set = let was : after ≡ steps_on run step.access took.1.0 = took.1.2 ∙ ap (λ (b : Bool). if b then record run { looks = 0; ringing = true; spans = spent run.spans } else steps_on run step.access took.1.0) set in
-        ap (λ b. list_any refuses (told b)) set ∙ marked_refuses p step.access step.value step.marks (step_clear who storm quiet run.peer.driver run.peer took.1.0 step took.1.1.takes (subst (λ (r : Running). IsClear r.peer) was is))
-turn_clear who storm quiet routes p (Rings step) run after took is = refused_lines p step.marks ∙ step_clear who storm quiet run.peer.driver run.peer took.1.0 step took.1.1.takes (subst (λ (r : Running). IsClear r.peer) took.1.2 is)
-turn_clear who storm quiet routes p (Stores number) run after took is = refl
-turn_clear who storm quiet routes p (Loads number) run after took is = refl
-turn_clear who storm quiet routes p (Enters step opened other) run after took is = let next = took.3 in
+        ap (λ b. list_any refuses (told b)) set ∙ marked_refuses p step.access step.value step.marks (step_clear config storm quiet run.peer.driver run.peer took.1.0 step took.1.1.takes (subst (λ (r : Running). IsClear r.peer) was is))
+turn_clear config storm quiet routes p (Rings step) run after took is = refused_lines p step.marks ∙ step_clear config storm quiet run.peer.driver run.peer took.1.0 step took.1.1.takes (subst (λ (r : Running). IsClear r.peer) took.1.2 is)
+turn_clear config storm quiet routes p (Stores number) run after took is = refl
+turn_clear config storm quiet routes p (Loads number) run after took is = refl
+turn_clear config storm quiet routes p (Enters step opened other) run after took is = let next = took.3 in
     list_any-append refuses (access_lines p step.access step.value) (line.Session p opened other ∷ map (mark_line p) step.marks)
-    ∙ (λ i. (access_refuses p step.access step.value i || (refused_lines p step.marks ∙ step_clear who storm quiet run.peer.driver run.peer next.0 step next.1.step_is.takes (subst (λ (r : Running). IsClear r.peer) next.2 is)) i))
-turn_clear who storm quiet routes p Restarts run after took is = refl
+    ∙ (λ i. (access_refuses p step.access step.value i || (refused_lines p step.marks ∙ step_clear config storm quiet run.peer.driver run.peer next.0 step next.1.step_is.takes (subst (λ (r : Running). IsClear r.peer) next.2 is)) i))
+turn_clear config storm quiet routes p Restarts run after took is = refl
 
 -- before any turn no refusal is told
-pub none_refused : (key : Key) (p : ℕ) (list : List (Deed Taken)) → NeverMarked key p list → list_any refuses (told_of p []) ≡ false
-unfolding told_of
+pub none_refused : (key : RunSetup) (p : ℕ) (list : List (MemoryOp CallAccess)) → NeverMarked key p list → list_any refuses (lines_of_turns p []) ≡ false
+unfolding lines_of_turns
 none_refused key p list never = refl
 
 -- one turn more, which did this besides
-pub refused_more : (key : Key) (who : Who) (storm : ℕ → Step) → ((x : ℕ) → (storm x).marks ≡ []) → (routes : List Route) (p : ℕ) (turns : List Turn) (turn : Turn) (run after : Running) (list next deeds : List (Deed Taken)) → next ≡ list ++ deeds →
-    TakesTurn who storm routes run turn after → (standing key p next).end ≡ after.peer.end → (NeverMarked key p list → list_any refuses (told_of p turns) ≡ false) →
-    NeverMarked key p next → list_any refuses (told_of p (turns ++ turn ∷ [])) ≡ false
-unfolding told_of
-refused_more key who storm quiet routes p turns turn run after list next deeds is took left was never =
+pub refused_more : (key : RunSetup) (config : EndConfig) (storm : ℕ → Step) → ((x : ℕ) → (storm x).marks ≡ []) → (routes : List Route) (p : ℕ) (turns : List Turn) (turn : Turn) (run after : Running) (list next deeds : List (MemoryOp CallAccess)) → next ≡ list ++ deeds →
+    TakesTurn config storm routes run turn after → (derived_state key p next).end ≡ after.peer.end → (NeverMarked key p list → list_any refuses (lines_of_turns p turns) ≡ false) →
+    NeverMarked key p next → list_any refuses (lines_of_turns p (turns ++ turn ∷ [])) ≡ false
+unfolding lines_of_turns
+refused_more key config storm quiet routes p turns turn run after list next deeds is took left was never =
     let before = was (λ front back e. never front (back ++ deeds) (is ∙ (ap (λ l. l ++ deeds) e ∙ append_assoc front back deeds))) in
-    let here = turn_clear who storm quiet routes p turn run after took (ap (λ (e : End). e.handshake.mark) (sym left) ∙ never next [] (sym (append-nil next))) in
-    ap (list_any refuses) (flat_map-append (told_in p) turns (turn ∷ [])) ∙ (list_any-append refuses (told_of p turns) (told_in p turn ++ [])
-    ∙ (λ i. (before i || (ap (list_any refuses) (append-nil (told_in p turn)) ∙ here) i)))
+    let here = turn_clear config storm quiet routes p turn run after took (ap (λ (e : End). e.handshake.mark) (sym left) ∙ never next [] (sym (append-nil next))) in
+    ap (list_any refuses) (flat_map-append (lines_in p) turns (turn ∷ [])) ∙ (list_any-append refuses (lines_of_turns p turns) (lines_in p turn ++ [])
+    ∙ (λ i. (before i || (ap (list_any refuses) (append-nil (lines_in p turn)) ∙ here) i)))
 
 -- What is told of every list that was made
 
--- a front of a list with one deed more is a front of the list, or all of it
-front_snoc : (list front back : List (Deed Taken)) (d : Deed Taken) → list ++ d ∷ [] ≡ front ++ back → ((rest : List (Deed Taken)) × (list ≡ front ++ rest)) ⊎ (front ≡ list ++ d ∷ [])
+-- a front of a list with one memory operation more is a front of the list, or all of it
+front_snoc : (list front back : List (MemoryOp CallAccess)) (d : MemoryOp CallAccess) → list ++ d ∷ [] ≡ front ++ back → ((rest : List (MemoryOp CallAccess)) × (list ≡ front ++ rest)) ⊎ (front ≡ list ++ d ∷ [])
 front_snoc list [] back d e = inl (list, refl)
 front_snoc [] (f ∷ []) back d e = inr cc
 front_snoc [] (f ∷ g ∷ front) back d e = absurd (cc)
 front_snoc (x ∷ list) (f ∷ front) back d e = let same : list ++ d ∷ [] ≡ front ++ back = cc in let first : x ≡ f = cc in
-    ⊎_elim (λ (s : (rest : List (Deed Taken)) × (list ≡ front ++ rest)). inl (s.0, λ i. first i ∷ s.1 i)) (λ all. inr (let back_first : f ≡ x = sym first in λ i. back_first i ∷ all i)) (front_snoc list front back d same)
+    ⊎_elim (λ (s : (rest : List (MemoryOp CallAccess)) × (list ≡ front ++ rest)). inl (s.0, λ i. first i ∷ s.1 i)) (λ all. inr (let back_first : f ≡ x = sym first in λ i. back_first i ∷ all i)) (front_snoc list front back d same)
 
-never_more : (key : Key) (p : ℕ) (list : List (Deed Taken)) (d : Deed Taken) → NeverMarked key p list → (standing key p (list ++ d ∷ [])).end.handshake.mark ≡ false → NeverMarked key p (list ++ d ∷ [])
-never_more key p list d was here front back e = ⊎_elim (λ (s : (rest : List (Deed Taken)) × (list ≡ front ++ rest)). was front s.0 s.1) (λ all. ap (λ l. (standing key p l).end.handshake.mark) all ∙ here) (front_snoc list front back d e)
+never_more : (key : RunSetup) (p : ℕ) (list : List (MemoryOp CallAccess)) (d : MemoryOp CallAccess) → NeverMarked key p list → (derived_state key p (list ++ d ∷ [])).end.handshake.mark ≡ false → NeverMarked key p (list ++ d ∷ [])
+never_more key p list d was here front back e = ⊎_elim (λ (s : (rest : List (MemoryOp CallAccess)) × (list ≡ front ++ rest)). was front s.0 s.1) (λ all. ap (λ l. (derived_state key p l).end.handshake.mark) all ∙ here) (front_snoc list front back d e)
 
 -- no end of these lists bears the mark
-abbrev pub NoneMarked : Key → (ℕ → List (Deed Taken)) → Type 0
-NoneMarked key acc = (p : ℕ) → p < 2 → (standing key p (acc p)).end.handshake.mark ≡ false
+abbrev pub NoneMarked : RunSetup → (ℕ → List (MemoryOp CallAccess)) → Type 0
+NoneMarked key acc = (p : ℕ) → p < 2 → (derived_state key p (acc p)).end.handshake.mark ≡ false
 
-never_grown : (key : Key) (acc next : ℕ → List (Deed Taken)) (q p : ℕ) (d : Deed Taken) → Grows acc next q d → NeverMarked key p (acc p) → (standing key p (next p)).end.handshake.mark ≡ false → NeverMarked key p (next p)
+never_grown : (key : RunSetup) (acc next : ℕ → List (MemoryOp CallAccess)) (q p : ℕ) (d : MemoryOp CallAccess) → Appends acc next q d → NeverMarked key p (acc p) → (derived_state key p (next p)).end.handshake.mark ≡ false → NeverMarked key p (next p)
 never_grown key acc next q p d grows was here = dite (ℕ_discrete p q)
     (λ e. let is : next p ≡ acc p ++ d ∷ [] = ap next e ∙ (grows.here ∙ ap (λ k. acc k ++ d ∷ []) (sym e)) in
-    subst (NeverMarked key p) (sym is) (never_more key p (acc p) d was (ap (λ l. (standing key p l).end.handshake.mark) (sym is) ∙ here)))
-    (λ ne. subst (NeverMarked key p) (sym (grows.beside p ne)) was)
+    subst (NeverMarked key p) (sym is) (never_more key p (acc p) d was (ap (λ l. (derived_state key p l).end.handshake.mark) (sym is) ∙ here)))
+    (λ ne. subst (NeverMarked key p) (sym (grows.neighbour_word p ne)) was)
 
-nil_front : (front back : List (Deed Taken)) → [] ≡ front ++ back → front ≡ []
+nil_front : (front back : List (MemoryOp CallAccess)) → [] ≡ front ++ back → front ≡ []
 nil_front [] back e = refl
 nil_front (f ∷ front) back e = absurd (cc)
 
 -- where the mark is never borne at the end of lists that were made, it was borne nowhere along them
-pub never_marked : (key : Key) → ((memory words : ℕ → ℕ) (acc : ℕ → List (Deed Taken)) → Made key memory words acc → NoneMarked key acc) →
-    (memory words : ℕ → ℕ) (acc : ℕ → List (Deed Taken)) → Made key memory words acc → (p : ℕ) → p < 2 → NeverMarked key p (acc p)
-never_marked key none memory words acc (starts _ _ _ zeros no_words empty) p p2 = λ front back e. ap (λ l. (standing key p l).end.handshake.mark) (nil_front front back (sym (empty p) ∙ e) ∙ sym (empty p)) ∙ none memory words acc (starts memory words acc zeros no_words empty) p p2
+pub never_marked : (key : RunSetup) → ((memory words : ℕ → ℕ) (acc : ℕ → List (MemoryOp CallAccess)) → Made key memory words acc → NoneMarked key acc) →
+    (memory words : ℕ → ℕ) (acc : ℕ → List (MemoryOp CallAccess)) → Made key memory words acc → (p : ℕ) → p < 2 → NeverMarked key p (acc p)
+never_marked key none memory words acc (starts _ _ _ zeros no_words empty) p p2 = λ front back e. ap (λ l. (derived_state key p l).end.handshake.mark) (nil_front front back (sym (empty p) ∙ e) ∙ sym (empty p)) ∙ none memory words acc (starts memory words acc zeros no_words empty) p p2
 never_marked key none after words next (makes memory _ _ acc _ q t made lt may meets leaves grows) p p2 = never_grown key acc next q p _ grows (never_marked key none memory words acc made p p2) (none after words next (makes memory after words acc next q t made lt may meets leaves grows) p p2)
 never_marked key none memory now next (stores _ words _ acc _ q number made may stored grows) p p2 = never_grown key acc next q p _ grows (never_marked key none memory words acc made p p2) (none memory now next (stores memory words now acc next q number made may stored grows) p p2)
 never_marked key none memory words next (loads _ _ acc _ q made may grows) p p2 = never_grown key acc next q p _ grows (never_marked key none memory words acc made p p2) (none memory words next (loads memory words acc next q made may grows) p p2)

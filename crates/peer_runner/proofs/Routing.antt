@@ -17,10 +17,10 @@ use Rattle.doorbell_irq.specs.declared.route.Route.{Route}
 use Rattle.doorbell_irq.specs.Events.{Event}
 use Rattle.doorbell_irq.specs.Routes.{IsRoute}
 use Rattle.lawful_history.specs.Device.{devices_of}
-use Rattle.peer_runner.specs.declared.key.Key.{Key}
-use Rattle.peer_runner.specs.Keys.{IsMadeFor}
+use Rattle.peer_runner.specs.declared.run_setup.RunSetup.{RunSetup}
+use Rattle.peer_runner.specs.RunSetups.{IsMadeFor}
 use Rattle.peer_runner.specs.Interrupts.{one_if}
-use Rattle.peer_runner.specs.Ways.{nowhere, route_to, AreRoutes, events_in, events_of, MaySet, AreRoutesOf}
+use Rattle.peer_runner.specs.DoorbellPaths.{nowhere, route_to, AreRoutes, events_in, events_of, MaySet, AreRoutesOf}
 
 -- The devices along the acts
 
@@ -97,7 +97,7 @@ mask_more pick routes mask next n k flag same is here beside was = (
 )
 
 -- the key that was made for a scenario is made with its routes
-pub routes_made : (w : World) (key : Key) (routes : List Route) → IsMadeFor w key → AreRoutesOf w routes → AreRoutes key routes
+pub routes_made : (w : World) (key : RunSetup) (routes : List Route) → IsMadeFor w key → AreRoutesOf w routes → AreRoutes key routes
 routes_made w key routes made are = let peers : key.geometry.peers ≡ w.geometry.peers = ap (λ g. g.peers) made.geometry in record {
   count = are.count ∙ sym peers;
   one_shot = λ p lt. let here : p < w.geometry.peers = subst (λ n. p < n) peers lt in made.one_shot p here ∙ ap one_if (sym (are.each p here).one_shot);

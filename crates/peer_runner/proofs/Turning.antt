@@ -10,42 +10,42 @@ use Rattle.split_ring.specs.declared.steps.Note.{Note}
 use Rattle.section_map.specs.Geometry.{section_start, word_count}
 use Rattle.call_grammar.specs.Steps.{Mark, Accept, Step, value_given, step_of}
 use Rattle.call_grammar.specs.Ends.{End, after_reset, end_after}
-use Rattle.call_grammar.specs.Calls.{Who, Call}
+use Rattle.call_grammar.specs.Calls.{EndConfig, Call}
 use Rattle.call_grammar.specs.Calls as calls
 use Rattle.call_grammar.specs.Automatic.{Anew, choice_of}
 use Rattle.call_grammar.specs.Automatic as automatic
-use Rattle.call_grammar.specs.Reach.{InReach}
+use Rattle.call_grammar.specs.Reach.{IsPermittedAccess}
 use Rattle.call_grammar.specs.Polls.{is_last}
-use Rattle.call_grammar.specs.Places.{Place, Closed, Setting, Refusing, Downed, RingingOffer, RingingPoll, AtUsedIndex, AtAvailIndex, first_place, access_at, next_place, step_at, marks_at, is_open}
+use Rattle.call_grammar.specs.Places.{Place, Closed, WritingState, Refusing, NotInRun, RingingOffer, RingingPoll, ReadingUsedIndex, ReadingAvailIndex, first_place, access_at, next_place, step_at, marks_at, is_open}
 use Rattle.link_endpoint.specs.Engine.{Engine, offered, delivered}
-use Rattle.link_endpoint.specs.Stands.{StandsAt, Takes, marks_between}
+use Rattle.link_endpoint.specs.Refinement.{RefinesAt, Takes, marks_between}
 use Rattle.link_endpoint.specs.Plan.{Plan, IsChoice}
 use Rattle.link_endpoint.specs.declared.auto.Choice.{Choice}
 use Rattle.link_endpoint.specs.declared.auto.Choice.TheVariants.{Tick, Offer, Poll, Finished}
 use Rattle.lawful_history.specs.declared.line.Line.TheVariants as line
-use Rattle.lawful_history.specs.Entries.{access_lines, mark_line}
+use Rattle.lawful_history.specs.EventRecords.{access_lines, mark_line}
 use Rattle.lawful_history.specs.Peers.{Auto, counted, counted_all}
-use Rattle.ends_pair.specs.Ground.{IsOffered}
+use Rattle.link_invariant.specs.LinkConfig.{IsOffered}
 use Rattle.pair_sessions.specs.Numbers.{Numbers, numbers_after, IsNumbered}
 use Rattle.step_lines.specs.Plans.{IsPlanOf}
 use Rattle.step_lines.specs.Places.{HasFrames}
 use Rattle.step_lines.proofs.Framing.{first_frames, next_frames}
 use Rattle.step_lines.proofs.Marks.{busy_next, marks_now}
-use Rattle.peer_runner.specs.declared.key.Key.{Key}
-use Rattle.peer_runner.specs.Held.{Held}
-use Rattle.peer_runner.specs.Keys.{who_in, ground_of, honest_of, IsFit}
-use Rattle.peer_runner.specs.Standings.{Taken, Deed, called, numbered, carried, restarted, taken, Wake, wake_after, Stance, begun_if, moved, settled_place, settled, after_access, after_deed, standing, Begins, IsNext}
+use Rattle.peer_runner.specs.declared.run_setup.RunSetup.{RunSetup}
+use Rattle.peer_runner.specs.PassView.{PassView}
+use Rattle.peer_runner.specs.RunSetups.{config_in, link_config_of, honest_of, IsFit}
+use Rattle.peer_runner.specs.DerivedStates.{CallAccess, MemoryOp, called, numbered, carried, restarted, taken, Wake, wake_after, DerivedState, begun_if, moved, settled_place, settled, after_access, after_memory_op, derived_state, Begins, IsNext}
 use Rattle.peer_runner.specs.Actions.{Action, accessed, looked, accesses_in}
 use Rattle.peer_runner.specs.Passes.{added, held}
 use Rattle.doorbell_irq.specs.declared.route.Route.{Route}
-use Rattle.peer_runner.specs.declared.ways.Way.{Way}
-use Rattle.peer_runner.specs.declared.ways.Way.TheVariants.{Silent, Direct, Guarded}
-use Rattle.peer_runner.specs.declared.ways.Done.{Done}
-use Rattle.peer_runner.specs.declared.ways.Done.TheVariants.{Stepped, Cleared, Rung}
-use Rattle.peer_runner.specs.Ways.{way_to, is_guarded, way_in, rung_by}
+use Rattle.peer_runner.specs.declared.doorbell_paths.DoorbellPath.{DoorbellPath}
+use Rattle.peer_runner.specs.declared.doorbell_paths.DoorbellPath.TheVariants.{Silent, Direct, Guarded}
+use Rattle.peer_runner.specs.declared.doorbell_paths.Done.{Done}
+use Rattle.peer_runner.specs.declared.doorbell_paths.Done.TheVariants.{Stepped, Cleared, Rung}
+use Rattle.peer_runner.specs.DoorbellPaths.{doorbell_path_to, is_guarded, doorbell_path_in, rung_by}
 use Rattle.peer_runner.specs.Rules.{front}
-use Rattle.peer_runner.specs.Turns.{Makes, Clears, Enters, opens, is_end, cleared_by, marks_of, told_in}
-use Rattle.peer_runner.specs.Runners.{Runner, IsFrame, chosen, round_on, call_chosen, finishes, has_finished, place_for, place_in, Matches, call_of, call_told, IsBegun, IsBegunIf, touches, taken_of, MayMake, made, value_done, done_of, stepped_turn, turn_of, stepped_lines, done_lines, IsDone, holds_on, MayRingBy, Closes, looked_on, due_word, state_for, deed_met, met_on, restarted_on, is_first, turn_on, held_on, stepped_on, turned, told_on, stance_of, HasMet, Stands, IsThere, IsAutoPeer, Turns}
+use Rattle.peer_runner.specs.Turns.{Makes, Clears, Enters, opens, is_end, cleared_by, marks_of, lines_in}
+use Rattle.peer_runner.specs.Runners.{Runner, IsFrame, chosen, round_on, call_chosen, finishes, has_finished, place_for, place_in, Matches, call_of, call_chosen_by, IsBegun, IsBegunIf, touches, taken_of, MayMake, made, value_done, done_of, stepped_turn, turn_of, stepped_lines, done_lines, IsDone, awaits_ring, MayRingBy, Closes, looked_on, due_word, state_for, memory_op_met, met_on, restarted_on, is_first, turn_on, held_on, stepped_on, turned, lines_on, derived_state_of, HasMet, RunnerRefines, IsThere, IsAutoPeer, Turns}
 use Rattle.peer_runner.specs.declared.sessions.SessionWord.{SessionWord}
 use Rattle.peer_runner.specs.declared.sessions.SessionWord.TheVariants.{Own, Others}
 use Rattle.peer_runner.specs.declared.turns.AutoPeer.{AutoPeer}
@@ -65,7 +65,7 @@ same_call Offer (frame ∷ frames) c is = sym (ap (λ (x : automatic.Choice). ca
 same_call Poll frames c is = sym (ap (λ (x : automatic.Choice). call_chosen (Some x)) is)
 same_call Finished frames c is = sym (ap (λ (x : automatic.Choice). call_chosen (Some x)) is)
 
-pub told_call : (answer : Option Choice) (frames : List (List ℕ)) (c : Option automatic.Choice) → Matches answer frames c → call_told answer frames ≡ call_chosen c
+pub told_call : (answer : Option Choice) (frames : List (List ℕ)) (c : Option automatic.Choice) → Matches answer frames c → call_chosen_by answer frames ≡ call_chosen c
 told_call None frames None is = refl
 told_call None frames (Some c) is = absurd is
 told_call (Some answer) frames None is = absurd is
@@ -76,36 +76,36 @@ chosen_where : (b : Bool) (c : automatic.Choice) (answer : Choice) (frames : Lis
 chosen_where true c answer frames is = absurd is
 chosen_where false c answer frames is = (refl, is)
 
-pub opens_at : (who : Who) (r : Runner) (answer : Choice) (frames : List (List ℕ)) → Matches (Some answer) frames (chosen r) → (r.place ≡ Closed) × (place_for who r.end Closed (call_of answer frames) ≡ place_in who r)
-opens_at who r answer frames is =
+pub opens_at : (config : EndConfig) (r : Runner) (answer : Choice) (frames : List (List ℕ)) → Matches (Some answer) frames (chosen r) → (r.place ≡ Closed) × (place_for config r.end Closed (call_of answer frames) ≡ place_in config r)
+opens_at config r answer frames is =
     let both = chosen_where (is_open r.place) _ answer frames is in let closed = shut r.place both.0 in (
       closed,
-      ap (λ (p : Place). place_for who r.end p (call_of answer frames)) (sym closed) ∙ ap (λ (c : Option Call). place_for who r.end r.place c) (told_call (Some answer) frames (chosen r) is),
+      ap (λ (p : Place). place_for config r.end p (call_of answer frames)) (sym closed) ∙ ap (λ (c : Option Call). place_for config r.end r.place c) (told_call (Some answer) frames (chosen r) is),
     )
 
 -- an access to a word is made at a place that is not left by a doorbell
-unsettled : (who : Who) (place : Place) → touches (access_at who place) ≡ true → settled_place place ≡ place
+unsettled : (config : EndConfig) (place : Place) → touches (access_at config place) ≡ true → settled_place place ≡ place
 unfolding settled_place
-unsettled who Downed is = absurd (cc)
-unsettled who RingingOffer is = absurd (cc)
-unsettled who RingingPoll is = absurd (cc)
-unsettled who place is = refl
+unsettled config NotInRun is = absurd (cc)
+unsettled config RingingOffer is = absurd (cc)
+unsettled config RingingPoll is = absurd (cc)
+unsettled config place is = refl
 
 -- the other steps leave the end and its numbers, and their call is closed
-pub record Untouching (who : Who) (end : End) (place : Place) (value : ℕ) : Type 0 where
-  pub end_is : end_after end (step_at who place value) ≡ end
-  pub next : next_place who place value ≡ Closed
+pub record Untouching (config : EndConfig) (end : End) (place : Place) (value : ℕ) : Type 0 where
+  pub end_is : end_after end (step_at config place value) ≡ end
+  pub next : next_place config place value ≡ Closed
   pub settles : settled_place place ≡ Closed
-  pub numbered : (n : Numbers) → numbers_after n end (access_at who place) ≡ n
-  pub wakes : (accepted delivered : ℕ) (wake : Wake) → wake_after accepted delivered wake (access_at who place) (marks_at who place value) ≡ wake
+  pub numbered : (n : Numbers) → numbers_after n end (access_at config place) ≡ n
+  pub wakes : (accepted delivered : ℕ) (wake : Wake) → wake_after accepted delivered wake (access_at config place) (marks_at config place value) ≡ wake
 
-untouching : (who : Who) (end : End) (place : Place) (value : ℕ) → is_open place ≡ true → touches (access_at who place) ≡ false → Untouching who end place value
+untouching : (config : EndConfig) (end : End) (place : Place) (value : ℕ) → is_open place ≡ true → touches (access_at config place) ≡ false → Untouching config end place value
 unfolding settled_place
-untouching who end Closed value is still = absurd (cc)
-untouching who end Downed value is still = record { end_is = refl; next = refl; settles = refl; numbered = λ n. refl; wakes = λ accepted delivered wake. refl }
-untouching who end RingingOffer value is still = record { end_is = refl; next = refl; settles = refl; numbered = λ n. refl; wakes = λ accepted delivered wake. refl }
-untouching who end RingingPoll value is still = record { end_is = refl; next = refl; settles = refl; numbered = λ n. refl; wakes = λ accepted delivered wake. refl }
-untouching who end place value is still = absurd (cc)
+untouching config end Closed value is still = absurd (cc)
+untouching config end NotInRun value is still = record { end_is = refl; next = refl; settles = refl; numbered = λ n. refl; wakes = λ accepted delivered wake. refl }
+untouching config end RingingOffer value is still = record { end_is = refl; next = refl; settles = refl; numbered = λ n. refl; wakes = λ accepted delivered wake. refl }
+untouching config end RingingPoll value is still = record { end_is = refl; next = refl; settles = refl; numbered = λ n. refl; wakes = λ accepted delivered wake. refl }
+untouching config end place value is still = absurd (cc)
 
 pub settled_closed : settled_place Closed ≡ Closed
 unfolding settled_place
@@ -113,7 +113,7 @@ settled_closed = refl
 
 -- Frames that may be offered
 
-abbrev pub Frames : Key → List (List ℕ) → Type 0
+abbrev pub Frames : RunSetup → List (List ℕ) → Type 0
 Frames key frames = All (IsFrame key.queue.mtu) frames
 
 first_frame : (mtu : ℕ) (frame : List ℕ) (frames : List (List ℕ)) → All (IsFrame mtu) (frame ∷ frames) → IsFrame mtu frame
@@ -152,45 +152,45 @@ begun_if_fits mtu (Some answer) frames None are is goes = absurd is
 begun_if_fits mtu (Some answer) frames (Some c) are is goes = begun_fits mtu answer frames c are is goes
 
 -- the call that is told begins where none is open, and stops nothing
-may_offer : (key : Key) (frame : List ℕ) → IsFrame key.queue.mtu frame → IsOffered (ground_of key) frame
+may_offer : (key : RunSetup) (frame : List ℕ) → IsFrame key.queue.mtu frame → IsOffered (link_config_of key) frame
 may_offer key frame f = record { least = f.0; most = f.1; bytes = f.2 }
 
-begins_told : (key : Key) (s : Stance) (answer : Choice) (frames : List (List ℕ)) → Frames key frames → s.place ≡ Closed → Begins (ground_of key) s (call_of answer frames)
+begins_told : (key : RunSetup) (s : DerivedState) (answer : Choice) (frames : List (List ℕ)) → Frames key frames → s.place ≡ Closed → Begins (link_config_of key) s (call_of answer frames)
 begins_told key s Tick frames are closed = (closed, λ e. absurd (cc), tt)
 begins_told key s Offer [] are closed = tt
 begins_told key s Offer (frame ∷ frames) are closed = (closed, λ e. absurd (cc), may_offer key frame (first_frame key.queue.mtu frame frames are))
 begins_told key s Poll frames are closed = (closed, λ e. absurd (cc), tt)
 begins_told key s Finished frames are closed = tt
 
-begins_if : (key : Key) (r : Runner) (s : Stance) (answer : Option Choice) (frames : List (List ℕ)) → Frames key frames → Matches answer frames (chosen r) → (r.place ≡ Closed → s.place ≡ Closed) → Begins (ground_of key) s (call_told answer frames)
+begins_if : (key : RunSetup) (r : Runner) (s : DerivedState) (answer : Option Choice) (frames : List (List ℕ)) → Frames key frames → Matches answer frames (chosen r) → (r.place ≡ Closed → s.place ≡ Closed) → Begins (link_config_of key) s (call_chosen_by answer frames)
 begins_if key r s None frames are is closed = tt
 begins_if key r s (Some answer) frames are is closed = begins_told key s answer frames are (closed (shut r.place (chosen_where (is_open r.place) _ answer frames is).0))
 
 -- the place of the access is the same for the stance, where the place is settled
-same_place : (who : Who) (r : Runner) (call : Option Call) → (call ≡ None → settled_place r.place ≡ r.place) → (begun_if who (stance_of r) call).place ≡ place_for who r.end r.place call
-same_place who r None is = is refl
-same_place who r (Some call) is = refl
+same_place : (config : EndConfig) (r : Runner) (call : Option Call) → (call ≡ None → settled_place r.place ≡ r.place) → (begun_if config (derived_state_of r) call).place ≡ place_for config r.end r.place call
+same_place config r None is = is refl
+same_place config r (Some call) is = refl
 
-at_none : (who : Who) (end : End) (place : Place) (call : Option Call) → call ≡ None → place_for who end place call ≡ place
-at_none who end place None is = refl
-at_none who end place (Some call) is = absurd (cc)
+at_none : (config : EndConfig) (end : End) (place : Place) (call : Option Call) → call ≡ None → place_for config end place call ≡ place
+at_none config end place None is = refl
+at_none config end place (Some call) is = absurd (cc)
 
 -- the place of an access to a word for the stance
-settled_same : (who : Who) (r : Runner) → touches (access_at who (place_in who r)) ≡ true → (begun_if who (stance_of r) (call_chosen (chosen r))).place ≡ place_in who r
-settled_same who r touch = same_place who r (call_chosen (chosen r)) (λ none. let here : place_in who r ≡ r.place = at_none who r.end r.place (call_chosen (chosen r)) none in unsettled who r.place (subst (λ (p : Place). touches (access_at who p) ≡ true) here touch))
+settled_same : (config : EndConfig) (r : Runner) → touches (access_at config (place_in config r)) ≡ true → (begun_if config (derived_state_of r) (call_chosen (chosen r))).place ≡ place_in config r
+settled_same config r touch = same_place config r (call_chosen (chosen r)) (λ none. let here : place_in config r ≡ r.place = at_none config r.end r.place (call_chosen (chosen r)) none in unsettled config r.place (subst (λ (p : Place). touches (access_at config p) ≡ true) here touch))
 
 -- The number that is met for a State step
 
 -- at the place of a turn that meets none: for the step with 2 the session word is stored, and for the one with 3 the number that was loaded is met
 pub record IsMet (place : Place) (met : Option ℕ) (numbers : Numbers) : Type 0 where
-  pub two : place ≡ Setting 2 → (met ≢ None) × (numbers.stored ≡ true)
-  pub three : place ≡ Setting 3 → (other : ℕ) × (met ≡ Some other) × (numbers.loaded ≡ Some other)
+  pub two : place ≡ WritingState 2 → (met ≢ None) × (numbers.stored ≡ true)
+  pub three : place ≡ WritingState 3 → (other : ℕ) × (met ≡ Some other) × (numbers.loaded ≡ Some other)
 
-met_two : (met : Option ℕ) → due_word (Setting 2) met ≡ None → (number : ℕ) × (met ≡ Some number)
+met_two : (met : Option ℕ) → due_word (WritingState 2) met ≡ None → (number : ℕ) × (met ≡ Some number)
 met_two None due = absurd (cc)
 met_two (Some number) due = (number, refl)
 
-met_three : (met : Option ℕ) → due_word (Setting 3) met ≡ None → (number : ℕ) × (met ≡ Some number)
+met_three : (met : Option ℕ) → due_word (WritingState 3) met ≡ None → (number : ℕ) × (met ≡ Some number)
 met_three None due = absurd (cc)
 met_three (Some number) due = (number, refl)
 
@@ -204,39 +204,39 @@ is_met r has due = record {
     some_none number e = cc
 
 -- no call begins at a State step with 2 or 3
-first_met : (who : Who) (end : End) (call : Call) (met : Option ℕ) (n : Numbers) → IsMet (first_place who end call) met n
-first_met who end calls.Tick met n = record { two = λ e. absurd (cc); three = λ e. absurd (cc) }
-first_met who end calls.Stop met n = record { two = λ e. absurd (cc); three = λ e. absurd (cc) }
-first_met who end (calls.Offer frame) met n = elim (calls.in_run end.handshake.phase) as (λ b. IsMet (if b then AtUsedIndex (calls.job_of who end frame) end.freed else Downed) met n) [ true ↦ record { two = λ e. absurd (cc); three = λ e. absurd (cc) } | false ↦ record { two = λ e. absurd (cc); three = λ e. absurd (cc) } ]
-first_met who end calls.Poll met n = elim (calls.in_run end.handshake.phase) as (λ b. IsMet (if b then AtAvailIndex (length end.delivered) (is_last who end.found_none) else Downed) met n) [ true ↦ record { two = λ e. absurd (cc); three = λ e. absurd (cc) } | false ↦ record { two = λ e. absurd (cc); three = λ e. absurd (cc) } ]
+first_met : (config : EndConfig) (end : End) (call : Call) (met : Option ℕ) (n : Numbers) → IsMet (first_place config end call) met n
+first_met config end calls.Tick met n = record { two = λ e. absurd (cc); three = λ e. absurd (cc) }
+first_met config end calls.Stop met n = record { two = λ e. absurd (cc); three = λ e. absurd (cc) }
+first_met config end (calls.Offer frame) met n = elim (calls.in_run end.handshake.phase) as (λ b. IsMet (if b then ReadingUsedIndex (calls.pending_of config end frame) end.freed else NotInRun) met n) [ true ↦ record { two = λ e. absurd (cc); three = λ e. absurd (cc) } | false ↦ record { two = λ e. absurd (cc); three = λ e. absurd (cc) } ]
+first_met config end calls.Poll met n = elim (calls.in_run end.handshake.phase) as (λ b. IsMet (if b then ReadingAvailIndex (length end.delivered) (is_last config end.found_none) else NotInRun) met n) [ true ↦ record { two = λ e. absurd (cc); three = λ e. absurd (cc) } | false ↦ record { two = λ e. absurd (cc); three = λ e. absurd (cc) } ]
 
-met_for : (who : Who) (end : End) (place : Place) (call : Option Call) (met : Option ℕ) (n : Numbers) → IsMet place met n → IsMet (place_for who end place call) met n
-met_for who end place None met n is = is
-met_for who end place (Some call) met n is = first_met who end call met n
+met_for : (config : EndConfig) (end : End) (place : Place) (call : Option Call) (met : Option ℕ) (n : Numbers) → IsMet place met n → IsMet (place_for config end place call) met n
+met_for config end place None met n is = is
+met_for config end place (Some call) met n is = first_met config end call met n
 
-pub met_in : (who : Who) (r : Runner) → HasMet r → due_word r.place r.met ≡ None → IsMet (place_in who r) r.met r.numbers
-met_in who r has due = met_for who r.end r.place (call_chosen (chosen r)) r.met r.numbers (is_met r has due)
+pub met_in : (config : EndConfig) (r : Runner) → HasMet r → due_word r.place r.met ≡ None → IsMet (place_in config r) r.met r.numbers
+met_in config r has due = met_for config r.end r.place (call_chosen (chosen r)) r.met r.numbers (is_met r has due)
 
-numbered_at : (who : Who) (place : Place) (met : Option ℕ) (n : Numbers) → IsMet place met n → IsNumbered n (access_at who place)
-numbered_at who (Setting state) met n is = (λ e. (is.two (ap Setting e)).1, λ e none. let t = is.three (ap Setting e) in some_none t.0 (sym t.2 ∙ none))
+numbered_at : (config : EndConfig) (place : Place) (met : Option ℕ) (n : Numbers) → IsMet place met n → IsNumbered n (access_at config place)
+numbered_at config (WritingState state) met n is = (λ e. (is.two (ap WritingState e)).1, λ e none. let t = is.three (ap WritingState e) in some_none t.0 (sym t.2 ∙ none))
   where
     some_none : (number : ℕ) → Some number ≡ None → ⊥
     some_none number e = cc
-numbered_at who Refusing met n is = (λ e. absurd (cc), λ e. absurd (cc))
-numbered_at who place met n is = tt
+numbered_at config Refusing met n is = (λ e. absurd (cc), λ e. absurd (cc))
+numbered_at config place met n is = tt
 
 -- the access to a word is the next one of the peer
-pub is_next : (key : Key) (me : ℕ) (r : Runner) (answer : Option Choice) (frames : List (List ℕ)) (a : Access) → Frames key frames → Matches answer frames (chosen r) → standing key me (accesses_in r.actions) ≡ stance_of r → HasMet r → due_word r.place r.met ≡ None →
-    is_open (place_in (who_in key me) r) ≡ true → a ≡ access_at (who_in key me) (place_in (who_in key me) r) → touches a ≡ true → IsNext key me (standing key me (accesses_in r.actions)) (call_told answer frames) a
-is_next key me r answer frames a are is stands has due opens at touching = let who = who_in key me in
-    let call_is : call_told answer frames ≡ call_chosen (chosen r) = told_call answer frames (chosen r) is in
-    let touch : touches (access_at who (place_in who r)) ≡ true = ap touches (sym at) ∙ touching in
-    let same : (begun_if who (stance_of r) (call_told answer frames)).place ≡ place_in who r = ap (λ (c : Option Call). (begun_if who (stance_of r) c).place) call_is ∙ settled_same who r touch in
-    subst (λ (s : Stance). IsNext key me s (call_told answer frames) a) (sym stands) (record {
-      at_call = begins_if key r (stance_of r) answer frames are is (λ closed. ap settled_place closed ∙ settled_closed);
+pub is_next : (key : RunSetup) (me : ℕ) (r : Runner) (answer : Option Choice) (frames : List (List ℕ)) (a : Access) → Frames key frames → Matches answer frames (chosen r) → derived_state key me (accesses_in r.actions) ≡ derived_state_of r → HasMet r → due_word r.place r.met ≡ None →
+    is_open (place_in (config_in key me) r) ≡ true → a ≡ access_at (config_in key me) (place_in (config_in key me) r) → touches a ≡ true → IsNext key me (derived_state key me (accesses_in r.actions)) (call_chosen_by answer frames) a
+is_next key me r answer frames a are is refines has due opens at touching = let config = config_in key me in
+    let call_is : call_chosen_by answer frames ≡ call_chosen (chosen r) = told_call answer frames (chosen r) is in
+    let touch : touches (access_at config (place_in config r)) ≡ true = ap touches (sym at) ∙ touching in
+    let same : (begun_if config (derived_state_of r) (call_chosen_by answer frames)).place ≡ place_in config r = ap (λ (c : Option Call). (begun_if config (derived_state_of r) c).place) call_is ∙ settled_same config r touch in
+    subst (λ (s : DerivedState). IsNext key me s (call_chosen_by answer frames) a) (sym refines) (record {
+      at_call = begins_if key r (derived_state_of r) answer frames are is (λ closed. ap settled_place closed ∙ settled_closed);
       goes = subst (λ (p : Place). is_open p ≡ true) (sym same) opens;
-      is = at ∙ ap (access_at who) (sym same);
-      numbered = subst (IsNumbered r.numbers) (sym at) (numbered_at who (place_in who r) r.met r.numbers (met_in who r has due));
+      is = at ∙ ap (access_at config) (sym same);
+      numbered = subst (IsNumbered r.numbers) (sym at) (numbered_at config (place_in config r) r.met r.numbers (met_in config r has due));
     })
 
 -- the call that is chosen offers a frame that may be offered
@@ -249,8 +249,8 @@ FitsIf mtu None = Unit {0}
 FitsIf mtu (Some call) = Fits mtu call
 
 -- an access in reach may be made
-pub may_make : (key : Key) (me : ℕ) (e : Engine) (end : End) (place : Place) (a : Access) → IsFit key → me < 2 → StandsAt e (who_in key me) end place → InReach e.who a → MayMake key me a
-may_make key me e end place a fit me2 stands reach = in_reach a (subst (λ (w : Who). InReach w a) (sym stands.made) reach)
+pub may_make : (key : RunSetup) (me : ℕ) (e : Engine) (end : End) (place : Place) (a : Access) → IsFit key → me < 2 → RefinesAt e (config_in key me) end place → IsPermittedAccess e.config a → MayMake key me a
+may_make key me e end place a fit me2 refines reach = in_reach a (subst (λ (w : EndConfig). IsPermittedAccess w a) (sym refines.made) reach)
   where
     two : 2 ≤ key.geometry.peers
     two = fit.shape.two_peers
@@ -258,14 +258,14 @@ may_make key me e end place a fit me2 stands reach = in_reach a (subst (λ (w : 
     other_ends : (p w : ℕ) → p < 2 → w < section_start key.geometry p + key.geometry.out → w < word_count key.geometry
     other_ends p w p2 high = let ends = section_ends key.geometry p (let h = two in omega arith) in omega arith
 
-    reads : (p w : ℕ) → p < 2 → InReach (who_in key p) (access.Read w) → w < word_count key.geometry
+    reads : (p w : ℕ) → p < 2 → IsPermittedAccess (config_in key p) (access.Read w) → w < word_count key.geometry
     reads zero w p2 (inl is) = let states = fit.shape.states in let t = two in omega arith
     reads zero w p2 (inr at) = other_ends 1 w (omega arith) at.1
     reads (suc zero) w p2 (inl is) = let states = fit.shape.states in let t = two in omega arith
     reads (suc zero) w p2 (inr at) = other_ends 0 w (omega arith) at.1
     reads (suc (suc p)) w p2 at = absurd (omega arith)
 
-    in_reach : (a : Access) → InReach (who_in key me) a → MayMake key me a
+    in_reach : (a : Access) → IsPermittedAccess (config_in key me) a → MayMake key me a
     in_reach (access.Read word) at = reads me word me2 at
     in_reach (access.Write word value) at = inl at
     in_reach (access.State state) at = tt
@@ -280,7 +280,7 @@ touched routes call (access.Ring target vector) value is = absurd (cc)
 touched routes call access.Nothing value is = absurd (cc)
 
 -- a doorbell makes no access to the region
-rung_none : (way : Way) (target : ℕ) → accesses_in {A = Deed Taken} (rung_by way target) ≡ []
+rung_none : (doorbell_path : DoorbellPath) (target : ℕ) → accesses_in {A = MemoryOp CallAccess} (rung_by doorbell_path target) ≡ []
 unfolding accesses_in
 rung_none Silent target = refl
 rung_none (Direct bit) target = refl
@@ -290,10 +290,10 @@ taken_none : (routes : List Route) (call : Option Call) (a : Access) (value : �
 taken_none routes call (access.Read word) value is = absurd (cc)
 taken_none routes call (access.Write word written) value is = absurd (cc)
 taken_none routes call (access.State state) value is = absurd (cc)
-taken_none routes call (access.Ring target vector) value is = rung_none (way_to routes target vector) target
+taken_none routes call (access.Ring target vector) value is = rung_none (doorbell_path_to routes target vector) target
 taken_none routes call access.Nothing value is = accesses_none
 
-cleared_none : (a : Access) (found : ℕ) → accesses_in {A = Deed Taken} (cleared_by a found) ≡ []
+cleared_none : (a : Access) (found : ℕ) → accesses_in {A = MemoryOp CallAccess} (cleared_by a found) ≡ []
 unfolding accesses_in
 cleared_none (access.Read word) found = refl
 cleared_none (access.Write word written) found = refl
@@ -307,106 +307,106 @@ not_touched routes call a (Cleared found) is = cleared_none a found
 not_touched routes call a Rung is = taken_none routes call a 0 is
 
 -- a doorbell alone is done in two turns
-guarded_still : (routes : List Route) (a : Access) → is_guarded (way_in routes a) ≡ true → touches a ≡ false
+guarded_still : (routes : List Route) (a : Access) → is_guarded (doorbell_path_in routes a) ≡ true → touches a ≡ false
 guarded_still routes (access.Read word) is = absurd (cc)
 guarded_still routes (access.Write word written) is = absurd (cc)
 guarded_still routes (access.State state) is = absurd (cc)
 guarded_still routes (access.Ring target vector) is = refl
 guarded_still routes access.Nothing is = refl
 
-touch_done : (routes : List Route) (ringing : Bool) (a : Access) (done : Done) → touches a ≡ true → IsDone ringing (is_guarded (way_in routes a)) done → done ≡ Stepped (value_done done)
+touch_done : (routes : List Route) (ringing : Bool) (a : Access) (done : Done) → touches a ≡ true → IsDone ringing (is_guarded (doorbell_path_in routes a)) done → done ≡ Stepped (value_done done)
 touch_done routes ringing a (Stepped value) touch is = refl
 touch_done routes ringing a (Cleared found) touch is = absurd (clash (sym (guarded_still routes a is.1) ∙ touch))
 touch_done routes ringing a Rung touch is = absurd (clash (sym (guarded_still routes a is.1) ∙ touch))
 
-pub held_guards : (ringing guarded : Bool) (done : Done) → IsDone ringing guarded done → holds_on done ≡ true → guarded ≡ true
+pub held_guards : (ringing guarded : Bool) (done : Done) → IsDone ringing guarded done → awaits_ring done ≡ true → guarded ≡ true
 held_guards ringing guarded (Stepped value) is held = absurd (clash held)
 held_guards ringing guarded (Cleared found) is held = is.1
 held_guards ringing guarded Rung is held = absurd (clash held)
 
 -- where the place in a turn is settled as closed, so was the one before
-settled_before : (who : Who) (r : Runner) (b : Bool) → is_open r.place ≡ b → settled_place (place_in who r) ≡ Closed → settled_place r.place ≡ Closed
-settled_before who r false is closed = ap settled_place (shut r.place is) ∙ settled_closed
-settled_before who r true is closed =
+settled_before : (config : EndConfig) (r : Runner) (b : Bool) → is_open r.place ≡ b → settled_place (place_in config r) ≡ Closed → settled_place r.place ≡ Closed
+settled_before config r false is closed = ap settled_place (shut r.place is) ∙ settled_closed
+settled_before config r true is closed =
     let none : call_chosen (chosen r) ≡ None = ap (λ (b : Bool). call_chosen (if b then None else Some (choice_of r.end.handshake.phase r.auto.round r.auto.frames r.auto.delivered r.auto.expected))) is in
-    ap settled_place (sym (at_none who r.end r.place (call_chosen (chosen r)) none)) ∙ closed
+    ap settled_place (sym (at_none config r.end r.place (call_chosen (chosen r)) none)) ∙ closed
 
 by_touch : {P : Type 0} → (b : Bool) → (b ≡ true → P) → (b ≡ false → P) → P
 by_touch true f g = f refl
 by_touch false f g = g refl
 
 -- the marks of a doorbell stand at the end of its step
-cleared_marks : (step : Step) (found : ℕ) → holds_on (Cleared found) ≡ false → marks_of (Clears step found) ≡ step.marks
+cleared_marks : (step : Step) (found : ℕ) → awaits_ring (Cleared found) ≡ false → marks_of (Clears step found) ≡ step.marks
 cleared_marks step found is = ap (λ (b : Bool). if b then [] else step.marks) is
 
-held_marks : (step : Step) (found : ℕ) → holds_on (Cleared found) ≡ true → marks_of (Clears step found) ≡ []
+held_marks : (step : Step) (found : ℕ) → awaits_ring (Cleared found) ≡ true → marks_of (Clears step found) ≡ []
 held_marks step found is = ap (λ (b : Bool). if b then [] else step.marks) is
 
-abbrev value_in : Who → Runner → Done → Step
-value_in who r done = step_at who (place_in who r) (value_done done)
+abbrev value_in : EndConfig → Runner → Done → Step
+value_in config r done = step_at config (place_in config r) (value_done done)
 
-abbrev at : End → Place → Numbers → Wake → Stance
+abbrev at : End → Place → Numbers → Wake → DerivedState
 at end place numbers wake = record { end = end; place = place; numbers = numbers; wake = wake }
 
 -- the stance after the turn
-begun_at : (who : Who) (r : Runner) (call : Option Call) (place : Place) → (begun_if who (stance_of r) call).place ≡ place → begun_if who (stance_of r) call ≡ at r.end place r.numbers r.wake
-begun_at who r None place is = ap (λ (p : Place). at r.end p r.numbers r.wake) is
-begun_at who r (Some call) place is = ap (λ (p : Place). at r.end p r.numbers r.wake) is
+begun_at : (config : EndConfig) (r : Runner) (call : Option Call) (place : Place) → (begun_if config (derived_state_of r) call).place ≡ place → begun_if config (derived_state_of r) call ≡ at r.end place r.numbers r.wake
+begun_at config r None place is = ap (λ (p : Place). at r.end p r.numbers r.wake) is
+begun_at config r (Some call) place is = ap (λ (p : Place). at r.end p r.numbers r.wake) is
 
-after_touch : (routes : List Route) (who : Who) (r : Runner) (value : ℕ) → touches (access_at who (place_in who r)) ≡ true →
-    after_access who (stance_of r) (taken (call_chosen (chosen r)) (access_at who (place_in who r)) value) ≡ stance_of (stepped_on routes who r (Stepped value))
-after_touch routes who r value touch = let place = place_in who r in let here = begun_at who r (call_chosen (chosen r)) place (settled_same who r touch) in
-    ap (λ (s : Stance). settled (moved who s value)) here
+after_touch : (routes : List Route) (config : EndConfig) (r : Runner) (value : ℕ) → touches (access_at config (place_in config r)) ≡ true →
+    after_access config (derived_state_of r) (taken (call_chosen (chosen r)) (access_at config (place_in config r)) value) ≡ derived_state_of (stepped_on routes config r (Stepped value))
+after_touch routes config r value touch = let place = place_in config r in let here = begun_at config r (call_chosen (chosen r)) place (settled_same config r touch) in
+    ap (λ (s : DerivedState). settled (moved config s value)) here
 
 -- an access to the region leads the peer where the turn does
-stands_touched : (key : Key) (me : ℕ) (routes : List Route) (value : ℕ) (r : Runner) → honest_of key me ≡ true → touches (access_at (who_in key me) (place_in (who_in key me) r)) ≡ true → standing key me (accesses_in r.actions) ≡ stance_of r →
-    standing key me (accesses_in (stepped_on routes (who_in key me) r (Stepped value)).actions) ≡ stance_of (stepped_on routes (who_in key me) r (Stepped value))
-stands_touched key me routes value r hp touch stands = let who = who_in key me in let a = access_at who (place_in who r) in let call = call_chosen (chosen r) in
-    ap (λ l. standing key me (accesses_in (r.actions ++ l))) (touched routes call a value touch) ∙ (ap (standing key me) (accesses_snoc r.actions (accessed (called (taken call a value)))) ∙ (standing_snoc key me (accesses_in r.actions) (called (taken call a value))
-    ∙ (stand_honest key me (standing key me (accesses_in r.actions)) (called (taken call a value)) hp ∙ (ap (λ (s : Stance). after_access who s (taken call a value)) stands ∙ after_touch routes who r value touch))))
+stands_touched : (key : RunSetup) (me : ℕ) (routes : List Route) (value : ℕ) (r : Runner) → honest_of key me ≡ true → touches (access_at (config_in key me) (place_in (config_in key me) r)) ≡ true → derived_state key me (accesses_in r.actions) ≡ derived_state_of r →
+    derived_state key me (accesses_in (stepped_on routes (config_in key me) r (Stepped value)).actions) ≡ derived_state_of (stepped_on routes (config_in key me) r (Stepped value))
+stands_touched key me routes value r hp touch refines = let config = config_in key me in let a = access_at config (place_in config r) in let call = call_chosen (chosen r) in
+    ap (λ l. derived_state key me (accesses_in (r.actions ++ l))) (touched routes call a value touch) ∙ (ap (derived_state key me) (accesses_snoc r.actions (accessed (called (taken call a value)))) ∙ (standing_snoc key me (accesses_in r.actions) (called (taken call a value))
+    ∙ (stand_honest key me (derived_state key me (accesses_in r.actions)) (called (taken call a value)) hp ∙ (ap (λ (s : DerivedState). after_access config s (taken call a value)) refines ∙ after_touch routes config r value touch))))
 
 -- what is no access to the region leaves it
-stays_standing : (key : Key) (me : ℕ) (r : Runner) (acts : List (Action (Deed Taken))) → accesses_in acts ≡ [] → standing key me (accesses_in r.actions) ≡ stance_of r → standing key me (accesses_in (r.actions ++ acts)) ≡ stance_of r
-stays_standing key me r acts none stands = ap (standing key me) (accesses_both r.actions acts ∙ (ap (λ l. accesses_in r.actions ++ l) none ∙ append-nil (accesses_in r.actions))) ∙ stands
+stays_standing : (key : RunSetup) (me : ℕ) (r : Runner) (acts : List (Action (MemoryOp CallAccess))) → accesses_in acts ≡ [] → derived_state key me (accesses_in r.actions) ≡ derived_state_of r → derived_state key me (accesses_in (r.actions ++ acts)) ≡ derived_state_of r
+stays_standing key me r acts none refines = ap (derived_state key me) (accesses_both r.actions acts ∙ (ap (λ l. accesses_in r.actions ++ l) none ∙ append-nil (accesses_in r.actions))) ∙ refines
 
 -- the longer list leaves the peer where the turn does
-stands_stepped : (key : Key) (me : ℕ) (routes : List Route) (ringing : Bool) (done : Done) (r : Runner) → honest_of key me ≡ true → is_open (place_in (who_in key me) r) ≡ true → IsDone ringing (is_guarded (way_in routes (access_at (who_in key me) (place_in (who_in key me) r)))) done →
-    holds_on done ≡ false → standing key me (accesses_in r.actions) ≡ stance_of r → standing key me (accesses_in (stepped_on routes (who_in key me) r done).actions) ≡ stance_of (stepped_on routes (who_in key me) r done)
-stands_stepped key me routes ringing done r hp opens is goes stands = let who = who_in key me in let a = access_at who (place_in who r) in let call = call_chosen (chosen r) in let place = place_in who r in
-    let P : Done → Type 0 = λ d. standing key me (accesses_in (stepped_on routes who r d).actions) ≡ stance_of (stepped_on routes who r d) in
+stands_stepped : (key : RunSetup) (me : ℕ) (routes : List Route) (ringing : Bool) (done : Done) (r : Runner) → honest_of key me ≡ true → is_open (place_in (config_in key me) r) ≡ true → IsDone ringing (is_guarded (doorbell_path_in routes (access_at (config_in key me) (place_in (config_in key me) r)))) done →
+    awaits_ring done ≡ false → derived_state key me (accesses_in r.actions) ≡ derived_state_of r → derived_state key me (accesses_in (stepped_on routes (config_in key me) r done).actions) ≡ derived_state_of (stepped_on routes (config_in key me) r done)
+stands_stepped key me routes ringing done r hp opens is goes refines = let config = config_in key me in let a = access_at config (place_in config r) in let call = call_chosen (chosen r) in let place = place_in config r in
+    let P : Done → Type 0 = λ d. derived_state key me (accesses_in (stepped_on routes config r d).actions) ≡ derived_state_of (stepped_on routes config r d) in
     by_touch (touches a)
-    (λ t. subst P (sym (touch_done routes ringing a done t is)) (stands_touched key me routes (value_done done) r hp t stands))
-    (λ f. let u = untouching who r.end place (value_done done) opens f in
-    let spot : settled_place r.place ≡ settled_place (next_place who place (value_done done)) = settled_before who r (is_open r.place) refl u.settles ∙ sym (ap settled_place u.next ∙ settled_closed) in
-    stays_standing key me r (done_of routes call a done) (not_touched routes call a done f) stands
+    (λ t. subst P (sym (touch_done routes ringing a done t is)) (stands_touched key me routes (value_done done) r hp t refines))
+    (λ f. let u = untouching config r.end place (value_done done) opens f in
+    let spot : settled_place r.place ≡ settled_place (next_place config place (value_done done)) = settled_before config r (is_open r.place) refl u.settles ∙ sym (ap settled_place u.next ∙ settled_closed) in
+    stays_standing key me r (done_of routes call a done) (not_touched routes call a done f) refines
     ∙ (λ i. at (sym u.end_is i) (spot i) (sym (u.numbered r.numbers) i) (sym (u.wakes (length r.end.accepted) (length r.end.delivered) r.wake) i)))
 
-stands_held : (key : Key) (me : ℕ) (routes : List Route) (done : Done) (r : Runner) → touches (access_at (who_in key me) (place_in (who_in key me) r)) ≡ false → holds_on done ≡ true → standing key me (accesses_in r.actions) ≡ stance_of r →
-    standing key me (accesses_in (held_on routes (who_in key me) r done).actions) ≡ stance_of (held_on routes (who_in key me) r done)
-stands_held key me routes done r still held stands = let who = who_in key me in let a = access_at who (place_in who r) in let call = call_chosen (chosen r) in
-    stays_standing key me r (done_of routes call a done) (not_touched routes call a done still) stands
+stands_held : (key : RunSetup) (me : ℕ) (routes : List Route) (done : Done) (r : Runner) → touches (access_at (config_in key me) (place_in (config_in key me) r)) ≡ false → awaits_ring done ≡ true → derived_state key me (accesses_in r.actions) ≡ derived_state_of r →
+    derived_state key me (accesses_in (held_on routes (config_in key me) r done).actions) ≡ derived_state_of (held_on routes (config_in key me) r done)
+stands_held key me routes done r still held refines = let config = config_in key me in let a = access_at config (place_in config r) in let call = call_chosen (chosen r) in
+    stays_standing key me r (done_of routes call a done) (not_touched routes call a done still) refines
 
-stands_looked : (key : Key) (me : ℕ) (r : Runner) (found : ℕ) → standing key me (accesses_in r.actions) ≡ stance_of r → standing key me (accesses_in (looked_on r found).actions) ≡ stance_of (looked_on r found)
-stands_looked key me r found stands = stays_standing key me r (looked found ∷ []) (looked_none found) stands
+stands_looked : (key : RunSetup) (me : ℕ) (r : Runner) (found : ℕ) → derived_state key me (accesses_in r.actions) ≡ derived_state_of r → derived_state key me (accesses_in (looked_on r found).actions) ≡ derived_state_of (looked_on r found)
+stands_looked key me r found refines = stays_standing key me r (looked found ∷ []) (looked_none found) refines
   where
-    looked_none : (found : ℕ) → accesses_in {A = Deed Taken} (looked found ∷ []) ≡ []
+    looked_none : (found : ℕ) → accesses_in {A = MemoryOp CallAccess} (looked found ∷ []) ≡ []
     looked_none found = accesses_snoc [] (looked found) ∙ ap (λ l. l ++ []) accesses_none
 
 -- what a peer does besides its calls leaves it where the runner is
-stands_snoc : (key : Key) (me : ℕ) (r : Runner) (d : Deed Taken) → honest_of key me ≡ true → standing key me (accesses_in r.actions) ≡ stance_of r → standing key me (accesses_in (r.actions ++ accessed d ∷ [])) ≡ after_deed (who_in key me) (stance_of r) d
-stands_snoc key me r d hp stands = ap (standing key me) (accesses_snoc r.actions (accessed d)) ∙ (standing_snoc key me (accesses_in r.actions) d
-    ∙ (stand_honest key me (standing key me (accesses_in r.actions)) d hp ∙ ap (λ (s : Stance). after_deed (who_in key me) s d) stands))
+stands_snoc : (key : RunSetup) (me : ℕ) (r : Runner) (d : MemoryOp CallAccess) → honest_of key me ≡ true → derived_state key me (accesses_in r.actions) ≡ derived_state_of r → derived_state key me (accesses_in (r.actions ++ accessed d ∷ [])) ≡ after_memory_op (config_in key me) (derived_state_of r) d
+stands_snoc key me r d hp refines = ap (derived_state key me) (accesses_snoc r.actions (accessed d)) ∙ (standing_snoc key me (accesses_in r.actions) d
+    ∙ (stand_honest key me (derived_state key me (accesses_in r.actions)) d hp ∙ ap (λ (s : DerivedState). after_memory_op (config_in key me) s d) refines))
 
-stands_met : (key : Key) (me : ℕ) (word : SessionWord) (r : Runner) (number : ℕ) → honest_of key me ≡ true → standing key me (accesses_in r.actions) ≡ stance_of r → standing key me (accesses_in (met_on word r number).actions) ≡ stance_of (met_on word r number)
-stands_met key me Own r number hp stands = stands_snoc key me r (numbered number) hp stands
-stands_met key me Others r number hp stands = stands_snoc key me r (carried number) hp stands
+stands_met : (key : RunSetup) (me : ℕ) (word : SessionWord) (r : Runner) (number : ℕ) → honest_of key me ≡ true → derived_state key me (accesses_in r.actions) ≡ derived_state_of r → derived_state key me (accesses_in (met_on word r number).actions) ≡ derived_state_of (met_on word r number)
+stands_met key me Own r number hp refines = stands_snoc key me r (numbered number) hp refines
+stands_met key me Others r number hp refines = stands_snoc key me r (carried number) hp refines
 
-stands_restarted : (key : Key) (me : ℕ) (r : Runner) → honest_of key me ≡ true → standing key me (accesses_in r.actions) ≡ stance_of r → standing key me (accesses_in (restarted_on r).actions) ≡ stance_of (restarted_on r)
-stands_restarted key me r hp stands = let after = restarted_on r in stands_snoc key me r restarted hp stands ∙ (λ i. at after.end (sym settled_closed i) after.numbers after.wake)
+stands_restarted : (key : RunSetup) (me : ℕ) (r : Runner) → honest_of key me ≡ true → derived_state key me (accesses_in r.actions) ≡ derived_state_of r → derived_state key me (accesses_in (restarted_on r).actions) ≡ derived_state_of (restarted_on r)
+stands_restarted key me r hp refines = let after = restarted_on r in stands_snoc key me r restarted hp refines ∙ (λ i. at after.end (sym settled_closed i) after.numbers after.wake)
 
 -- The pass after a turn
 
-rung_one : (way : Way) (target : ℕ) → length {A = Action (Deed Taken)} (rung_by way target) ≤ 1
+rung_one : (doorbell_path : DoorbellPath) (target : ℕ) → length {A = Action (MemoryOp CallAccess)} (rung_by doorbell_path target) ≤ 1
 rung_one Silent target = omega arith
 rung_one (Direct bit) target = omega arith
 rung_one (Guarded bit) target = omega arith
@@ -415,7 +415,7 @@ taken_one : (routes : List Route) (call : Option Call) (a : Access) (value : ℕ
 taken_one routes call (access.Read word) value = omega arith
 taken_one routes call (access.Write word written) value = omega arith
 taken_one routes call (access.State state) value = omega arith
-taken_one routes call (access.Ring target vector) value = rung_one (way_to routes target vector) target
+taken_one routes call (access.Ring target vector) value = rung_one (doorbell_path_to routes target vector) target
 taken_one routes call access.Nothing value = omega arith
 
 pub done_one : (routes : List Route) (call : Option Call) (a : Access) (done : Done) → length (done_of routes call a done) ≤ 1
@@ -428,31 +428,31 @@ done_one routes call access.Nothing (Cleared found) = omega arith
 done_one routes call (access.Read word) Rung = omega arith
 done_one routes call (access.Write word written) Rung = omega arith
 done_one routes call (access.State state) Rung = omega arith
-done_one routes call (access.Ring target vector) Rung = rung_one (way_to routes target vector) target
+done_one routes call (access.Ring target vector) Rung = rung_one (doorbell_path_to routes target vector) target
 done_one routes call access.Nothing Rung = omega arith
 
-made_lists : (h : Held) (l acts : List (Action (Deed Taken))) → length acts ≤ 1 → h.lists ≡ l ∷ [] → (made h acts).lists ≡ (l ++ acts) ∷ []
+made_lists : (h : PassView) (l acts : List (Action (MemoryOp CallAccess))) → length acts ≤ 1 → h.lists ≡ l ∷ [] → (made h acts).lists ≡ (l ++ acts) ∷ []
 made_lists h l [] one is = is ∙ ap (λ m. m ∷ []) (sym (append-nil l))
 made_lists h l (t ∷ []) one is = ap (λ ls. (added (record h { lists = ls }) t).lists) is
 made_lists h l (t ∷ u ∷ acts) one is = absurd (omega arith)
 
-pub made_from : (h : Held) (acts : List (Action (Deed Taken))) → (made h acts).from ≡ h.from
+pub made_from : (h : PassView) (acts : List (Action (MemoryOp CallAccess))) → (made h acts).from ≡ h.from
 made_from h [] = refl
 made_from h (t ∷ acts) = refl
 
-pub made_id : (h : Held) (acts : List (Action (Deed Taken))) → (made h acts).table_id ≡ h.table_id
+pub made_id : (h : PassView) (acts : List (Action (MemoryOp CallAccess))) → (made h acts).table_id ≡ h.table_id
 made_id h [] = refl
 made_id h (t ∷ acts) = refl
 
-pub made_held : (h : Held) (l acts : List (Action (Deed Taken))) → length acts ≤ 1 → h.lists ≡ l ∷ [] → made h acts ≡ held h.table_id h.from ((l ++ acts) ∷ [])
+pub made_held : (h : PassView) (l acts : List (Action (MemoryOp CallAccess))) → length acts ≤ 1 → h.lists ≡ l ∷ [] → made h acts ≡ held h.table_id h.from ((l ++ acts) ∷ [])
 made_held h l acts one is = λ i. record { table_id = made_id h acts i; from = made_from h acts i; lists = made_lists h l acts one is i }
 
 -- the frames of the place in a turn
-call_bytes : (who : Who) (end : End) (call : calls.Call) (mtu : ℕ) → who.sizes.mtu ≡ mtu → Fits mtu call → HasFrames (first_place who end call)
-call_bytes who end calls.Tick mtu same fits = first_frames who end calls.Tick tt
-call_bytes who end calls.Stop mtu same fits = first_frames who end calls.Stop tt
-call_bytes who end (calls.Offer frame) mtu same fits = first_frames who end (calls.Offer frame) (fits.0, let most = fits.1 in omega arith)
-call_bytes who end calls.Poll mtu same fits = first_frames who end calls.Poll tt
+call_bytes : (config : EndConfig) (end : End) (call : calls.Call) (mtu : ℕ) → config.sizes.mtu ≡ mtu → Fits mtu call → HasFrames (first_place config end call)
+call_bytes config end calls.Tick mtu same fits = first_frames config end calls.Tick tt
+call_bytes config end calls.Stop mtu same fits = first_frames config end calls.Stop tt
+call_bytes config end (calls.Offer frame) mtu same fits = first_frames config end (calls.Offer frame) (fits.0, let most = fits.1 in omega arith)
+call_bytes config end calls.Poll mtu same fits = first_frames config end calls.Poll tt
 
 fits_of : (mtu : ℕ) (answer : Choice) (frames : List (List ℕ)) → All (IsFrame mtu) frames → FitsIf mtu (call_of answer frames)
 fits_of mtu Tick frames are = tt
@@ -461,62 +461,62 @@ fits_of mtu Offer (frame ∷ frames) are = first_frame mtu frame frames are
 fits_of mtu Poll frames are = tt
 fits_of mtu Finished frames are = tt
 
-fits_told : (mtu : ℕ) (answer : Option Choice) (frames : List (List ℕ)) → All (IsFrame mtu) frames → FitsIf mtu (call_told answer frames)
+fits_told : (mtu : ℕ) (answer : Option Choice) (frames : List (List ℕ)) → All (IsFrame mtu) frames → FitsIf mtu (call_chosen_by answer frames)
 fits_told mtu None frames are = tt
 fits_told mtu (Some answer) frames are = fits_of mtu answer frames are
 
-place_bytes : (who : Who) (end : End) (place : Place) (call : Option Call) → FitsIf who.sizes.mtu call → HasFrames place → HasFrames (place_for who end place call)
-place_bytes who end place None fits has = has
-place_bytes who end place (Some call) fits has = call_bytes who end call who.sizes.mtu refl fits
+place_bytes : (config : EndConfig) (end : End) (place : Place) (call : Option Call) → FitsIf config.sizes.mtu call → HasFrames place → HasFrames (place_for config end place call)
+place_bytes config end place None fits has = has
+place_bytes config end place (Some call) fits has = call_bytes config end call config.sizes.mtu refl fits
 
 -- the frames of the place in a turn have their bytes
-pub bytes_in : (key : Key) (me : ℕ) (routes : List Route) (r : Runner) (answer : Option Choice) (old : Held) (p : AutoPeer) → Turns key me routes r answer old p → HasFrames (place_in (who_in key me) r)
+pub bytes_in : (key : RunSetup) (me : ℕ) (routes : List Route) (r : Runner) (answer : Option Choice) (old : PassView) (p : AutoPeer) → Turns key me routes r answer old p → HasFrames (place_in (config_in key me) r)
 bytes_in key me routes r answer old p turns = let plan = p.auto in
-    let frames : Frames key (round_on r.auto (chosen r)).frames = subst (Frames key) (sym (round_frames r.auto (chosen r))) turns.there.stands.frames in
+    let frames : Frames key (round_on r.auto (chosen r)).frames = subst (Frames key) (sym (round_frames r.auto (chosen r))) turns.there.refines.frames in
     let planned : Frames key plan.frames = subst (Frames key) (sym turns.is.planned.frames) frames in
     let fits : FitsIf key.queue.mtu (call_chosen (chosen r)) = subst (FitsIf key.queue.mtu) (told_call answer plan.frames (chosen r) turns.matches) (fits_told key.queue.mtu answer plan.frames planned) in
-    place_bytes (who_in key me) r.end r.place (call_chosen (chosen r)) fits turns.there.stands.bytes
+    place_bytes (config_in key me) r.end r.place (call_chosen (chosen r)) fits turns.there.refines.bytes
 
 -- Where a doorbell is to be done in two turns, its call is open
 
-first_silent : (routes : List Route) (who : Who) (end : End) (call : Call) → is_guarded (way_in routes (access_at who (first_place who end call))) ≡ false
-first_silent routes who end calls.Tick = refl
-first_silent routes who end calls.Stop = refl
-first_silent routes who end (calls.Offer frame) = elim (calls.in_run end.handshake.phase) as (λ b. is_guarded (way_in routes (access_at who (if b then AtUsedIndex (calls.job_of who end frame) end.freed else Downed))) ≡ false) [ true ↦ refl | false ↦ refl ]
-first_silent routes who end calls.Poll = elim (calls.in_run end.handshake.phase) as (λ b. is_guarded (way_in routes (access_at who (if b then AtAvailIndex (length end.delivered) (is_last who end.found_none) else Downed))) ≡ false) [ true ↦ refl | false ↦ refl ]
+first_silent : (routes : List Route) (config : EndConfig) (end : End) (call : Call) → is_guarded (doorbell_path_in routes (access_at config (first_place config end call))) ≡ false
+first_silent routes config end calls.Tick = refl
+first_silent routes config end calls.Stop = refl
+first_silent routes config end (calls.Offer frame) = elim (calls.in_run end.handshake.phase) as (λ b. is_guarded (doorbell_path_in routes (access_at config (if b then ReadingUsedIndex (calls.pending_of config end frame) end.freed else NotInRun))) ≡ false) [ true ↦ refl | false ↦ refl ]
+first_silent routes config end calls.Poll = elim (calls.in_run end.handshake.phase) as (λ b. is_guarded (doorbell_path_in routes (access_at config (if b then ReadingAvailIndex (length end.delivered) (is_last config end.found_none) else NotInRun))) ≡ false) [ true ↦ refl | false ↦ refl ]
 
-begun_silent : (routes : List Route) (who : Who) (end : End) (place : Place) (c : automatic.Choice) → is_end c ≡ false → is_guarded (way_in routes (access_at who (place_for who end place (call_chosen (Some c))))) ≡ false
-begun_silent routes who end place automatic.ChoosesTick goes = first_silent routes who end calls.Tick
-begun_silent routes who end place (automatic.ChoosesOffer frame) goes = first_silent routes who end (calls.Offer frame)
-begun_silent routes who end place automatic.ChoosesPoll goes = first_silent routes who end calls.Poll
-begun_silent routes who end place automatic.IsFinished goes = absurd (clash (sym goes))
+begun_silent : (routes : List Route) (config : EndConfig) (end : End) (place : Place) (c : automatic.Choice) → is_end c ≡ false → is_guarded (doorbell_path_in routes (access_at config (place_for config end place (call_chosen (Some c))))) ≡ false
+begun_silent routes config end place automatic.ChoosesTick goes = first_silent routes config end calls.Tick
+begun_silent routes config end place (automatic.ChoosesOffer frame) goes = first_silent routes config end (calls.Offer frame)
+begun_silent routes config end place automatic.ChoosesPoll goes = first_silent routes config end calls.Poll
+begun_silent routes config end place automatic.IsFinished goes = absurd (clash (sym goes))
 
-chosen_silent : (routes : List Route) (who : Who) (r : Runner) (c : Option automatic.Choice) → finishes c ≡ false → is_guarded (way_in routes (access_at who (place_for who r.end r.place (call_chosen c)))) ≡ true → c ≡ None
-chosen_silent routes who r None goes guarded = refl
-chosen_silent routes who r (Some c) goes guarded = absurd (clash (sym (begun_silent routes who r.end r.place c goes) ∙ guarded))
+chosen_silent : (routes : List Route) (config : EndConfig) (r : Runner) (c : Option automatic.Choice) → finishes c ≡ false → is_guarded (doorbell_path_in routes (access_at config (place_for config r.end r.place (call_chosen c)))) ≡ true → c ≡ None
+chosen_silent routes config r None goes guarded = refl
+chosen_silent routes config r (Some c) goes guarded = absurd (clash (sym (begun_silent routes config r.end r.place c goes) ∙ guarded))
 
-pub none_chosen : (routes : List Route) (who : Who) (r : Runner) → has_finished r ≡ false → is_guarded (way_in routes (access_at who (place_in who r))) ≡ true → chosen r ≡ None
-none_chosen routes who r goes guarded = chosen_silent routes who r (chosen r) goes guarded
+pub none_chosen : (routes : List Route) (config : EndConfig) (r : Runner) → has_finished r ≡ false → is_guarded (doorbell_path_in routes (access_at config (place_in config r))) ≡ true → chosen r ≡ None
+none_chosen routes config r goes guarded = chosen_silent routes config r (chosen r) goes guarded
 
-pub same_open : (who : Who) (r : Runner) → chosen r ≡ None → place_in who r ≡ r.place
-same_open who r none = ap (λ (c : Option automatic.Choice). place_for who r.end r.place (call_chosen c)) none
+pub same_open : (config : EndConfig) (r : Runner) → chosen r ≡ None → place_in config r ≡ r.place
+same_open config r none = ap (λ (c : Option automatic.Choice). place_for config r.end r.place (call_chosen c)) none
 
 -- a ring that is to come may be made at the place of the turn
-pub may_come : (key : Key) (me : ℕ) (routes : List Route) (ringing : Bool) (r : Runner) (end : Engine) (a : Access) → Stands key me routes r end → r.ringing ≡ ringing → a ≡ access_at (who_in key me) (place_in (who_in key me) r) → ringing ≡ true → MayRingBy routes a r.actions
-may_come key me routes ringing r end a s same at is = let who = who_in key me in let may : MayRingBy routes (access_at who r.place) r.actions = s.rings (same ∙ is) in
-    subst (λ (x : Access). MayRingBy routes x r.actions) (ap (access_at who) (sym (same_open who r (opened_none r (rings_open who r.place r.actions may)))) ∙ sym at) may
+pub may_come : (key : RunSetup) (me : ℕ) (routes : List Route) (ringing : Bool) (r : Runner) (end : Engine) (a : Access) → RunnerRefines key me routes r end → r.ringing ≡ ringing → a ≡ access_at (config_in key me) (place_in (config_in key me) r) → ringing ≡ true → MayRingBy routes a r.actions
+may_come key me routes ringing r end a s same at is = let config = config_in key me in let may : MayRingBy routes (access_at config r.place) r.actions = s.rings (same ∙ is) in
+    subst (λ (x : Access). MayRingBy routes x r.actions) (ap (access_at config) (sym (same_open config r (opened_none r (rings_open config r.place r.actions may)))) ∙ sym at) may
   where
-    rings_open : (who : Who) (place : Place) (list : List (Action (Deed Taken))) → MayRingBy routes (access_at who place) list → is_open place ≡ true
-    rings_open who RingingOffer list may = refl
-    rings_open who RingingPoll list may = refl
-    rings_open who place list may = absurd may
+    rings_open : (config : EndConfig) (place : Place) (list : List (Action (MemoryOp CallAccess))) → MayRingBy routes (access_at config place) list → is_open place ≡ true
+    rings_open config RingingOffer list may = refl
+    rings_open config RingingPoll list may = refl
+    rings_open config place list may = absurd may
 
     opened_none : (r : Runner) → is_open r.place ≡ true → chosen r ≡ None
     opened_none r open_is = ap (λ (b : Bool). if b then None else Some (choice_of r.end.handshake.phase r.auto.round r.auto.frames r.auto.delivered r.auto.expected)) open_is
 
 -- the list of the pass after a turn
-list_after : (old pass : Held) (l acts : List (Action (Deed Taken))) → length acts ≤ 1 → pass ≡ made old acts → old.lists ≡ l ∷ [] → pass.lists ≡ (l ++ acts) ∷ []
-list_after old pass l acts one is was = ap (λ (h : Held). h.lists) is ∙ made_lists old l acts one was
+list_after : (old pass : PassView) (l acts : List (Action (MemoryOp CallAccess))) → length acts ≤ 1 → pass ≡ made old acts → old.lists ≡ l ∷ [] → pass.lists ≡ (l ++ acts) ∷ []
+list_after old pass l acts one is was = ap (λ (h : PassView). h.lists) is ∙ made_lists old l acts one was
 
 -- where nothing is met, nothing is to come of it
 none_met : (r : Runner) → r.met ≡ None → HasMet r
@@ -526,68 +526,68 @@ none_met r none = record { stored = λ number at is. none_some number (sym none 
     none_some number e = absurd (cc)
 
 -- a turn that was taken to the end of its step: its call was opened, the step was done and taken, and its notes were counted
-pub turn_taken : (key : Key) (me : ℕ) (routes : List Route) (done : Done) (r : Runner) (answer : Option Choice) (old pass : Held) (p : AutoPeer) (new : Plan) (e1 e2 : Engine) (a : Access) (notes : List Note) → honest_of key me ≡ true →
-    Turns key me routes r answer old p → StandsAt e1 (who_in key me) r.end (place_in (who_in key me) r) → is_open (place_in (who_in key me) r) ≡ true → a ≡ access_at (who_in key me) (place_in (who_in key me) r) →
-    IsDone p.ringing (is_guarded (way_in routes a)) done → holds_on done ≡ false → pass ≡ made old (done_of routes (call_told answer p.auto.frames) a done) → Takes e1 (value_done done) notes e2 →
+pub turn_taken : (key : RunSetup) (me : ℕ) (routes : List Route) (done : Done) (r : Runner) (answer : Option Choice) (old pass : PassView) (p : AutoPeer) (new : Plan) (e1 e2 : Engine) (a : Access) (notes : List Note) → honest_of key me ≡ true →
+    Turns key me routes r answer old p → RefinesAt e1 (config_in key me) r.end (place_in (config_in key me) r) → is_open (place_in (config_in key me) r) ≡ true → a ≡ access_at (config_in key me) (place_in (config_in key me) r) →
+    IsDone p.ringing (is_guarded (doorbell_path_in routes a)) done → awaits_ring done ≡ false → pass ≡ made old (done_of routes (call_chosen_by answer p.auto.frames) a done) → Takes e1 (value_done done) notes e2 →
     ((auto : Auto) (one other : List ℕ) → IsPlanOf p.auto auto → IsPlanOf new (counted_all auto (marks_between one other notes))) →
-    IsThere key me routes (stepped_on routes (who_in key me) r done) pass e2 × IsPlanOf new (stepped_on routes (who_in key me) r done).auto
-turn_taken key me routes done r answer old pass p new e1 e2 a notes hp turns stands opens at is_done goes is took counts = let who = who_in key me in let place = place_in who r in let value = value_done done in let frames_of = p.auto.frames in
-    let list : done_of routes (call_told answer frames_of) a done ≡ done_of routes (call_chosen (chosen r)) (access_at who place) done = (λ i. done_of routes (told_call answer frames_of (chosen r) turns.matches i) (at i) done) in
-    let marked : marks_between (offered e1) (delivered e2) notes ≡ marks_at who place value = took.marked who r.end place stands in
-    let frames : Frames key (round_on r.auto (chosen r)).frames = subst (Frames key) (sym (round_frames r.auto (chosen r))) turns.there.stands.frames in (
+    IsThere key me routes (stepped_on routes (config_in key me) r done) pass e2 × IsPlanOf new (stepped_on routes (config_in key me) r done).auto
+turn_taken key me routes done r answer old pass p new e1 e2 a notes hp turns refines opens at is_done goes is took counts = let config = config_in key me in let place = place_in config r in let value = value_done done in let frames_of = p.auto.frames in
+    let list : done_of routes (call_chosen_by answer frames_of) a done ≡ done_of routes (call_chosen (chosen r)) (access_at config place) done = (λ i. done_of routes (told_call answer frames_of (chosen r) turns.matches i) (at i) done) in
+    let marked : marks_between (offered e1) (delivered e2) notes ≡ marks_at config place value = took.marked config r.end place refines in
+    let frames : Frames key (round_on r.auto (chosen r)).frames = subst (Frames key) (sym (round_frames r.auto (chosen r))) turns.there.refines.frames in (
       record {
-        stands = record {
-          stands = took.stands who r.end place stands;
-          standing = stands_stepped key me routes p.ringing done r hp opens (subst (λ (x : Access). IsDone p.ringing (is_guarded (way_in routes x)) done) at is_done) goes turns.there.stands.standing;
-          bytes = next_frames who place value (bytes_in key me routes r answer old p turns);
-          frames = offered_counted key.queue.mtu (round_on r.auto (chosen r)) (marks_at who place value) frames;
+        refines = record {
+          refines = took.refines config r.end place refines;
+          derived_state = stands_stepped key me routes p.ringing done r hp opens (subst (λ (x : Access). IsDone p.ringing (is_guarded (doorbell_path_in routes x)) done) at is_done) goes turns.there.refines.derived_state;
+          bytes = next_frames config place value (bytes_in key me routes r answer old p turns);
+          frames = offered_counted key.queue.mtu (round_on r.auto (chosen r)) (marks_at config place value) frames;
           rings = λ e. absurd (clash e);
-          met = none_met (stepped_on routes who r done) refl;
+          met = none_met (stepped_on routes config r done) refl;
         };
-        from = ap (λ (h : Held). h.from) is ∙ (made_from old (done_of routes (call_told answer frames_of) a done) ∙ turns.there.from);
-        lists = list_after old pass r.actions (done_of routes (call_told answer frames_of) a done) (done_one routes (call_told answer frames_of) a done) is turns.there.lists ∙ ap (λ l. (r.actions ++ l) ∷ []) list;
+        from = ap (λ (h : PassView). h.from) is ∙ (made_from old (done_of routes (call_chosen_by answer frames_of) a done) ∙ turns.there.from);
+        lists = list_after old pass r.actions (done_of routes (call_chosen_by answer frames_of) a done) (done_one routes (call_chosen_by answer frames_of) a done) is turns.there.lists ∙ ap (λ l. (r.actions ++ l) ∷ []) list;
       },
       subst (λ ms. IsPlanOf new (counted_all (round_on r.auto (chosen r)) ms)) marked (counts (round_on r.auto (chosen r)) (offered e1) (delivered e2) turns.is.planned),
     )
 
 -- a turn in which the clear of a doorbell found the bit
-pub turn_held : (key : Key) (me : ℕ) (routes : List Route) (done : Done) (r : Runner) (answer : Option Choice) (old pass : Held) (p : AutoPeer) (e1 : Engine) (a : Access) →
-    Turns key me routes r answer old p → StandsAt e1 (who_in key me) r.end (place_in (who_in key me) r) → a ≡ access_at (who_in key me) (place_in (who_in key me) r) →
-    IsDone p.ringing (is_guarded (way_in routes a)) done → holds_on done ≡ true → pass ≡ made old (done_of routes (call_told answer p.auto.frames) a done) → MayRingBy routes a (front pass.lists) →
-    IsThere key me routes (held_on routes (who_in key me) r done) pass e1 × IsPlanOf p.auto (held_on routes (who_in key me) r done).auto
-turn_held key me routes done r answer old pass p e1 a turns stands at is_done held is may = let who = who_in key me in let place = place_in who r in let frames_of = p.auto.frames in
-    let guarded : is_guarded (way_in routes a) ≡ true = held_guards p.ringing (is_guarded (way_in routes a)) done is_done held in
-    let there : is_guarded (way_in routes (access_at who place)) ≡ true = ap (λ (x : Access). is_guarded (way_in routes x)) (sym at) ∙ guarded in
-    let none : chosen r ≡ None = none_chosen routes who r turns.goes there in let spot : place ≡ r.place = same_open who r none in
-    let list : done_of routes (call_told answer frames_of) a done ≡ done_of routes (call_chosen (chosen r)) (access_at who place) done = (λ i. done_of routes (told_call answer frames_of (chosen r) turns.matches i) (at i) done) in
-    let lists : pass.lists ≡ (held_on routes who r done).actions ∷ [] = list_after old pass r.actions (done_of routes (call_told answer frames_of) a done) (done_one routes (call_told answer frames_of) a done) is turns.there.lists ∙ ap (λ l. (r.actions ++ l) ∷ []) list in (
+pub turn_held : (key : RunSetup) (me : ℕ) (routes : List Route) (done : Done) (r : Runner) (answer : Option Choice) (old pass : PassView) (p : AutoPeer) (e1 : Engine) (a : Access) →
+    Turns key me routes r answer old p → RefinesAt e1 (config_in key me) r.end (place_in (config_in key me) r) → a ≡ access_at (config_in key me) (place_in (config_in key me) r) →
+    IsDone p.ringing (is_guarded (doorbell_path_in routes a)) done → awaits_ring done ≡ true → pass ≡ made old (done_of routes (call_chosen_by answer p.auto.frames) a done) → MayRingBy routes a (front pass.lists) →
+    IsThere key me routes (held_on routes (config_in key me) r done) pass e1 × IsPlanOf p.auto (held_on routes (config_in key me) r done).auto
+turn_held key me routes done r answer old pass p e1 a turns refines at is_done held is may = let config = config_in key me in let place = place_in config r in let frames_of = p.auto.frames in
+    let guarded : is_guarded (doorbell_path_in routes a) ≡ true = held_guards p.ringing (is_guarded (doorbell_path_in routes a)) done is_done held in
+    let there : is_guarded (doorbell_path_in routes (access_at config place)) ≡ true = ap (λ (x : Access). is_guarded (doorbell_path_in routes x)) (sym at) ∙ guarded in
+    let none : chosen r ≡ None = none_chosen routes config r turns.goes there in let spot : place ≡ r.place = same_open config r none in
+    let list : done_of routes (call_chosen_by answer frames_of) a done ≡ done_of routes (call_chosen (chosen r)) (access_at config place) done = (λ i. done_of routes (told_call answer frames_of (chosen r) turns.matches i) (at i) done) in
+    let lists : pass.lists ≡ (held_on routes config r done).actions ∷ [] = list_after old pass r.actions (done_of routes (call_chosen_by answer frames_of) a done) (done_one routes (call_chosen_by answer frames_of) a done) is turns.there.lists ∙ ap (λ l. (r.actions ++ l) ∷ []) list in (
       record {
-        stands = record {
-          stands = subst (λ (p : Place). StandsAt e1 who r.end p) spot stands;
-          standing = stands_held key me routes done r (guarded_still routes (access_at who place) there) held turns.there.stands.standing;
-          bytes = turns.there.stands.bytes;
-          frames = turns.there.stands.frames;
-          rings = λ e. subst (λ (x : Access). MayRingBy routes x (held_on routes who r done).actions) (at ∙ ap (access_at who) spot) (subst (λ ls. MayRingBy routes a (front ls)) lists may);
-          met = let was = turns.there.stands.met in record { stored = was.stored; loaded = was.loaded };
+        refines = record {
+          refines = subst (λ (p : Place). RefinesAt e1 config r.end p) spot refines;
+          derived_state = stands_held key me routes done r (guarded_still routes (access_at config place) there) held turns.there.refines.derived_state;
+          bytes = turns.there.refines.bytes;
+          frames = turns.there.refines.frames;
+          rings = λ e. subst (λ (x : Access). MayRingBy routes x (held_on routes config r done).actions) (at ∙ ap (access_at config) spot) (subst (λ ls. MayRingBy routes a (front ls)) lists may);
+          met = let was = turns.there.refines.met in record { stored = was.stored; loaded = was.loaded };
         };
-        from = ap (λ (h : Held). h.from) is ∙ (made_from old (done_of routes (call_told answer frames_of) a done) ∙ turns.there.from);
+        from = ap (λ (h : PassView). h.from) is ∙ (made_from old (done_of routes (call_chosen_by answer frames_of) a done) ∙ turns.there.from);
         lists = lists;
       },
       subst (λ (c : Option automatic.Choice). IsPlanOf p.auto (round_on r.auto c)) none turns.is.planned,
     )
 
 -- a look
-pub turn_looked : (key : Key) (me : ℕ) (routes : List Route) (r : Runner) (old pass : Held) (end : Engine) (found : ℕ) → pass ≡ added old (looked found) → IsThere key me routes r old end → r.ringing ≡ false → IsThere key me routes (looked_on r found) pass end
+pub turn_looked : (key : RunSetup) (me : ℕ) (routes : List Route) (r : Runner) (old pass : PassView) (end : Engine) (found : ℕ) → pass ≡ added old (looked found) → IsThere key me routes r old end → r.ringing ≡ false → IsThere key me routes (looked_on r found) pass end
 turn_looked key me routes r old pass end found is there still = record {
-  stands = record {
-    stands = there.stands.stands;
-    standing = stands_looked key me r found there.stands.standing;
-    bytes = there.stands.bytes;
-    frames = there.stands.frames;
+  refines = record {
+    refines = there.refines.refines;
+    derived_state = stands_looked key me r found there.refines.derived_state;
+    bytes = there.refines.bytes;
+    frames = there.refines.frames;
     rings = λ e. absurd (clash (sym still ∙ e));
-    met = let was = there.stands.met in record { stored = was.stored; loaded = was.loaded };
+    met = let was = there.refines.met in record { stored = was.stored; loaded = was.loaded };
   };
-  from = ap (λ (h : Held). h.from) is ∙ there.from;
+  from = ap (λ (h : PassView). h.from) is ∙ there.from;
   lists = list_after old pass r.actions (looked found ∷ []) (omega arith) is there.lists;
 }
 
@@ -600,66 +600,66 @@ word_by state Own false true two three is = absurd (cc)
 word_by state Others false true two three is = eqb-true state 3 three
 word_by state word false false two three is = absurd (cc)
 
-pub met_place : (word : SessionWord) (place : Place) (met : Option ℕ) → due_word place met ≡ Some word → place ≡ Setting (state_for word)
-met_place word (Setting state) None is = ap Setting (word_by state word (state == 2) (state == 3) refl refl is)
+pub met_place : (word : SessionWord) (place : Place) (met : Option ℕ) → due_word place met ≡ Some word → place ≡ WritingState (state_for word)
+met_place word (WritingState state) None is = ap WritingState (word_by state word (state == 2) (state == 3) refl refl is)
 met_place word place met is = absurd (cc)
 
 pub met_before : (word : SessionWord) (place : Place) (met : Option ℕ) → due_word place met ≡ Some word → met ≡ None
 met_before word place None is = refl
-met_before word (Setting state) (Some number) is = absurd (cc)
+met_before word (WritingState state) (Some number) is = absurd (cc)
 met_before word place (Some number) is = absurd (cc)
 
 -- where its list leaves the peer as the pass has it
-stance_in : (key : Key) (me : ℕ) (routes : List Route) (r : Runner) (old : Held) (end : Engine) → IsThere key me routes r old end → standing key me (accesses_in (front old.lists)) ≡ stance_of r
-stance_in key me routes r old end there = ap (λ ls. standing key me (accesses_in (front ls))) there.lists ∙ there.stands.standing
+stance_in : (key : RunSetup) (me : ℕ) (routes : List Route) (r : Runner) (old : PassView) (end : Engine) → IsThere key me routes r old end → derived_state key me (accesses_in (front old.lists)) ≡ derived_state_of r
+stance_in key me routes r old end there = ap (λ ls. derived_state key me (accesses_in (front ls))) there.lists ∙ there.refines.derived_state
 
-pub meets_at : (key : Key) (me : ℕ) (routes : List Route) (r : Runner) (old : Held) (end : Engine) (word : SessionWord) → IsThere key me routes r old end → due_word r.place r.met ≡ Some word → (standing key me (accesses_in (front old.lists))).place ≡ Setting (state_for word)
+pub meets_at : (key : RunSetup) (me : ℕ) (routes : List Route) (r : Runner) (old : PassView) (end : Engine) (word : SessionWord) → IsThere key me routes r old end → due_word r.place r.met ≡ Some word → (derived_state key me (accesses_in (front old.lists))).place ≡ WritingState (state_for word)
 unfolding settled_place
-meets_at key me routes r old end word there due = ap (λ (s : Stance). s.place) (stance_in key me routes r old end there) ∙ ap settled_place (met_place word r.place r.met due)
+meets_at key me routes r old end word there due = ap (λ (s : DerivedState). s.place) (stance_in key me routes r old end there) ∙ ap settled_place (met_place word r.place r.met due)
 
-pub opened_at : (key : Key) (me : ℕ) (routes : List Route) (r : Runner) (old : Held) (end : Engine) → IsThere key me routes r old end → r.numbers.log.opened ≡ (standing key me (accesses_in (front old.lists))).numbers.log.opened
-opened_at key me routes r old end there = ap (λ (s : Stance). s.numbers.log.opened) (sym (stance_in key me routes r old end there))
+pub opened_at : (key : RunSetup) (me : ℕ) (routes : List Route) (r : Runner) (old : PassView) (end : Engine) → IsThere key me routes r old end → r.numbers.log.opened ≡ (derived_state key me (accesses_in (front old.lists))).numbers.log.opened
+opened_at key me routes r old end there = ap (λ (s : DerivedState). s.numbers.log.opened) (sym (stance_in key me routes r old end there))
 
 -- what was met is what its session word holds, or what it loaded
-met_has : (word : SessionWord) (r : Runner) (number : ℕ) → r.place ≡ Setting (state_for word) → HasMet (met_on word r number)
+met_has : (word : SessionWord) (r : Runner) (number : ℕ) → r.place ≡ WritingState (state_for word) → HasMet (met_on word r number)
 met_has Own r number place = record { stored = λ n at is. refl; loaded = λ n at is. absurd (two_three (sym place ∙ at)) }
   where
-    two_three : Setting 2 ≡ Setting 3 → ⊥
+    two_three : WritingState 2 ≡ WritingState 3 → ⊥
     two_three e = cc
 met_has Others r number place = record { stored = λ n at is. absurd (three_two (sym place ∙ at)); loaded = λ n at is. is }
   where
-    three_two : Setting 3 ≡ Setting 2 → ⊥
+    three_two : WritingState 3 ≡ WritingState 2 → ⊥
     three_two e = cc
 
-pub turn_met : (key : Key) (me : ℕ) (routes : List Route) (word : SessionWord) (r : Runner) (old pass : Held) (end : Engine) (number : ℕ) → honest_of key me ≡ true → pass ≡ added old (accessed (deed_met word number)) → IsThere key me routes r old end →
+pub turn_met : (key : RunSetup) (me : ℕ) (routes : List Route) (word : SessionWord) (r : Runner) (old pass : PassView) (end : Engine) (number : ℕ) → honest_of key me ≡ true → pass ≡ added old (accessed (memory_op_met word number)) → IsThere key me routes r old end →
     due_word r.place r.met ≡ Some word → IsThere key me routes (met_on word r number) pass end
 turn_met key me routes word r old pass end number hp is there due = let place = met_place word r.place r.met due in record {
-  stands = record {
-    stands = there.stands.stands;
-    standing = stands_met key me word r number hp there.stands.standing;
-    bytes = there.stands.bytes;
-    frames = there.stands.frames;
-    rings = λ e. absurd (subst (λ (p : Place). MayRingBy routes (access_at (who_in key me) p) r.actions) place (there.stands.rings e));
+  refines = record {
+    refines = there.refines.refines;
+    derived_state = stands_met key me word r number hp there.refines.derived_state;
+    bytes = there.refines.bytes;
+    frames = there.refines.frames;
+    rings = λ e. absurd (subst (λ (p : Place). MayRingBy routes (access_at (config_in key me) p) r.actions) place (there.refines.rings e));
     met = met_has word r number place;
   };
-  from = ap (λ (h : Held). h.from) is ∙ there.from;
-  lists = list_after old pass r.actions (accessed (deed_met word number) ∷ []) (omega arith) is there.lists;
+  from = ap (λ (h : PassView). h.from) is ∙ there.from;
+  lists = list_after old pass r.actions (accessed (memory_op_met word number) ∷ []) (omega arith) is there.lists;
 }
 
 -- A reset
 
-pub turn_restarted : (key : Key) (me : ℕ) (routes : List Route) (r : Runner) (old pass : Held) (e0 e1 : Engine) → honest_of key me ≡ true → pass ≡ added old (accessed restarted) →
-    ((who : Who) (end : End) (place : Place) → StandsAt e0 who end place → StandsAt e1 who (after_reset end) Closed) → IsThere key me routes r old e0 → IsThere key me routes (restarted_on r) pass e1
+pub turn_restarted : (key : RunSetup) (me : ℕ) (routes : List Route) (r : Runner) (old pass : PassView) (e0 e1 : Engine) → honest_of key me ≡ true → pass ≡ added old (accessed restarted) →
+    ((config : EndConfig) (end : End) (place : Place) → RefinesAt e0 config end place → RefinesAt e1 config (after_reset end) Closed) → IsThere key me routes r old e0 → IsThere key me routes (restarted_on r) pass e1
 turn_restarted key me routes r old pass e0 e1 hp is resets there = record {
-  stands = record {
-    stands = resets (who_in key me) r.end r.place there.stands.stands;
-    standing = stands_restarted key me r hp there.stands.standing;
+  refines = record {
+    refines = resets (config_in key me) r.end r.place there.refines.refines;
+    derived_state = stands_restarted key me r hp there.refines.derived_state;
     bytes = tt;
-    frames = there.stands.frames;
+    frames = there.refines.frames;
     rings = λ e. absurd (clash e);
     met = none_met (restarted_on r) refl;
   };
-  from = ap (λ (h : Held). h.from) is ∙ there.from;
+  from = ap (λ (h : PassView). h.from) is ∙ there.from;
   lists = list_after old pass r.actions (accessed restarted ∷ []) (omega arith) is there.lists;
 }
 
@@ -682,68 +682,68 @@ first_is None busy r closes same = ap not (sym closes ∙ same)
 first_is (Some answer) busy r closes same = ap not (sym closes ∙ same)
 
 -- the lines that were told are those of the turn
-step_told : (me : ℕ) (first : Bool) (opened : ℕ) (met : Option ℕ) (a : Access) (value : ℕ) (marks : List Mark) → stepped_lines me first opened met a value marks ≡ told_in me (stepped_turn first opened met (step_of a value marks) a)
+step_told : (me : ℕ) (first : Bool) (opened : ℕ) (met : Option ℕ) (a : Access) (value : ℕ) (marks : List Mark) → stepped_lines me first opened met a value marks ≡ lines_in me (stepped_turn first opened met (step_of a value marks) a)
 step_told me first opened None (access.Read word) value marks = refl
 step_told me first opened (Some other) (access.Read word) value marks = refl
-step_told me first opened (Some other) (access.State state) value marks = elim (state == 3) as (λ b. (line.State me state ∷ (if b then line.Session me opened other ∷ [] else []) ++ map (mark_line me) marks) ≡ told_in me (if b then Enters (step_of (access.State state) value marks) opened other else Makes first (step_of (access.State state) value marks))) [ true ↦ refl | false ↦ refl ]
+step_told me first opened (Some other) (access.State state) value marks = elim (state == 3) as (λ b. (line.State me state ∷ (if b then line.Session me opened other ∷ [] else []) ++ map (mark_line me) marks) ≡ lines_in me (if b then Enters (step_of (access.State state) value marks) opened other else Makes first (step_of (access.State state) value marks))) [ true ↦ refl | false ↦ refl ]
 step_told me first opened met a value marks = refl
 
-done_told : (who : Who) (first : Bool) (opened : ℕ) (met : Option ℕ) (place : Place) (done : Done) → holds_on done ≡ false →
-    done_lines who.me first opened met (access_at who place) done (marks_at who place (value_done done)) ≡ told_in who.me (turn_of first opened met (step_at who place (value_done done)) done)
-done_told who first opened met place (Stepped value) goes = step_told who.me first opened met (access_at who place) value (marks_at who place value)
-done_told who first opened met place (Cleared found) goes = (λ i. given_line who.me (access_at who place) 0 i ++ map (mark_line who.me) (sym (cleared_marks (step_at who place 0) found goes) i))
-done_told who first opened met place Rung goes = refl
+done_told : (config : EndConfig) (first : Bool) (opened : ℕ) (met : Option ℕ) (place : Place) (done : Done) → awaits_ring done ≡ false →
+    done_lines config.me first opened met (access_at config place) done (marks_at config place (value_done done)) ≡ lines_in config.me (turn_of first opened met (step_at config place (value_done done)) done)
+done_told config first opened met place (Stepped value) goes = step_told config.me first opened met (access_at config place) value (marks_at config place value)
+done_told config first opened met place (Cleared found) goes = (λ i. given_line config.me (access_at config place) 0 i ++ map (mark_line config.me) (sym (cleared_marks (step_at config place 0) found goes) i))
+done_told config first opened met place Rung goes = refl
 
-pub lines_told : (who : Who) (r : Runner) (done : Done) (e1 e2 : Engine) (opened : ℕ) (met : Option ℕ) (a : Access) (notes : List Note) → holds_on done ≡ false → Takes e1 (value_done done) notes e2 → StandsAt e1 who r.end (place_in who r) → a ≡ access_at who (place_in who r) →
-    opened ≡ r.numbers.log.opened → met ≡ r.met → done_lines who.me (is_first r) opened met a done (marks_between (offered e2) (delivered e2) notes) ≡ told_on who r done
-lines_told who r done e1 e2 opened met a notes goes took stands at number is = let place = place_in who r in let value = value_done done in
-    ap (λ ms. done_lines who.me (is_first r) opened met a done ms) (marks_now e1 e2 value notes who r.end place took stands (busy_next e1 e2 value notes who r.end place took stands))
-    ∙ ((λ i. done_lines who.me (is_first r) (number i) (is i) (at i) done (marks_at who place value)) ∙ done_told who (is_first r) r.numbers.log.opened r.met place done goes)
+pub lines_told : (config : EndConfig) (r : Runner) (done : Done) (e1 e2 : Engine) (opened : ℕ) (met : Option ℕ) (a : Access) (notes : List Note) → awaits_ring done ≡ false → Takes e1 (value_done done) notes e2 → RefinesAt e1 config r.end (place_in config r) → a ≡ access_at config (place_in config r) →
+    opened ≡ r.numbers.log.opened → met ≡ r.met → done_lines config.me (is_first r) opened met a done (marks_between (offered e2) (delivered e2) notes) ≡ lines_on config r done
+lines_told config r done e1 e2 opened met a notes goes took refines at number is = let place = place_in config r in let value = value_done done in
+    ap (λ ms. done_lines config.me (is_first r) opened met a done ms) (marks_now e1 e2 value notes config r.end place took refines (busy_next e1 e2 value notes config r.end place took refines))
+    ∙ ((λ i. done_lines config.me (is_first r) (number i) (is i) (at i) done (marks_at config place value)) ∙ done_told config (is_first r) r.numbers.log.opened r.met place done goes)
 
-pub held_line : (me : ℕ) (first : Bool) (opened : ℕ) (met : Option ℕ) (step : Step) (done : Done) → holds_on done ≡ true → told_in me (turn_of first opened met step done) ≡ access_lines me step.access step.value
+pub held_line : (me : ℕ) (first : Bool) (opened : ℕ) (met : Option ℕ) (step : Step) (done : Done) → awaits_ring done ≡ true → lines_in me (turn_of first opened met step done) ≡ access_lines me step.access step.value
 held_line me first opened met step (Stepped value) held = absurd (clash held)
 held_line me first opened met step (Cleared found) held = ap (λ ms. access_lines me step.access step.value ++ map (mark_line me) ms) (held_marks step found held) ∙ append-nil (access_lines me step.access step.value)
 held_line me first opened met step Rung held = absurd (clash held)
 
-held_value : (done : Done) → holds_on done ≡ true → value_done done ≡ 0
+held_value : (done : Done) → awaits_ring done ≡ true → value_done done ≡ 0
 held_value (Stepped value) held = absurd (clash held)
 held_value (Cleared found) held = refl
 held_value Rung held = absurd (clash held)
 
-pub lines_held : (who : Who) (r : Runner) (done : Done) (a : Access) → holds_on done ≡ true → a ≡ access_at who (place_in who r) → access_lines who.me a 0 ≡ told_on who r done
-lines_held who r done a held at = let place = place_in who r in ap (λ (x : Access). access_lines who.me x 0) at ∙ (given_line who.me (access_at who place) 0
-    ∙ (ap (λ n. access_lines who.me (access_at who place) (value_given (access_at who place) n)) (sym (held_value done held)) ∙ sym (held_line who.me (is_first r) r.numbers.log.opened r.met (value_in who r done) done held)))
+pub lines_held : (config : EndConfig) (r : Runner) (done : Done) (a : Access) → awaits_ring done ≡ true → a ≡ access_at config (place_in config r) → access_lines config.me a 0 ≡ lines_on config r done
+lines_held config r done a held at = let place = place_in config r in ap (λ (x : Access). access_lines config.me x 0) at ∙ (given_line config.me (access_at config place) 0
+    ∙ (ap (λ n. access_lines config.me (access_at config place) (value_given (access_at config place) n)) (sym (held_value done held)) ∙ sym (held_line config.me (is_first r) r.numbers.log.opened r.met (value_in config r done) done held)))
 
 -- Which turn a step is: the State step with 3, which bears the numbers of its session, or another
 
-pub record IsEntering (who : Who) (r : Runner) (value : ℕ) : Type 0 where
+pub record IsEntering (config : EndConfig) (r : Runner) (value : ℕ) : Type 0 where
   pub other : ℕ
-  pub place : place_in who r ≡ Setting 3
+  pub place : place_in config r ≡ WritingState 3
   pub met : r.met ≡ Some other
   pub loaded : r.numbers.loaded ≡ Some other
-  pub turn : turn_on who r (Stepped value) ≡ Enters (step_at who (place_in who r) value) r.numbers.log.opened other
+  pub turn : turn_on config r (Stepped value) ≡ Enters (step_at config (place_in config r) value) r.numbers.log.opened other
 
-pub record IsMaking (who : Who) (r : Runner) (value : ℕ) : Type 0 where
-  pub turn : turn_on who r (Stepped value) ≡ Makes (is_first r) (step_at who (place_in who r) value)
-  pub never : (state : ℕ) → access_at who (place_in who r) ≡ access.State state → (state == 3) ≡ false
-  pub met : access_at who (place_in who r) ≡ access.State 2 → r.met ≢ None
+pub record IsMaking (config : EndConfig) (r : Runner) (value : ℕ) : Type 0 where
+  pub turn : turn_on config r (Stepped value) ≡ Makes (is_first r) (step_at config (place_in config r) value)
+  pub never : (state : ℕ) → access_at config (place_in config r) ≡ access.State state → (state == 3) ≡ false
+  pub met : access_at config (place_in config r) ≡ access.State 2 → r.met ≢ None
 
 -- a State step is that of its place, or the one of a refusal
-state_at : (who : Who) (place : Place) (state : ℕ) → access_at who place ≡ access.State state → (place ≡ Setting state) ⊎ (state ≡ 0)
-state_at who (Setting value) state e = inl (ap Setting (same e))
+state_at : (config : EndConfig) (place : Place) (state : ℕ) → access_at config place ≡ access.State state → (place ≡ WritingState state) ⊎ (state ≡ 0)
+state_at config (WritingState value) state e = inl (ap WritingState (same e))
   where
     same : {n m : ℕ} → access.State n ≡ access.State m → n ≡ m
     same e = cc
-state_at who Refusing state e = inr (sym (same e))
+state_at config Refusing state e = inr (sym (same e))
   where
     same : {n m : ℕ} → access.State n ≡ access.State m → n ≡ m
     same e = cc
-state_at who place state e = absurd (cc)
+state_at config place state e = absurd (cc)
 
-setting_three : (place : Place) → (place ≡ Setting 3) ⊎ (place ≢ Setting 3)
-setting_three (Setting state) = dite (ℕ_discrete state 3) (λ e. inl (ap Setting e)) (λ ne. inr (λ e. ne (same e)))
+setting_three : (place : Place) → (place ≡ WritingState 3) ⊎ (place ≢ WritingState 3)
+setting_three (WritingState state) = dite (ℕ_discrete state 3) (λ e. inl (ap WritingState e)) (λ ne. inr (λ e. ne (same e)))
   where
-    same : {n m : ℕ} → Setting n ≡ Setting m → n ≡ m
+    same : {n m : ℕ} → WritingState n ≡ WritingState m → n ≡ m
     same e = cc
 setting_three place = inr (λ e. absurd (cc))
 
@@ -752,37 +752,37 @@ makes_at first opened None step (access.State state) never = refl
 makes_at first opened (Some other) step (access.State state) never = ap (λ (b : Bool). if b then Enters step opened other else Makes first step) (never state refl)
 makes_at first opened met step a never = refl
 
-pub stepped_kind : (who : Who) (r : Runner) (value : ℕ) → HasMet r → due_word r.place r.met ≡ None → IsEntering who r value ⊎ IsMaking who r value
-stepped_kind who r value has due = let is = met_in who r has due in ⊎_elim (λ three. inl (enters is three)) (λ ne. inr (makes is ne)) (setting_three (place_in who r))
+pub stepped_kind : (config : EndConfig) (r : Runner) (value : ℕ) → HasMet r → due_word r.place r.met ≡ None → IsEntering config r value ⊎ IsMaking config r value
+stepped_kind config r value has due = let is = met_in config r has due in ⊎_elim (λ three. inl (enters is three)) (λ ne. inr (makes is ne)) (setting_three (place_in config r))
   where
     step : Step
-    step = step_at who (place_in who r) value
+    step = step_at config (place_in config r) value
 
-    enters : IsMet (place_in who r) r.met r.numbers → place_in who r ≡ Setting 3 → IsEntering who r value
+    enters : IsMet (place_in config r) r.met r.numbers → place_in config r ≡ WritingState 3 → IsEntering config r value
     enters is three = let t = is.three three in record {
       other = t.0;
       place = three;
       met = t.1;
       loaded = t.2;
-      turn = λ i. stepped_turn (is_first r) r.numbers.log.opened (t.1 i) (step_at who (place_in who r) value) (access_at who (three i));
+      turn = λ i. stepped_turn (is_first r) r.numbers.log.opened (t.1 i) (step_at config (place_in config r) value) (access_at config (three i));
     }
 
-    never_at : place_in who r ≢ Setting 3 → (state : ℕ) → access_at who (place_in who r) ≡ access.State state → (state == 3) ≡ false
-    never_at ne state e = ⊎_elim (λ at. ne_eqb state 3 (λ three. ne (at ∙ ap Setting three))) (λ zero. ap (λ n. n == 3) zero) (state_at who (place_in who r) state e)
+    never_at : place_in config r ≢ WritingState 3 → (state : ℕ) → access_at config (place_in config r) ≡ access.State state → (state == 3) ≡ false
+    never_at ne state e = ⊎_elim (λ at. ne_eqb state 3 (λ three. ne (at ∙ ap WritingState three))) (λ zero. ap (λ n. n == 3) zero) (state_at config (place_in config r) state e)
 
-    makes : IsMet (place_in who r) r.met r.numbers → place_in who r ≢ Setting 3 → IsMaking who r value
+    makes : IsMet (place_in config r) r.met r.numbers → place_in config r ≢ WritingState 3 → IsMaking config r value
     makes is ne = record {
-      turn = makes_at (is_first r) r.numbers.log.opened r.met (step_at who (place_in who r) value) (access_at who (place_in who r)) (never_at ne);
+      turn = makes_at (is_first r) r.numbers.log.opened r.met (step_at config (place_in config r) value) (access_at config (place_in config r)) (never_at ne);
       never = never_at ne;
-      met = λ e. ⊎_elim (λ at. (is.two at).0) (λ none. absurd (omega arith)) (state_at who (place_in who r) 2 e);
+      met = λ e. ⊎_elim (λ at. (is.two at).0) (λ none. absurd (omega arith)) (state_at config (place_in config r) 2 e);
     }
 
 -- the runner after a turn, as it was held or not
-pub turned_held : (routes : List Route) (who : Who) (r : Runner) (done : Done) → holds_on done ≡ true → turned routes who r done ≡ held_on routes who r done
-turned_held routes who r done is = ap (λ (b : Bool). if b then held_on routes who r done else stepped_on routes who r done) is
+pub turned_held : (routes : List Route) (config : EndConfig) (r : Runner) (done : Done) → awaits_ring done ≡ true → turned routes config r done ≡ held_on routes config r done
+turned_held routes config r done is = ap (λ (b : Bool). if b then held_on routes config r done else stepped_on routes config r done) is
 
-pub turned_stepped : (routes : List Route) (who : Who) (r : Runner) (done : Done) → holds_on done ≡ false → turned routes who r done ≡ stepped_on routes who r done
-turned_stepped routes who r done is = ap (λ (b : Bool). if b then held_on routes who r done else stepped_on routes who r done) is
+pub turned_stepped : (routes : List Route) (config : EndConfig) (r : Runner) (done : Done) → awaits_ring done ≡ false → turned routes config r done ≡ stepped_on routes config r done
+turned_stepped routes config r done is = ap (λ (b : Bool). if b then held_on routes config r done else stepped_on routes config r done) is
 
 -- a State step with 2 opens a session
 pub opened_on : (n : Numbers) (end : End) (a : Access) → n.log.opened + opens a ≡ (numbers_after n end a).log.opened
@@ -793,17 +793,17 @@ opened_on n end (access.Ring target vector) = omega arith
 opened_on n end access.Nothing = omega arith
 
 -- the same of the runner as it is turned
-module _ (key : Key) (me : ℕ) (routes : List Route) (done : Done) (r : Runner) (answer : Option Choice) (old pass : Held) (p : AutoPeer) (e1 : Engine) (a : Access) (turns : Turns key me routes r answer old p)
-    (stands : StandsAt e1 (who_in key me) r.end (place_in (who_in key me) r)) (at_is : a ≡ access_at (who_in key me) (place_in (who_in key me) r)) (is_done : IsDone p.ringing (is_guarded (way_in routes a)) done) (is : pass ≡ made old (done_of routes (call_told answer p.auto.frames) a done)) where
-  pub done_there : IsDone p.ringing (is_guarded (way_in routes (access_at (who_in key me) (place_in (who_in key me) r)))) done
-  done_there = subst (λ (x : Access). IsDone p.ringing (is_guarded (way_in routes x)) done) at_is is_done
+module _ (key : RunSetup) (me : ℕ) (routes : List Route) (done : Done) (r : Runner) (answer : Option Choice) (old pass : PassView) (p : AutoPeer) (e1 : Engine) (a : Access) (turns : Turns key me routes r answer old p)
+    (refines : RefinesAt e1 (config_in key me) r.end (place_in (config_in key me) r)) (at_is : a ≡ access_at (config_in key me) (place_in (config_in key me) r)) (is_done : IsDone p.ringing (is_guarded (doorbell_path_in routes a)) done) (is : pass ≡ made old (done_of routes (call_chosen_by answer p.auto.frames) a done)) where
+  pub done_there : IsDone p.ringing (is_guarded (doorbell_path_in routes (access_at (config_in key me) (place_in (config_in key me) r)))) done
+  done_there = subst (λ (x : Access). IsDone p.ringing (is_guarded (doorbell_path_in routes x)) done) at_is is_done
 
-  pub held_turn : (q : AutoPeer) → holds_on done ≡ true → (holds_on done ≡ true → MayRingBy routes a (front pass.lists)) → q.auto ≡ p.auto → q.looks ≡ 0 → q.ringing ≡ true → q.opened ≡ p.opened → q.met ≡ p.met →
-      IsThere key me routes (turned routes (who_in key me) r done) pass e1 × IsAutoPeer q (turned routes (who_in key me) r done)
-  held_turn q held may auto looks ringing opened met = let both = turn_held key me routes done r answer old pass p e1 a turns stands at_is is_done held is (may held) in let same = sym (turned_held routes (who_in key me) r done held) in (
+  pub held_turn : (q : AutoPeer) → awaits_ring done ≡ true → (awaits_ring done ≡ true → MayRingBy routes a (front pass.lists)) → q.auto ≡ p.auto → q.looks ≡ 0 → q.ringing ≡ true → q.opened ≡ p.opened → q.met ≡ p.met →
+      IsThere key me routes (turned routes (config_in key me) r done) pass e1 × IsAutoPeer q (turned routes (config_in key me) r done)
+  held_turn q held may auto looks ringing opened met = let both = turn_held key me routes done r answer old pass p e1 a turns refines at_is is_done held is (may held) in let same = sym (turned_held routes (config_in key me) r done held) in (
     subst (λ (x : Runner). IsThere key me routes x pass e1) same both.0,
     subst (IsAutoPeer q) same (record {
-      planned = subst (λ (plan : Plan). IsPlanOf plan (held_on routes (who_in key me) r done).auto) (sym auto) both.1;
+      planned = subst (λ (plan : Plan). IsPlanOf plan (held_on routes (config_in key me) r done).auto) (sym auto) both.1;
       looks = looks;
       ringing = ringing;
       opened = opened ∙ turns.is.opened;
@@ -811,16 +811,16 @@ module _ (key : Key) (me : ℕ) (routes : List Route) (done : Done) (r : Runner)
     }),
   )
 
-  pub step_turn : (q : AutoPeer) (e2 : Engine) (notes : List Note) → honest_of key me ≡ true → is_open (place_in (who_in key me) r) ≡ true → holds_on done ≡ false → Takes e1 (value_done done) notes e2 →
+  pub step_turn : (q : AutoPeer) (e2 : Engine) (notes : List Note) → honest_of key me ≡ true → is_open (place_in (config_in key me) r) ≡ true → awaits_ring done ≡ false → Takes e1 (value_done done) notes e2 →
       ((auto : Auto) (one other : List ℕ) → IsPlanOf p.auto auto → IsPlanOf q.auto (counted_all auto (marks_between one other notes))) → q.looks ≡ 0 → q.ringing ≡ false → q.opened ≡ p.opened + opens a → q.met ≡ None →
-      IsThere key me routes (turned routes (who_in key me) r done) pass e2 × IsAutoPeer q (turned routes (who_in key me) r done)
-  step_turn q e2 notes hp opens_is goes took counts looks ringing opened met = let both = turn_taken key me routes done r answer old pass p q.auto e1 e2 a notes hp turns stands opens_is at_is is_done goes is took counts in let same = sym (turned_stepped routes (who_in key me) r done goes) in (
+      IsThere key me routes (turned routes (config_in key me) r done) pass e2 × IsAutoPeer q (turned routes (config_in key me) r done)
+  step_turn q e2 notes hp opens_is goes took counts looks ringing opened met = let both = turn_taken key me routes done r answer old pass p q.auto e1 e2 a notes hp turns refines opens_is at_is is_done goes is took counts in let same = sym (turned_stepped routes (config_in key me) r done goes) in (
     subst (λ (x : Runner). IsThere key me routes x pass e2) same both.0,
     subst (IsAutoPeer q) same (record {
       planned = both.1;
       looks = looks;
       ringing = ringing;
-      opened = opened ∙ ((λ i. turns.is.opened i + opens (at_is i)) ∙ opened_on r.numbers r.end (access_at (who_in key me) (place_in (who_in key me) r)));
+      opened = opened ∙ ((λ i. turns.is.opened i + opens (at_is i)) ∙ opened_on r.numbers r.end (access_at (config_in key me) (place_in (config_in key me) r)));
       met = met;
     }),
   )

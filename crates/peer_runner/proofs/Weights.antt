@@ -6,8 +6,8 @@ use Rattle.std.specs.Prelude.{◌==◌, ◌&&◌, if◌then◌else◌}
 use Rattle.std.specs.Int.{bit_at}
 use Rattle.std.proofs.lemmas.List.{take_all, take-append-le}
 use Rattle.peer_runner.specs.Actions.{Action, accessed, rang, looked, cleared}
-use Rattle.peer_runner.specs.Interrupts.{weigh, tally, one_if, rings, aims, finds, wins, strikes, StandsBehind}
-use Rattle.peer_runner.specs.Made.{Grows}
+use Rattle.peer_runner.specs.Interrupts.{weigh, tally, one_if, rings, aims, finds, wins, strikes, FollowsClears}
+use Rattle.peer_runner.specs.SharedMemory.{Appends}
 
 pub weigh_none : {A : Type 0} → (f : Action A → ℕ) → weigh f [] ≡ 0
 unfolding weigh
@@ -57,21 +57,21 @@ weigh_turned n f [] = tally_zero n (λ b. 0) (λ p lt. refl)
 weigh_turned n f (x ∷ l) = tally_sum n (λ b. f b x) (λ b. weigh (f b) l) ∙ (let e : tally n (λ b. weigh (f b) l) ≡ weigh (λ t. tally n (λ b. f b t)) l = weigh_turned n f l in ap (λ k. tally n (λ b. f b x) + k) e)
 
 -- one peer did one access more
-pub weigh_here : {A : Type 0} → (f : Action A → ℕ) (acc next : ℕ → List (Action A)) (p : ℕ) (t : Action A) → Grows acc next p t → weigh f (next p) ≡ weigh f (acc p) + f t
+pub weigh_here : {A : Type 0} → (f : Action A → ℕ) (acc next : ℕ → List (Action A)) (p : ℕ) (t : Action A) → Appends acc next p t → weigh f (next p) ≡ weigh f (acc p) + f t
 weigh_here f acc next p t g = ap (weigh f) g.here ∙ weigh_snoc f (acc p) t
 
-pub weigh_else : {A : Type 0} → (f : Action A → ℕ) (acc next : ℕ → List (Action A)) (p q : ℕ) (t : Action A) → Grows acc next p t → q ≢ p → weigh f (next q) ≡ weigh f (acc q)
-weigh_else f acc next p q t g ne = ap (weigh f) (g.beside q ne)
+pub weigh_else : {A : Type 0} → (f : Action A → ℕ) (acc next : ℕ → List (Action A)) (p q : ℕ) (t : Action A) → Appends acc next p t → q ≢ p → weigh f (next q) ≡ weigh f (acc q)
+weigh_else f acc next p q t g ne = ap (weigh f) (g.neighbour_word q ne)
 
-pub weigh_still : {A : Type 0} → (f : Action A → ℕ) (acc next : ℕ → List (Action A)) (p q : ℕ) (t : Action A) → Grows acc next p t → f t ≡ 0 → weigh f (next q) ≡ weigh f (acc q)
+pub weigh_still : {A : Type 0} → (f : Action A → ℕ) (acc next : ℕ → List (Action A)) (p q : ℕ) (t : Action A) → Appends acc next p t → f t ≡ 0 → weigh f (next q) ≡ weigh f (acc q)
 weigh_still f acc next p q t g none = dite (ℕ_discrete q p)
     (λ e. let h : weigh f (next p) ≡ weigh f (acc p) + f t = weigh_here f acc next p t g in let same : weigh f (next p) ≡ weigh f (acc p) = omega arith in subst (λ k. weigh f (next k) ≡ weigh f (acc k)) (sym e) same)
     (λ ne. weigh_else f acc next p q t g ne)
 
-tally_before : {A : Type 0} → (n : ℕ) (f : Action A → ℕ) (acc next : ℕ → List (Action A)) (p : ℕ) (t : Action A) → Grows acc next p t → n ≤ p → tally n (λ q. weigh f (next q)) ≡ tally n (λ q. weigh f (acc q))
+tally_before : {A : Type 0} → (n : ℕ) (f : Action A → ℕ) (acc next : ℕ → List (Action A)) (p : ℕ) (t : Action A) → Appends acc next p t → n ≤ p → tally n (λ q. weigh f (next q)) ≡ tally n (λ q. weigh f (acc q))
 tally_before n f acc next p t g le = tally_same n _ _ (λ q lt. weigh_else f acc next p q t g (λ e. omega arith))
 
-pub tally_grows : {A : Type 0} → (n : ℕ) (f : Action A → ℕ) (acc next : ℕ → List (Action A)) (p : ℕ) (t : Action A) → Grows acc next p t → p < n → tally n (λ q. weigh f (next q)) ≡ tally n (λ q. weigh f (acc q)) + f t
+pub tally_grows : {A : Type 0} → (n : ℕ) (f : Action A → ℕ) (acc next : ℕ → List (Action A)) (p : ℕ) (t : Action A) → Appends acc next p t → p < n → tally n (λ q. weigh f (next q)) ≡ tally n (λ q. weigh f (acc q)) + f t
 unfolding tally
 tally_grows zero f acc next p t g lt = absurd (omega arith)
 tally_grows (suc n) f acc next p t g lt = dite (ℕ_discrete n p)
@@ -212,15 +212,15 @@ rings_bits n target (cleared at found) = let e : tally n (λ bit. 0) ≡ 0 = tal
 rings_bits n target (rang at b) = of_bits n b (at == target)
 
 -- each ring of the list stands behind a clear, and so with one access more
-pub behind_none : (A : Type 0) → (target : ℕ) → StandsBehind {A = A} target []
+pub behind_none : (A : Type 0) → (target : ℕ) → FollowsClears {A = A} target []
 unfolding weigh
 behind_none A target zero = omega arith
 behind_none A target (suc n) = omega arith
 
-pub behind_all : {A : Type 0} → (target : ℕ) (l : List (Action A)) → StandsBehind target l → weigh (aims target) l ≤ weigh (wins target) l
+pub behind_all : {A : Type 0} → (target : ℕ) (l : List (Action A)) → FollowsClears target l → weigh (aims target) l ≤ weigh (wins target) l
 behind_all target l b = subst (λ k. weigh (aims target) k ≤ weigh (wins target) k) (take_all (length l) l (omega arith)) (b (length l))
 
-pub behind_snoc : {A : Type 0} → (target : ℕ) (l : List (Action A)) (t : Action A) → StandsBehind target l → weigh (aims target) (l ++ t ∷ []) ≤ weigh (wins target) (l ++ t ∷ []) → StandsBehind target (l ++ t ∷ [])
+pub behind_snoc : {A : Type 0} → (target : ℕ) (l : List (Action A)) (t : Action A) → FollowsClears target l → weigh (aims target) (l ++ t ∷ []) ≤ weigh (wins target) (l ++ t ∷ []) → FollowsClears target (l ++ t ∷ [])
 behind_snoc target l t b last = λ n. dite (dec_le n (length l))
     (λ le. subst (λ k. weigh (aims target) k ≤ weigh (wins target) k) (sym (take-append-le n l (t ∷ []) le)) (b n))
     (λ gt. subst (λ k. weigh (aims target) k ≤ weigh (wins target) k) (sym (take_all n (l ++ t ∷ []) (longer l t n gt))) last)

@@ -11,35 +11,35 @@ use Rattle.call_grammar.specs.Steps.{Step}
 use Rattle.call_grammar.specs.Ends.{fresh}
 use Rattle.call_grammar.specs.Places.{Closed}
 use Rattle.link_endpoint.specs.Engine.{Engine}
-use Rattle.link_endpoint.specs.Stands.{StandsAt}
+use Rattle.link_endpoint.specs.Refinement.{RefinesAt}
 use Rattle.link_endpoint.specs.Plan.{Plan, fresh_plan}
 use Rattle.lawful_history.specs.Storm.{storm_step, storm_after}
 use Rattle.lawful_history.specs.Peers.{Chooses, Storms, Peer, at_start}
 use Rattle.record_text.specs.declared.own_trace.OwnTrace.{OwnTrace}
 use Rattle.record_text.specs.OwnParts.{part_of}
-use Rattle.peer_runner.specs.declared.key.Key.{Key}
+use Rattle.peer_runner.specs.declared.run_setup.RunSetup.{RunSetup}
 use Rattle.peer_runner.specs.declared.driving.PeerPlan.{PeerPlan}
 use Rattle.peer_runner.specs.declared.driving.Driver.{Driver}
 use Rattle.peer_runner.specs.declared.driving.Driver.TheVariants.{Auto, Storm}
-use Rattle.peer_runner.specs.Keys.{world_in, who_in, honest_of, IsMadeFor}
-use Rattle.peer_runner.specs.Standings.{Taken, Deed, standing, NeverMarked}
+use Rattle.peer_runner.specs.RunSetups.{world_in, config_in, honest_of, IsMadeFor}
+use Rattle.peer_runner.specs.DerivedStates.{CallAccess, MemoryOp, derived_state, NeverMarked}
 use Rattle.peer_runner.specs.Actions.{Action, accesses_in}
 use Rattle.peer_runner.specs.Passes.{shown}
 use Rattle.doorbell_irq.specs.declared.route.Route.{Route}
-use Rattle.peer_runner.specs.declared.ways.Done.{Done}
-use Rattle.peer_runner.specs.Ways.{AreRoutesOf}
-use Rattle.peer_runner.specs.Turns.{Turn, Running, comes_to, all_turns, TakesTurns, actions_in, told_of}
-use Rattle.peer_runner.specs.RunningRecord.{refuses, telling_in, IsTold}
-use Rattle.peer_runner.specs.OwnRecord.{IsToldBy, told_all, start_of, spans_of}
-use Rattle.peer_runner.specs.Runners.{IsFrame, start_auto, holds_on}
+use Rattle.peer_runner.specs.declared.doorbell_paths.Done.{Done}
+use Rattle.peer_runner.specs.DoorbellPaths.{AreRoutesOf}
+use Rattle.peer_runner.specs.Turns.{Turn, Running, comes_to, all_turns, TakesTurns, actions_in, lines_of_turns}
+use Rattle.peer_runner.specs.RunningRecord.{refuses, reader_of_lines, ReaderMatches}
+use Rattle.peer_runner.specs.OwnRecord.{IsTraceOf, after_acts, start_of, spans_of}
+use Rattle.peer_runner.specs.Runners.{IsFrame, start_auto, awaits_ring}
 
 -- the steps of a storm in a region of these sizes
-abbrev pub storm_in : Key → ℕ → ℕ → Step
+abbrev pub storm_in : RunSetup → ℕ → ℕ → Step
 storm_in key p x = storm_step (world_in key) p x
 
 -- where its generator is after a turn: it stays until the step is done
 abbrev pub storm_on : ℕ → Done → ℕ
-storm_on x done = if holds_on done then x else storm_after x
+storm_on x done = if awaits_ring done then x else storm_after x
 
 -- where a peer begins: as an automatic peer with a plan, or as a storm whose generator is at x
 abbrev pub automatic : Plan → Peer
@@ -54,28 +54,28 @@ starting (Storm seed geometry queue) = storming seed
 
 -- an automatic peer at its start, whose frames may be offered, is driven at an honest end of the link, which is at its start; a storm is driven at a hostile
 -- peer
-pub record MayBeAuto (key : Key) (p : ℕ) (plan : Plan) (end : Engine) : Type 0 where
+pub record MayBeAuto (key : RunSetup) (p : ℕ) (plan : Plan) (end : Engine) : Type 0 where
   pub link : p < 2
   pub honest : honest_of key p ≡ true
-  pub stands : StandsAt end (who_in key p) fresh Closed
+  pub refines : RefinesAt end (config_in key p) fresh Closed
   pub begins : plan ≡ record (fresh_plan plan.expected) { frames = plan.frames }
   pub frames : All (IsFrame key.queue.mtu) plan.frames
 
-abbrev pub MayDrive : Key → ℕ → Driver → Type 0
+abbrev pub MayDrive : RunSetup → ℕ → Driver → Type 0
 MayDrive key p (Auto plan end) = MayBeAuto key p plan end
 MayDrive key p (Storm seed geometry queue) = (p < key.geometry.peers) × (honest_of key p ≡ false) × (geometry ≡ key.geometry) × (queue ≡ key.queue)
 
 -- its list leaves an honest peer where its turns did, and its lines tell of that; and where it never bore the mark of a refusal, they tell none
-pub record IsLeft (key : Key) (p : ℕ) (list : List (Action (Deed Taken))) (taken : List Turn) (after : Peer) : Type 0 where
-  pub end : (standing key p (accesses_in list)).end ≡ after.end
-  pub told : IsTold (standing key p (accesses_in list)) (telling_in (told_of p taken))
-  pub refused : NeverMarked key p (accesses_in list) → list_any refuses (told_of p taken) ≡ false
+pub record IsLeft (key : RunSetup) (p : ℕ) (list : List (Action (MemoryOp CallAccess))) (taken : List Turn) (after : Peer) : Type 0 where
+  pub end : (derived_state key p (accesses_in list)).end ≡ after.end
+  pub told : ReaderMatches (derived_state key p (accesses_in list)) (reader_of_lines (lines_of_turns p taken))
+  pub refused : NeverMarked key p (accesses_in list) → list_any refuses (lines_of_turns p taken) ≡ false
 
 -- In a scenario
 
 -- what drives the peer of a scenario, and its spans
 abbrev pub IsDriver : World → ℕ → Driver → Type 0
-IsDriver world p driver = (starting driver ≡ start_of world.acts p) × ((key : Key) → IsMadeFor world key → MayDrive key p driver)
+IsDriver world p driver = (starting driver ≡ start_of world.acts p) × ((key : RunSetup) → IsMadeFor world key → MayDrive key p driver)
 
 pub record IsPlan (world : World) (p : ℕ) (plan : PeerPlan) : Type 0 where
   pub runs : has_turn world.acts p ≡ true
@@ -101,47 +101,47 @@ seeded p seed _ = seed
 
 -- the plan of these acts, once they name an automatic peer
 pub record Gathers (mtu p : ℕ) (acts : List Act) (plan : Plan) : Type 0 where
-  pub none : has_auto acts p ≡ false → told_all p at_start acts ≡ at_start
-  pub start : has_auto acts p ≡ true → told_all p at_start acts ≡ automatic plan
+  pub none : has_auto acts p ≡ false → after_acts p at_start acts ≡ at_start
+  pub start : has_auto acts p ≡ true → after_acts p at_start acts ≡ automatic plan
   pub fresh : plan ≡ record (fresh_plan plan.expected) { frames = plan.frames }
   pub frames : All (IsFrame mtu) plan.frames
 
 -- the seed of these acts, once they name a storm
 pub record Seeds (p : ℕ) (acts : List Act) (seed : ℕ) : Type 0 where
-  pub none : has_storm acts p ≡ false → told_all p at_start acts ≡ at_start
-  pub start : has_storm acts p ≡ true → told_all p at_start acts ≡ storming seed
+  pub none : has_storm acts p ≡ false → after_acts p at_start acts ≡ at_start
+  pub start : has_storm acts p ≡ true → after_acts p at_start acts ≡ storming seed
 
 -- What was done
 
 -- the peer took these turns of its spans, and did this to the words
-pub record Did (key : Key) (routes : List Route) (p : ℕ) (start : Peer) (spans : List ℕ) (list : List (Action (Deed Taken))) : Type 0 where
+pub record Did (key : RunSetup) (routes : List Route) (p : ℕ) (start : Peer) (spans : List ℕ) (list : List (Action (MemoryOp CallAccess))) : Type 0 where
   pub turns : List Turn
   pub after : Running
-  pub takes : TakesTurns (who_in key p) (storm_in key p) routes (comes_to start spans) turns after
+  pub takes : TakesTurns (config_in key p) (storm_in key p) routes (comes_to start spans) turns after
   pub made : shown list ≡ actions_in routes turns
   pub left : honest_of key p ≡ true → IsLeft key p list turns after.peer
 
 -- it took at most all of them, and tells them where memory was enough
-abbrev pub Drove : Key → List Route → (p : ℕ) → (spans : List ℕ) → Peer → List (Action (Deed Taken)) → Result OwnTrace NoMemory → Type 0
+abbrev pub Drove : RunSetup → List Route → (p : ℕ) → (spans : List ℕ) → Peer → List (Action (MemoryOp CallAccess)) → Result OwnTrace NoMemory → Type 0
 Drove key routes p spans start list answer = (did : Did key routes p start spans list) × (length did.turns ≤ all_turns spans)
-    × IfOk answer (λ (t : OwnTrace). IsToldBy p (all_turns spans) did.turns did.after (part_of t))
+    × IfOk answer (λ (t : OwnTrace). IsTraceOf p (all_turns spans) did.turns did.after (part_of t))
 
 -- a peer of a scenario did this to the words, and these are the traces of it: one, or none where it has no turns
-abbrev pub HasRun : World → Key → ℕ → List (Action (Deed Taken)) → List OwnTrace → Type 0
+abbrev pub HasRun : World → RunSetup → ℕ → List (Action (MemoryOp CallAccess)) → List OwnTrace → Type 0
 HasRun world key p list traces =
     (t : OwnTrace) × (traces ≡ t ∷ []) × (routes : List Route) × AreRoutesOf world routes ×
     ((did : Did key routes p (start_of world.acts p) (spans_of world.acts p) list) ×
-    IsToldBy p (all_turns (spans_of world.acts p)) did.turns did.after (part_of t))
+    IsTraceOf p (all_turns (spans_of world.acts p)) did.turns did.after (part_of t))
 
-abbrev pub RanIf : Bool → World → Key → ℕ → List (Action (Deed Taken)) → List OwnTrace → Type 0
+abbrev pub RanIf : Bool → World → RunSetup → ℕ → List (Action (MemoryOp CallAccess)) → List OwnTrace → Type 0
 RanIf true world key p list traces = HasRun world key p list traces
 RanIf false world key p list traces = (list ≡ []) × (traces ≡ [])
 
-abbrev pub RanOne : World → Key → ℕ → List (Action (Deed Taken)) → List OwnTrace → Type 0
+abbrev pub RanOne : World → RunSetup → ℕ → List (Action (MemoryOp CallAccess)) → List OwnTrace → Type 0
 RanOne world key p list traces = RanIf (has_turn world.acts p) world key p list traces
 
 -- and so the peers from p on
-unfoldable pub RanAll : World → Key → ℕ → List (List (Action (Deed Taken))) → List OwnTrace → Type 0
+unfoldable pub RanAll : World → RunSetup → ℕ → List (List (Action (MemoryOp CallAccess))) → List OwnTrace → Type 0
 RanAll world key p [] traces = traces ≡ []
 RanAll world key p (list ∷ lists) traces =
     (mine rest : List OwnTrace) × (traces ≡ mine ++ rest) × RanOne world key p list mine × RanAll world key (suc p) lists rest

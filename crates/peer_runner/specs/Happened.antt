@@ -1,11 +1,11 @@
 -- What peers make of all words of a table: one action after another, each a step on one word, and one element more in the list of its peer.
 use Rattle.std.specs.Prelude.{ℕ, ◌≡◌, ◌-◌, ◌^◌, ◌<◌, List, [], bit_or, bit_and, slice_index}
-use Rattle.ends_pair.specs.Steps.{Stored, Meets, Leaves}
-use Rattle.peer_runner.specs.declared.key.Key.{Key}
-use Rattle.peer_runner.specs.Standings.{Taken, Deed, called, numbered, carried, restarted}
+use Rattle.link_invariant.specs.Steps.{Stored, ReadsMemory, MemoryAfter}
+use Rattle.peer_runner.specs.declared.run_setup.RunSetup.{RunSetup}
+use Rattle.peer_runner.specs.DerivedStates.{CallAccess, MemoryOp, called, numbered, carried, restarted}
 use Rattle.peer_runner.specs.Actions.{Action, accessed, rang, looked, cleared, accesses_in}
 use Rattle.peer_runner.specs.Interrupts.{interrupt_word, control_word, session_word, words_at_start, IsOneShot, MayRing}
-use Rattle.peer_runner.specs.Made.{Grows, MayTake, MayNumber, MayCarry}
+use Rattle.peer_runner.specs.SharedMemory.{Appends, MayTake, MayStoreSession, MayLoadSession}
 
 -- a word without its bit 0
 abbrev pub without_first : ℕ → ℕ
@@ -17,25 +17,25 @@ without_first n = bit_and n 18446744073709551614
 -- * it rings: one bit more is set in the interrupt word of the target;
 -- * it looks: it finds what stands in its own interrupt word, which becomes 0;
 -- * or it clears: it finds what stands in the target's Interrupt Control, which loses bit 0
-pub data Happened (key : Key) : (memory : ℕ → ℕ) → (ℕ → List (Action (Deed Taken))) → Type 0 where
-  starts : (memory : ℕ → ℕ) (acc : ℕ → List (Action (Deed Taken))) → ((w : ℕ) → memory w ≡ slice_index (words_at_start key) w) → ((p : ℕ) → acc p ≡ []) →
+pub data Happened (key : RunSetup) : (memory : ℕ → ℕ) → (ℕ → List (Action (MemoryOp CallAccess))) → Type 0 where
+  starts : (memory : ℕ → ℕ) (acc : ℕ → List (Action (MemoryOp CallAccess))) → ((w : ℕ) → memory w ≡ slice_index (words_at_start key) w) → ((p : ℕ) → acc p ≡ []) →
       Happened key memory acc
-  makes : (memory after : ℕ → ℕ) (acc next : ℕ → List (Action (Deed Taken))) (p : ℕ) (t : Taken) → Happened key memory acc → p < key.geometry.peers →
-      MayTake key p (accesses_in (acc p)) t → Meets memory t.access t.value → Leaves p memory t.access after → Grows acc next p (accessed (called t)) →
+  makes : (memory after : ℕ → ℕ) (acc next : ℕ → List (Action (MemoryOp CallAccess))) (p : ℕ) (t : CallAccess) → Happened key memory acc → p < key.geometry.peers →
+      MayTake key p (accesses_in (acc p)) t → ReadsMemory memory t.access t.value → MemoryAfter p memory t.access after → Appends acc next p (accessed (called t)) →
       Happened key after next
-  stores : (memory after : ℕ → ℕ) (acc next : ℕ → List (Action (Deed Taken))) (p number : ℕ) → Happened key memory acc → p < key.geometry.peers →
-      MayNumber key p (accesses_in (acc p)) number → Stored memory after (session_word key p) number → Grows acc next p (accessed (numbered number)) →
+  stores : (memory after : ℕ → ℕ) (acc next : ℕ → List (Action (MemoryOp CallAccess))) (p number : ℕ) → Happened key memory acc → p < key.geometry.peers →
+      MayStoreSession key p (accesses_in (acc p)) number → Stored memory after (session_word key p) number → Appends acc next p (accessed (numbered number)) →
       Happened key after next
-  loads : (memory : ℕ → ℕ) (acc next : ℕ → List (Action (Deed Taken))) (p : ℕ) → Happened key memory acc → p < key.geometry.peers →
-      MayCarry key p (accesses_in (acc p)) → Grows acc next p (accessed (carried (memory (session_word key (1 - p))))) → Happened key memory next
-  resets : (memory after : ℕ → ℕ) (acc next : ℕ → List (Action (Deed Taken))) (p : ℕ) → Happened key memory acc → p < key.geometry.peers →
-      Stored memory after p 0 → Grows acc next p (accessed restarted) → Happened key after next
-  rings : (memory after : ℕ → ℕ) (acc next : ℕ → List (Action (Deed Taken))) (p target bit : ℕ) → Happened key memory acc → p < key.geometry.peers →
+  loads : (memory : ℕ → ℕ) (acc next : ℕ → List (Action (MemoryOp CallAccess))) (p : ℕ) → Happened key memory acc → p < key.geometry.peers →
+      MayLoadSession key p (accesses_in (acc p)) → Appends acc next p (accessed (carried (memory (session_word key (1 - p))))) → Happened key memory next
+  resets : (memory after : ℕ → ℕ) (acc next : ℕ → List (Action (MemoryOp CallAccess))) (p : ℕ) → Happened key memory acc → p < key.geometry.peers →
+      Stored memory after p 0 → Appends acc next p (accessed restarted) → Happened key after next
+  rings : (memory after : ℕ → ℕ) (acc next : ℕ → List (Action (MemoryOp CallAccess))) (p target bit : ℕ) → Happened key memory acc → p < key.geometry.peers →
       target < key.geometry.peers → bit < 64 → (IsOneShot key target → MayRing target (acc p)) →
-      Stored memory after (interrupt_word key target) (bit_or (memory (interrupt_word key target)) (2 ^ bit)) → Grows acc next p (rang target bit) →
+      Stored memory after (interrupt_word key target) (bit_or (memory (interrupt_word key target)) (2 ^ bit)) → Appends acc next p (rang target bit) →
       Happened key after next
-  looks : (memory after : ℕ → ℕ) (acc next : ℕ → List (Action (Deed Taken))) (p : ℕ) → Happened key memory acc → p < key.geometry.peers →
-      Stored memory after (interrupt_word key p) 0 → Grows acc next p (looked (memory (interrupt_word key p))) → Happened key after next
-  clears : (memory after : ℕ → ℕ) (acc next : ℕ → List (Action (Deed Taken))) (p target : ℕ) → Happened key memory acc → p < key.geometry.peers →
+  looks : (memory after : ℕ → ℕ) (acc next : ℕ → List (Action (MemoryOp CallAccess))) (p : ℕ) → Happened key memory acc → p < key.geometry.peers →
+      Stored memory after (interrupt_word key p) 0 → Appends acc next p (looked (memory (interrupt_word key p))) → Happened key after next
+  clears : (memory after : ℕ → ℕ) (acc next : ℕ → List (Action (MemoryOp CallAccess))) (p target : ℕ) → Happened key memory acc → p < key.geometry.peers →
       target < key.geometry.peers → Stored memory after (control_word key target) (without_first (memory (control_word key target))) →
-      Grows acc next p (cleared target (memory (control_word key target))) → Happened key after next
+      Appends acc next p (cleared target (memory (control_word key target))) → Happened key after next

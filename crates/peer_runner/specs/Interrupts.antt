@@ -2,24 +2,24 @@
 use Rattle.std.specs.Prelude.{ℕ, zero, suc, ◌≡◌, ◌+◌, ◌*◌, ◌<◌, ◌≤◌, Bool, if◌then◌else◌, ◌==◌, ◌&&◌, List, [], ◌∷◌, ◌++◌, take, replicate}
 use Rattle.std.specs.Int.{bit_at}
 use Rattle.section_map.specs.Geometry.{word_count}
-use Rattle.peer_runner.specs.declared.key.Key.{Key}
+use Rattle.peer_runner.specs.declared.run_setup.RunSetup.{RunSetup}
 use Rattle.peer_runner.specs.Actions.{Action, accessed, rang, looked, cleared}
 
 -- The words behind the region
 
 -- a peer's interrupt word, and the word of its Interrupt Control, which stands behind it
-abbrev pub interrupt_word : Key → ℕ → ℕ
+abbrev pub interrupt_word : RunSetup → ℕ → ℕ
 interrupt_word key target = word_count key.geometry + 2 * target
 
-abbrev pub control_word : Key → ℕ → ℕ
+abbrev pub control_word : RunSetup → ℕ → ℕ
 control_word key target = word_count key.geometry + 2 * target + 1
 
 -- behind these words of all peers, the session word of each of the two link peers
-abbrev pub session_word : Key → ℕ → ℕ
+abbrev pub session_word : RunSetup → ℕ → ℕ
 session_word key p = word_count key.geometry + 2 * key.geometry.peers + p
 
 -- how many words there are
-abbrev pub all_words : Key → ℕ
+abbrev pub all_words : RunSetup → ℕ
 all_words key = word_count key.geometry + 2 * key.geometry.peers + 2
 
 -- the words for interrupts of the peers below n before any action, and all words
@@ -27,10 +27,10 @@ unfoldable pub interrupts_at_start : (enabled n : ℕ) → List ℕ
 interrupts_at_start enabled zero = []
 interrupts_at_start enabled (suc n) = interrupts_at_start enabled n ++ 0 ∷ bit_at enabled n ∷ []
 
-abbrev pub words_at_start : Key → List ℕ
+abbrev pub words_at_start : RunSetup → List ℕ
 words_at_start key = (replicate (word_count key.geometry) 0 ++ interrupts_at_start key.enabled key.geometry.peers) ++ 0 ∷ 0 ∷ []
 
-abbrev pub IsOneShot : Key → ℕ → Type 0
+abbrev pub IsOneShot : RunSetup → ℕ → Type 0
 IsOneShot key target = bit_at key.one_shot target ≡ 1
 
 -- Counts
@@ -85,8 +85,8 @@ strikes target (cleared at found) = one_if (at == target)
 -- What the words keep
 
 -- each ring at this target stands behind a clear that found its bit set, one ring for each clear
-abbrev pub StandsBehind : {A : Type 0} → (target : ℕ) → List (Action A) → Type 0
-StandsBehind target list = (n : ℕ) → weigh (aims target) (take n list) ≤ weigh (wins target) (take n list)
+abbrev pub FollowsClears : {A : Type 0} → (target : ℕ) → List (Action A) → Type 0
+FollowsClears target list = (n : ℕ) → weigh (aims target) (take n list) ≤ weigh (wins target) (take n list)
 
 -- one ring more may be made
 abbrev pub MayRing : {A : Type 0} → (target : ℕ) → List (Action A) → Type 0
@@ -94,23 +94,23 @@ MayRing target list = weigh (aims target) list < weigh (wins target) list
 
 -- Of each target and bit: the looks that found it, and one more where it is set now, are at most the rings of all peers. Bit 0 of the target's Interrupt
 -- Control, and the clears of all peers that found it set, are as many as at the start. And at a one-shot target each ring stands behind such a clear
-pub record Interrupts {A : Type 0} (key : Key) (memory : ℕ → ℕ) (acc : ℕ → List (Action A)) : Type 0 where
+pub record Interrupts {A : Type 0} (key : RunSetup) (memory : ℕ → ℕ) (acc : ℕ → List (Action A)) : Type 0 where
   pub rung : (target bit : ℕ) → target < key.geometry.peers →
       weigh (finds bit) (acc target) + bit_at (memory (interrupt_word key target)) bit ≤ tally key.geometry.peers (λ p. weigh (rings target bit) (acc p))
   pub control : (target : ℕ) → target < key.geometry.peers →
       bit_at (memory (control_word key target)) 0 + tally key.geometry.peers (λ p. weigh (wins target) (acc p)) ≡ bit_at key.enabled target
-  pub leave : (target p : ℕ) → target < key.geometry.peers → p < key.geometry.peers → IsOneShot key target → StandsBehind target (acc p)
+  pub leave : (target p : ℕ) → target < key.geometry.peers → p < key.geometry.peers → IsOneShot key target → FollowsClears target (acc p)
 
 -- Of each target and bit: where any peer rang it, it is set now or a look found it. And where any peer cleared a target's Interrupt Control, its bit 0 isn't set
-pub record Doorbells {A : Type 0} (key : Key) (memory : ℕ → ℕ) (acc : ℕ → List (Action A)) : Type 0 where
-  pub stands : (target bit : ℕ) → target < key.geometry.peers → 1 ≤ tally key.geometry.peers (λ p. weigh (rings target bit) (acc p)) →
+pub record Doorbells {A : Type 0} (key : RunSetup) (memory : ℕ → ℕ) (acc : ℕ → List (Action A)) : Type 0 where
+  pub refines : (target bit : ℕ) → target < key.geometry.peers → 1 ≤ tally key.geometry.peers (λ p. weigh (rings target bit) (acc p)) →
       1 ≤ bit_at (memory (interrupt_word key target)) bit + weigh (finds bit) (acc target)
   pub shut : (target : ℕ) → target < key.geometry.peers → 1 ≤ tally key.geometry.peers (λ p. weigh (strikes target) (acc p)) →
       bit_at (memory (control_word key target)) 0 ≡ 0
 
 -- What this says of the lists alone: no peer finds a bit oftener than it was rung; a one-shot peer finds one bit at most, and once; and each ring at it stands
 -- behind a clear
-pub record AreRung {A : Type 0} (key : Key) (acc : ℕ → List (Action A)) : Type 0 where
+pub record AreRung {A : Type 0} (key : RunSetup) (acc : ℕ → List (Action A)) : Type 0 where
   pub rung : (target bit : ℕ) → target < key.geometry.peers → weigh (finds bit) (acc target) ≤ tally key.geometry.peers (λ p. weigh (rings target bit) (acc p))
   pub once : (target : ℕ) → target < key.geometry.peers → IsOneShot key target → tally 64 (λ bit. weigh (finds bit) (acc target)) ≤ 1
-  pub behind : (target p : ℕ) → target < key.geometry.peers → p < key.geometry.peers → IsOneShot key target → StandsBehind target (acc p)
+  pub behind : (target p : ℕ) → target < key.geometry.peers → p < key.geometry.peers → IsOneShot key target → FollowsClears target (acc p)

@@ -1,13 +1,13 @@
--- What a list of deeds says by itself.
+-- What a list of memory operations says by itself.
 use Rattle.std.specs.Prelude.{ℕ, ◌==◌, if◌then◌else◌, Bool, true, false, Option, Some, None, List, [], ◌∷◌, ◌++◌}
 use Rattle.std.specs.List.{fold}
 use Rattle.split_ring.specs.declared.steps.Access.{Access}
 use Rattle.split_ring.specs.declared.steps.Access.TheVariants as access
 use Rattle.call_grammar.specs.Calls.{Call}
-use Rattle.peer_runner.specs.Standings.{Taken, Deed, called, numbered, carried, restarted}
+use Rattle.peer_runner.specs.DerivedStates.{CallAccess, MemoryOp, called, numbered, carried, restarted}
 
--- what a deed does to the region: its access; of a reset a write of State with 0; else nothing
-abbrev pub access_of : Deed Taken → Access
+-- what a memory operation does to the region: its access; of a reset a write of State with 0; else nothing
+abbrev pub access_of : MemoryOp CallAccess → Access
 access_of (called t) = t.access
 access_of (numbered number) = access.Nothing
 access_of (carried number) = access.Nothing
@@ -18,16 +18,16 @@ abbrev pub left_in : ℕ → ℕ → Access → ℕ
 left_in word was (access.Write w value) = if word == w then value else was
 left_in word was _ = was
 
-abbrev pub last_written : List (Deed Taken) → ℕ → ℕ
-last_written list word = fold (λ was (d : Deed Taken). left_in word was (access_of d)) 0 list
+abbrev pub last_written : List (MemoryOp CallAccess) → ℕ → ℕ
+last_written list word = fold (λ was (d : MemoryOp CallAccess). left_in word was (access_of d)) 0 list
 
 -- the State that it wrote last, or 0
 abbrev pub state_left : ℕ → Access → ℕ
 state_left was (access.State state) = state
 state_left was _ = was
 
-abbrev pub last_state : List (Deed Taken) → ℕ
-last_state list = fold (λ was (d : Deed Taken). state_left was (access_of d)) 0 list
+abbrev pub last_state : List (MemoryOp CallAccess) → ℕ
+last_state list = fold (λ was (d : MemoryOp CallAccess). state_left was (access_of d)) 0 list
 
 -- whether it wrote a word after its last write of State
 abbrev pub is_after_write : Bool → Access → Bool
@@ -35,8 +35,8 @@ is_after_write was (access.Write word value) = true
 is_after_write was (access.State state) = false
 is_after_write was _ = was
 
-abbrev pub has_written : List (Deed Taken) → Bool
-has_written list = fold (λ was (d : Deed Taken). is_after_write was (access_of d)) false list
+abbrev pub has_written : List (MemoryOp CallAccess) → Bool
+has_written list = fold (λ was (d : MemoryOp CallAccess). is_after_write was (access_of d)) false list
 
 -- the words that it wrote since its last call began, or since its last reset
 abbrev pub words_of : Access → List ℕ
@@ -47,10 +47,10 @@ abbrev pub unless_call : List ℕ → Option Call → List ℕ
 unless_call was None = was
 unless_call was (Some call) = []
 
-abbrev pub unless_begun : List ℕ → Deed Taken → List ℕ
+abbrev pub unless_begun : List ℕ → MemoryOp CallAccess → List ℕ
 unless_begun was (called t) = unless_call was t.begins
 unless_begun was restarted = []
 unless_begun was _ = was
 
-abbrev pub call_writes : List (Deed Taken) → List ℕ
-call_writes list = fold (λ was (d : Deed Taken). unless_begun was d ++ words_of (access_of d)) [] list
+abbrev pub call_writes : List (MemoryOp CallAccess) → List ℕ
+call_writes list = fold (λ was (d : MemoryOp CallAccess). unless_begun was d ++ words_of (access_of d)) [] list

@@ -6,20 +6,20 @@ use Rattle.scenario_text.specs.declared.acts.Act.{Act}
 use Rattle.scenario_text.specs.declared.acts.Act.TheVariants as act
 use Rattle.scenario_text.specs.Scenario.{World}
 use Rattle.call_grammar.specs.Calls.{Offer}
-use Rattle.lawful_history.specs.Sides.{who_of}
-use Rattle.lawful_history.specs.Peers.{Peer, at_start, asked, automated, stormed}
+use Rattle.lawful_history.specs.Sides.{config_of}
+use Rattle.lawful_history.specs.Peers.{Peer, at_start, with_call, automated, stormed}
 use Rattle.lawful_history.specs.Storm.{storm_step}
 use Rattle.record_text.specs.Parts.{Part}
 use Rattle.doorbell_irq.specs.declared.route.Route.{Route}
-use Rattle.peer_runner.specs.Standings.{Touch, Deed}
+use Rattle.peer_runner.specs.DerivedStates.{ObservedAccess, MemoryOp}
 use Rattle.peer_runner.specs.Actions.{Action}
-use Rattle.peer_runner.specs.Ways.{AreRoutesOf}
-use Rattle.peer_runner.specs.Turns.{Turn, Running, comes_to, all_turns, TakesTurns, is_finished, actions_in, told_of}
+use Rattle.peer_runner.specs.DoorbellPaths.{AreRoutesOf}
+use Rattle.peer_runner.specs.Turns.{Turn, Running, comes_to, all_turns, TakesTurns, is_finished, actions_in, lines_of_turns}
 
 -- the trace of these turns, which led the peer there: it took all of its turns, or fewer and is finished
-pub record IsToldBy (p turns : ℕ) (taken : List Turn) (after : Running) (part : Part) : Type 0 where
+pub record IsTraceOf (p turns : ℕ) (taken : List Turn) (after : Running) (part : Part) : Type 0 where
   pub peer : part.peer ≡ p
-  pub lines : part.lines ≡ told_of p taken
+  pub lines : part.lines ≡ lines_of_turns p taken
   pub count : part.turns ≡ length taken
   pub finished : part.finished ≡ is_finished after.peer
   pub most : part.turns ≤ turns
@@ -28,19 +28,19 @@ pub record IsToldBy (p turns : ℕ) (taken : List Turn) (after : Running) (part 
 -- In a scenario
 
 -- what an act tells a peer before its turns
-abbrev pub told : ℕ → Peer → Act → Peer
-told p peer (act.Auto q expected) = if q == p then automated peer expected else peer
-told p peer (act.Offer q frame) = if q == p then asked peer (Offer frame) else peer
-told p peer (act.Storm q seed) = if q == p then stormed peer seed else peer
-told p peer _ = peer
+abbrev pub after_act : ℕ → Peer → Act → Peer
+after_act p peer (act.Auto q expected) = if q == p then automated peer expected else peer
+after_act p peer (act.Offer q frame) = if q == p then with_call peer (Offer frame) else peer
+after_act p peer (act.Storm q seed) = if q == p then stormed peer seed else peer
+after_act p peer _ = peer
 
-unfoldable pub told_all : ℕ → Peer → List Act → Peer
-told_all p peer [] = peer
-told_all p peer (a ∷ acts) = told_all p (told p peer a) acts
+unfoldable pub after_acts : ℕ → Peer → List Act → Peer
+after_acts p peer [] = peer
+after_acts p peer (a ∷ acts) = after_acts p (after_act p peer a) acts
 
 -- the peer before its turns, and its spans: how many turns each of its lines gives it
 abbrev pub start_of : List Act → ℕ → Peer
-start_of acts p = told_all p at_start acts
+start_of acts p = after_acts p at_start acts
 
 abbrev pub span_in : ℕ → Act → List ℕ
 span_in p (act.Turn q steps) = if q == p then steps ∷ [] else []
@@ -50,11 +50,11 @@ unfoldable pub spans_of : List Act → ℕ → List ℕ
 spans_of acts p = flat_map (span_in p) acts
 
 -- the part of a running record that a peer of the scenario has with these actions, by the routes of the peers
-pub record IsOwnRecord (world : World) (actions : List (Action (Deed Touch))) (part : Part) : Type 0 where
+pub record IsOwnRecord (world : World) (actions : List (Action (MemoryOp ObservedAccess))) (part : Part) : Type 0 where
   pub routes : List Route
   pub routed : AreRoutesOf world routes
   pub taken : List Turn
   pub after : Running
-  pub takes : TakesTurns (who_of world part.peer) (storm_step world part.peer) routes (comes_to (start_of world.acts part.peer) (spans_of world.acts part.peer)) taken after
+  pub takes : TakesTurns (config_of world part.peer) (storm_step world part.peer) routes (comes_to (start_of world.acts part.peer) (spans_of world.acts part.peer)) taken after
   pub made : actions ≡ actions_in routes taken
-  pub told : IsToldBy part.peer (all_turns (spans_of world.acts part.peer)) taken after part
+  pub told : IsTraceOf part.peer (all_turns (spans_of world.acts part.peer)) taken after part

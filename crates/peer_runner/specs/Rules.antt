@@ -11,65 +11,65 @@ use Rattle.call_grammar.specs.Calls.{Call}
 use Rattle.call_grammar.specs.Places.{Refusing}
 use Rattle.link_machine.specs.LinkMachine.{Ended, Log, DeliversInOrder}
 use Rattle.pair_sessions.specs.Numbers.{own_side}
-use Rattle.peer_runner.specs.declared.key.Key.{Key}
+use Rattle.peer_runner.specs.declared.run_setup.RunSetup.{RunSetup}
 use Rattle.peer_runner.specs.declared.view.View.{View}
-use Rattle.peer_runner.specs.Keys.{honest_of, IsFit}
-use Rattle.peer_runner.specs.Standings.{At, Taken, taken, Deed, called, numbered, carried, restarted, standing, NeverMarked}
+use Rattle.peer_runner.specs.RunSetups.{honest_of, IsFit}
+use Rattle.peer_runner.specs.DerivedStates.{At, CallAccess, taken, MemoryOp, called, numbered, carried, restarted, derived_state, NeverMarked}
 use Rattle.peer_runner.specs.Actions.{Action, accessed, rang, looked, cleared, accesses_in}
 use Rattle.peer_runner.specs.Interrupts.{session_word, all_words, IsOneShot, MayRing, AreRung}
-pub use Rattle.peer_runner.specs.Made.{IsOwned}
+pub use Rattle.peer_runner.specs.SharedMemory.{IsOwned}
 use Rattle.peer_runner.specs.Happened.{Happened}
 
--- the first words are those of the region, and the last two those of the sessions; and the deeds of each peer, by which they are made
-abbrev pub region : Key → List ℕ → ℕ → ℕ
+-- the first words are those of the region, and the last two those of the sessions; and the memory operations of each peer, by which they are made
+abbrev pub region : RunSetup → List ℕ → ℕ → ℕ
 region key words w = slice_index (take (word_count key.geometry) words) w
 
-abbrev pub session_words : Key → List ℕ → ℕ → ℕ
+abbrev pub session_words : RunSetup → List ℕ → ℕ → ℕ
 session_words key words p = slice_index words (session_word key p)
 
-abbrev pub accesses_by : (ℕ → List (Action (Deed Taken))) → ℕ → List (Deed Taken)
+abbrev pub accesses_by : (ℕ → List (Action (MemoryOp CallAccess))) → ℕ → List (MemoryOp CallAccess)
 accesses_by acc p = accesses_in (acc p)
 
 -- The rule: the first words are the region's, each below 2^32; two words for interrupts of each peer stand behind them, and a session word of each link peer
 -- behind these, also below 2^32. And all words are what the actions of the lists made of them, one after another
-pub record Memory (key : Key) (words : List ℕ) (acc : ℕ → List (Action (Deed Taken))) : Type 0 where
+pub record Memory (key : RunSetup) (words : List ℕ) (acc : ℕ → List (Action (MemoryOp CallAccess))) : Type 0 where
   pub sized : length words ≡ all_words key
   pub small : (w : ℕ) → w < word_count key.geometry → slice_index words w < 2 ^ 32
   pub numbers : (p : ℕ) → p < 2 → session_words key words p < 2 ^ 32
   pub happened : Happened key (λ w. slice_index words w) acc
 
 -- the seat id has the view v, and so the peers of its range and what they did
-pub record Fits (peers : ℕ) (seat : ℕ → ℕ) (acc : ℕ → List (Action (Deed Taken))) (id : ℕ) (v : View) : Type 0 where
+pub record Fits (peers : ℕ) (seat : ℕ → ℕ) (acc : ℕ → List (Action (MemoryOp CallAccess))) (id : ℕ) (v : View) : Type 0 where
   pub inside : v.from + length v.lists ≤ peers
   pub mine : (k : ℕ) → k < length v.lists → seat (v.from + k) ≡ id
-  pub known : (k : ℕ) (l : List (Action (Deed Taken))) → get_elem? v.lists k ≡ some l → acc (v.from + k) ≡ l
+  pub known : (k : ℕ) (l : List (Action (MemoryOp CallAccess))) → get_elem? v.lists k ≡ some l → acc (v.from + k) ≡ l
 
 -- each peer has one seat and one list, by which the words are what they are
-pub record Kept (key : Key) (s : State ℕ View) : Type 0 where
+pub record TableInvariant (key : RunSetup) (s : State ℕ View) : Type 0 where
   pub seat : ℕ → ℕ
-  pub acc : ℕ → List (Action (Deed Taken))
+  pub acc : ℕ → List (Action (MemoryOp CallAccess))
   pub fits : (id : ℕ) (v : View) → get_elem? s.views id ≡ some v → Fits key.geometry.peers seat acc id v
   pub fit : IsFit key
   pub memory : Memory key s.words acc
 
 -- Views
 
-abbrev pub view : ℕ → List (List (Action (Deed Taken))) → View
+abbrev pub view : ℕ → List (List (Action (MemoryOp CallAccess))) → View
 view from lists = record { from = from; lists = lists }
 
-abbrev pub newcomer : Key → View
-newcomer key = view 0 (replicate key.geometry.peers [])
+abbrev pub initial_view : RunSetup → View
+initial_view key = view 0 (replicate key.geometry.peers [])
 
 -- the first list, and the lists with one action more in it
-abbrev pub front : List (List (Action (Deed Taken))) → List (Action (Deed Taken))
+abbrev pub front : List (List (Action (MemoryOp CallAccess))) → List (Action (MemoryOp CallAccess))
 front [] = []
 front (list ∷ lists) = list
 
-abbrev pub added_to : List (List (Action (Deed Taken))) → Action (Deed Taken) → List (List (Action (Deed Taken)))
+abbrev pub added_to : List (List (Action (MemoryOp CallAccess))) → Action (MemoryOp CallAccess) → List (List (Action (MemoryOp CallAccess)))
 added_to [] t = []
 added_to (l ∷ ls) t = (l ++ t ∷ []) ∷ ls
 
-abbrev pub more : View → Action (Deed Taken) → View
+abbrev pub more : View → Action (MemoryOp CallAccess) → View
 more v t = view v.from (added_to v.lists t)
 
 abbrev pub joined : View → View → View
@@ -110,42 +110,42 @@ abbrev pub rings_at : ℕ → ℕ → Step ℕ → Me ℕ View → ℕ → Me �
 rings_at target bit st m n t = t ≡ (more m.0 (rang target bit), m.1)
 
 -- a clear that finds the bit of a one-shot target tells that one ring more may be made
-abbrev pub clears : Key → ℕ → Step ℕ → Me ℕ View → ℕ → Me ℕ View → Type 0
+abbrev pub clears : RunSetup → ℕ → Step ℕ → Me ℕ View → ℕ → Me ℕ View → Type 0
 clears key target st m n t = (t ≡ (more m.0 (cleared target n), m.1)) × (IsOneShot key target → bit_at n 0 ≡ 1 → MayRing target (front t.0.lists))
 
 -- the list of peer p, where the lists of all peers are here
-abbrev pub list_of : List (List (Action (Deed Taken))) → ℕ → List (Action (Deed Taken))
+abbrev pub list_of : List (List (Action (MemoryOp CallAccess))) → ℕ → List (Action (MemoryOp CallAccess))
 list_of lists p = get_or lists p []
 
 -- the lists of two honest ends: each delivers in order what the other accepted, through all sessions, by their numbers; and neither is at a refusal, nor did it
 -- ever bear the mark of one
-pub record AreTold (key : Key) (acc : ℕ → List (Deed Taken)) : Type 0 where
-  pub deliver : (p : ℕ) → p < 2 → DeliversInOrder (own_side (standing key p (acc p)).end) (own_side (standing key (1 - p) (acc (1 - p))).end)
-      (standing key p (acc p)).numbers.log (standing key (1 - p) (acc (1 - p))).numbers.log
-  pub never_refuse : (p : ℕ) → p < 2 → ((standing key p (acc p)).place ≢ Refusing) × NeverMarked key p (acc p)
+pub record SessionsAreLearned (key : RunSetup) (acc : ℕ → List (MemoryOp CallAccess)) : Type 0 where
+  pub deliver : (p : ℕ) → p < 2 → DeliversInOrder (own_side (derived_state key p (acc p)).end) (own_side (derived_state key (1 - p) (acc (1 - p))).end)
+      (derived_state key p (acc p)).numbers.log (derived_state key (1 - p) (acc (1 - p))).numbers.log
+  pub never_refuse : (p : ℕ) → p < 2 → ((derived_state key p (acc p)).place ≢ Refusing) × NeverMarked key p (acc p)
 
 -- no session that reached RUN carries a number: each carries 0
 abbrev pub CarriesNone : Log → Type 0
 CarriesNone log = (log.carried ≡ 0) × All (λ (session : Ended). session.carried ≡ 0) log.ended
 
 -- where one of them asks for a doorbell at a frame, the other's offer of that frame didn't end without one
-abbrev pub NoneIsMissed : Key → (ℕ → List (Deed Taken)) → Type 0
-NoneIsMissed key acc = (p number : ℕ) → p < 2 → (standing key p (acc p)).wake.asked ≡ At number → ¬ Contains (standing key (1 - p) (acc (1 - p))).wake.missed number
+abbrev pub NoneIsMissed : RunSetup → (ℕ → List (MemoryOp CallAccess)) → Type 0
+NoneIsMissed key acc = (p number : ℕ) → p < 2 → (derived_state key p (acc p)).wake.asked ≡ At number → ¬ Contains (derived_state key (1 - p) (acc (1 - p))).wake.missed number
 
 -- where all lists are here, interrupts were rung as they say; of two honest peers, that they agree, and in a link with events ring where the other asks; and
 -- of an honest one beside a hostile one, that its sessions carry none
-pub record TellsAll (key : Key) (acc : ℕ → List (Action (Deed Taken))) : Type 0 where
-  pub pair : honest_of key 0 ≡ true → honest_of key 1 ≡ true → AreTold key (accesses_by acc)
+pub record AllIsLearned (key : RunSetup) (acc : ℕ → List (Action (MemoryOp CallAccess))) : Type 0 where
+  pub pair : honest_of key 0 ≡ true → honest_of key 1 ≡ true → SessionsAreLearned key (accesses_by acc)
   pub woken : has_events key.queue ≡ true → honest_of key 0 ≡ true → honest_of key 1 ≡ true → NoneIsMissed key (accesses_by acc)
-  pub beside : (p : ℕ) → p < 2 → honest_of key p ≡ true → honest_of key (1 - p) ≡ false → CarriesNone (standing key p (accesses_by acc p)).numbers.log
+  pub neighbour_word : (p : ℕ) → p < 2 → honest_of key p ≡ true → honest_of key (1 - p) ≡ false → CarriesNone (derived_state key p (accesses_by acc p)).numbers.log
   pub rung : AreRung key acc
 
-abbrev pub Told : Key → ℕ → List (List (Action (Deed Taken))) → Type 0
-Told key from lists = from ≡ 0 → length lists ≡ key.geometry.peers → TellsAll key (list_of lists)
+abbrev pub IsLearned : RunSetup → ℕ → List (List (Action (MemoryOp CallAccess))) → Type 0
+IsLearned key from lists = from ≡ 0 → length lists ≡ key.geometry.peers → AllIsLearned key (list_of lists)
 
-abbrev pub learns : Key → Step ℕ → Me ℕ View → ℕ → Me ℕ View → Type 0
-learns key st m n t = (t ≡ m) × Told key m.0.from m.0.lists
+abbrev pub learns : RunSetup → Step ℕ → Me ℕ View → ℕ → Me ℕ View → Type 0
+learns key st m n t = (t ≡ m) × IsLearned key m.0.from m.0.lists
 
 -- the play tells just this
-abbrev pub Tells : (Step ℕ → Me ℕ View → ℕ → Me ℕ View → Type 0) → (Step ℕ → Me ℕ View → ℕ → Me ℕ View → Type 0) → Type 0
-Tells then said = (st : Step ℕ) (m : Me ℕ View) (n : ℕ) (t : Me ℕ View) → then st m n t ↔ said st m n t
+abbrev pub LearnsExactly : (Step ℕ → Me ℕ View → ℕ → Me ℕ View → Type 0) → (Step ℕ → Me ℕ View → ℕ → Me ℕ View → Type 0) → Type 0
+LearnsExactly then said = (st : Step ℕ) (m : Me ℕ View) (n : ℕ) (t : Me ℕ View) → then st m n t ↔ said st m n t

@@ -6,37 +6,37 @@ use Rattle.section_map.specs.Geometry.{word_count}
 use Rattle.section_map.specs.MayWrite.{MayWrite}
 use Rattle.call_grammar.specs.Steps.{Mark, Step}
 use Rattle.call_grammar.specs.Ends.{End, fresh, after_reset, end_after}
-use Rattle.call_grammar.specs.Calls.{Who, Call}
+use Rattle.call_grammar.specs.Calls.{EndConfig, Call}
 use Rattle.call_grammar.specs.Calls as calls
 use Rattle.call_grammar.specs.Automatic.{Anew, AfterOffer, AfterPoll, choice_of}
 use Rattle.call_grammar.specs.Automatic as automatic
 use Rattle.pair_sessions.specs.Numbers.{Numbers, no_numbers, numbers_after, numbers_reset, with_stored, with_loaded}
-use Rattle.call_grammar.specs.Places.{Place, Closed, Setting, remaining, first_place, access_at, next_place, step_at, marks_at, is_open}
+use Rattle.call_grammar.specs.Places.{Place, Closed, WritingState, remaining, first_place, access_at, next_place, step_at, marks_at, is_open}
 use Rattle.link_endpoint.specs.Engine.{Engine, is_busy}
-use Rattle.link_endpoint.specs.Stands.{StandsAt}
+use Rattle.link_endpoint.specs.Refinement.{RefinesAt}
 use Rattle.link_endpoint.specs.Plan.{IsChoice}
 use Rattle.link_endpoint.specs.declared.auto.Choice.{Choice}
 use Rattle.link_endpoint.specs.declared.auto.Choice.TheVariants.{Tick, Offer, Poll, Finished}
 use Rattle.lawful_history.specs.declared.line.Line.{Line}
 use Rattle.lawful_history.specs.declared.line.Line.TheVariants as line
-use Rattle.lawful_history.specs.Entries.{access_lines, mark_line}
+use Rattle.lawful_history.specs.EventRecords.{access_lines, mark_line}
 use Rattle.lawful_history.specs.Peers.{Auto, Chooses, Peer, counted_all}
 use Rattle.step_lines.specs.Plans.{IsPlanOf}
 use Rattle.step_lines.specs.Places.{HasFrames}
-use Rattle.peer_runner.specs.declared.key.Key.{Key}
-use Rattle.peer_runner.specs.Held.{Held}
-use Rattle.peer_runner.specs.Keys.{who_in}
-use Rattle.peer_runner.specs.Standings.{Taken, taken, Deed, called, numbered, carried, restarted, Nowhere, Wake, at_rest, wake_after, Stance, settled_place, standing}
+use Rattle.peer_runner.specs.declared.run_setup.RunSetup.{RunSetup}
+use Rattle.peer_runner.specs.PassView.{PassView}
+use Rattle.peer_runner.specs.RunSetups.{config_in}
+use Rattle.peer_runner.specs.DerivedStates.{CallAccess, taken, MemoryOp, called, numbered, carried, restarted, Nowhere, Wake, at_rest, wake_after, DerivedState, settled_place, derived_state}
 use Rattle.peer_runner.specs.Actions.{Action, accessed, looked, accesses_in}
 use Rattle.peer_runner.specs.Passes.{added}
-use Rattle.peer_runner.specs.Ways.{way_to, is_guarded, rung_by}
+use Rattle.peer_runner.specs.DoorbellPaths.{doorbell_path_to, is_guarded, rung_by}
 use Rattle.peer_runner.specs.Interrupts.{MayRing}
-use Rattle.peer_runner.specs.Turns.{Turn, Looks, Makes, Clears, Rings, Stores, Loads, Enters, Restarts, Running, sleeps, looks_after, spent, later, is_end, is_set, cleared_by, is_quiet, told_in}
+use Rattle.peer_runner.specs.Turns.{Turn, Looks, Makes, Clears, Rings, Stores, Loads, Enters, Restarts, Running, sleeps, looks_after, spent, later, is_end, is_set, cleared_by, is_quiet, lines_in}
 use Rattle.peer_runner.specs.declared.sessions.SessionWord.{SessionWord}
 use Rattle.peer_runner.specs.declared.sessions.SessionWord.TheVariants.{Own, Others}
-use Rattle.peer_runner.specs.declared.ways.Done.{Done}
+use Rattle.peer_runner.specs.declared.doorbell_paths.Done.{Done}
 use Rattle.peer_runner.specs.declared.turns.AutoPeer.{AutoPeer}
-use Rattle.peer_runner.specs.declared.ways.Done.TheVariants.{Stepped, Cleared, Rung}
+use Rattle.peer_runner.specs.declared.doorbell_paths.Done.TheVariants.{Stepped, Cleared, Rung}
 use Rattle.doorbell_irq.specs.declared.route.Route.{Route}
 
 -- a frame that may be offered: 14 to MTU + 18 bytes
@@ -55,15 +55,15 @@ pub record Runner : Type 0 where
   pub numbers : Numbers
   pub met : Option ℕ
   pub spans : List ℕ
-  pub actions : List (Action (Deed Taken))
+  pub actions : List (Action (MemoryOp CallAccess))
   pub turns : List Turn
   pub wake : Wake
 
 abbrev pub start_auto : List (List ℕ) → ℕ → Auto
 start_auto frames expected = record { frames = frames; expected = expected; delivered = 0; round = Anew }
 
-abbrev pub beginning : List (List ℕ) → (expected : ℕ) → (spans : List ℕ) → Runner
-beginning frames expected spans = record {
+abbrev pub initial_runner : List (List ℕ) → (expected : ℕ) → (spans : List ℕ) → Runner
+initial_runner frames expected spans = record {
   end = fresh;
   place = Closed;
   auto = start_auto frames expected;
@@ -78,11 +78,11 @@ beginning frames expected spans = record {
 }
 
 -- the peer of the own record
-abbrev pub peer_of : Who → Runner → Peer
-peer_of who r = record { end = r.end; left = remaining who r.place; waiting = []; driver = Chooses r.auto }
+abbrev pub peer_of : EndConfig → Runner → Peer
+peer_of config r = record { end = r.end; left = remaining config r.place; waiting = []; driver = Chooses r.auto }
 
-abbrev pub running_of : Who → Runner → Running
-running_of who r = record { peer = peer_of who r; looks = r.looks; ringing = r.ringing; opened = r.numbers.log.opened; met = r.met; spans = r.spans }
+abbrev pub running_of : EndConfig → Runner → Running
+running_of config r = record { peer = peer_of config r; looks = r.looks; ringing = r.ringing; opened = r.numbers.log.opened; met = r.met; spans = r.spans }
 
 -- What it chooses where no call is open
 
@@ -114,12 +114,12 @@ abbrev pub has_finished : Runner → Bool
 has_finished r = finishes (chosen r)
 
 -- the place of its next step
-abbrev pub place_for : Who → End → Place → Option Call → Place
-place_for who end place None = place
-place_for who end place (Some call) = first_place who end call
+abbrev pub place_for : EndConfig → End → Place → Option Call → Place
+place_for config end place None = place
+place_for config end place (Some call) = first_place config end call
 
-abbrev pub place_in : Who → Runner → Place
-place_in who r = place_for who r.end r.place (call_chosen (chosen r))
+abbrev pub place_in : EndConfig → Runner → Place
+place_in config r = place_for config r.end r.place (call_chosen (chosen r))
 
 -- What an answer of `choose` says
 
@@ -129,9 +129,9 @@ Matches None frames (Some c) = ⊥
 Matches (Some answer) frames None = ⊥
 Matches (Some answer) frames (Some c) = IsChoice answer frames c
 
-abbrev pub tells_end : Option Choice → Bool
-tells_end (Some Finished) = true
-tells_end _ = false
+abbrev pub is_end_choice : Option Choice → Bool
+is_end_choice (Some Finished) = true
+is_end_choice _ = false
 
 abbrev pub call_of : Choice → List (List ℕ) → Option Call
 call_of Tick frames = Some calls.Tick
@@ -140,9 +140,9 @@ call_of Offer (frame ∷ frames) = Some (calls.Offer frame)
 call_of Poll frames = Some calls.Poll
 call_of Finished frames = None
 
-abbrev pub call_told : Option Choice → List (List ℕ) → Option Call
-call_told None frames = None
-call_told (Some answer) frames = call_of answer frames
+abbrev pub call_chosen_by : Option Choice → List (List ℕ) → Option Call
+call_chosen_by None frames = None
+call_chosen_by (Some answer) frames = call_of answer frames
 
 -- a call is begun, of a frame that may be offered
 abbrev pub IsBegun : ℕ → Choice → List (List ℕ) → Type 0
@@ -170,21 +170,21 @@ touches (access.State state) = true
 touches (access.Ring target vector) = false
 touches access.Nothing = false
 
-abbrev pub taken_of : List Route → Option Call → Access → ℕ → List (Action (Deed Taken))
+abbrev pub taken_of : List Route → Option Call → Access → ℕ → List (Action (MemoryOp CallAccess))
 taken_of routes begins (access.Read word) value = accessed (called (taken begins (access.Read word) value)) ∷ []
 taken_of routes begins (access.Write word written) value = accessed (called (taken begins (access.Write word written) value)) ∷ []
 taken_of routes begins (access.State state) value = accessed (called (taken begins (access.State state) value)) ∷ []
-taken_of routes begins (access.Ring target vector) value = rung_by (way_to routes target vector) target
+taken_of routes begins (access.Ring target vector) value = rung_by (doorbell_path_to routes target vector) target
 taken_of routes begins access.Nothing value = []
 
 -- it reads a word of the region, or writes one of its own
-abbrev pub MayMake : Key → ℕ → Access → Type 0
+abbrev pub MayMake : RunSetup → ℕ → Access → Type 0
 MayMake key me (access.Read word) = word < word_count key.geometry
 MayMake key me (access.Write word value) = MayWrite key.geometry me word
 MayMake key me other = Unit {0}
 
 -- the pass with these actions more, of which there is one at most
-abbrev pub made : Held → List (Action (Deed Taken)) → Held
+abbrev pub made : PassView → List (Action (MemoryOp CallAccess)) → PassView
 made h [] = h
 made h (t ∷ more) = added h t
 
@@ -195,7 +195,7 @@ abbrev pub value_done : Done → ℕ
 value_done (Stepped value) = value
 value_done other = 0
 
-abbrev pub done_of : List Route → Option Call → Access → Done → List (Action (Deed Taken))
+abbrev pub done_of : List Route → Option Call → Access → Done → List (Action (MemoryOp CallAccess))
 done_of routes begins a (Stepped value) = taken_of routes begins a value
 done_of routes begins a (Cleared found) = cleared_by a found
 done_of routes begins a Rung = taken_of routes begins a 0
@@ -236,23 +236,23 @@ drawn_lines p a Rung = []
 drawn_lines p a other = access_lines p a 0
 
 -- it was a clear that found the bit, and so the ring is to come
-abbrev pub holds_on : Done → Bool
-holds_on (Cleared found) = is_set found
-holds_on other = false
+abbrev pub awaits_ring : Done → Bool
+awaits_ring (Cleared found) = is_set found
+awaits_ring other = false
 
 -- the ring of this doorbell may be made
-abbrev pub MayRingBy : List Route → Access → List (Action (Deed Taken)) → Type 0
-MayRingBy routes (access.Ring target vector) list = (is_guarded (way_to routes target vector) ≡ true) × MayRing target list
+abbrev pub MayRingBy : List Route → Access → List (Action (MemoryOp CallAccess)) → Type 0
+MayRingBy routes (access.Ring target vector) list = (is_guarded (doorbell_path_to routes target vector) ≡ true) × MayRing target list
 MayRingBy routes other list = ⊥
 
 -- A turn
 
 -- it looks first, where so many looks are due and so many were taken
-abbrev pub due_at : Who → End → Place → Auto → ℕ
-due_at who end place auto = if is_open place then 0 else if sleeps who end auto then 64 else 1
+abbrev pub due_at : EndConfig → End → Place → Auto → ℕ
+due_at config end place auto = if is_open place then 0 else if sleeps config end auto then 64 else 1
 
-abbrev pub due_of : Who → Runner → ℕ
-due_of who r = due_at who r.end r.place r.auto
+abbrev pub due_of : EndConfig → Runner → ℕ
+due_of config r = due_at config r.end r.place r.auto
 
 abbrev pub looks_now : Route → (due looks : ℕ) → Bool
 looks_now own due looks = own.enabled && nat_lt looks due
@@ -269,16 +269,16 @@ looked_on r found = record r {
 
 -- the session word that it comes to before the State step with 2, or with 3, where it has met no number for it yet
 abbrev pub due_word : Place → Option ℕ → Option SessionWord
-due_word (Setting state) None = if state == 2 then Some Own else if state == 3 then Some Others else None
+due_word (WritingState state) None = if state == 2 then Some Own else if state == 3 then Some Others else None
 due_word place met = None
 
 abbrev pub state_for : SessionWord → ℕ
 state_for Own = 2
 state_for Others = 3
 
-abbrev pub deed_met : {A : Type 0} → SessionWord → ℕ → Deed A
-deed_met Own number = numbered number
-deed_met Others number = carried number
+abbrev pub memory_op_met : {A : Type 0} → SessionWord → ℕ → MemoryOp A
+memory_op_met Own number = numbered number
+memory_op_met Others number = carried number
 
 abbrev pub turn_met : SessionWord → ℕ → Turn
 turn_met Own number = Stores number
@@ -293,7 +293,7 @@ met_on word r number = record r {
   numbers = numbers_met word r.numbers number;
   met = Some number;
   spans = spent r.spans;
-  actions = r.actions ++ accessed (deed_met word number) ∷ [];
+  actions = r.actions ++ accessed (memory_op_met word number) ∷ [];
   turns = r.turns ++ turn_met word number ∷ [];
 }
 
@@ -318,66 +318,66 @@ abbrev pub is_first : Runner → Bool
 is_first r = not (is_open r.place)
 
 -- the turn of a step
-abbrev pub turn_on : Who → Runner → Done → Turn
-turn_on who r done = turn_of (is_first r) r.numbers.log.opened r.met (step_at who (place_in who r) (value_done done)) done
+abbrev pub turn_on : EndConfig → Runner → Done → Turn
+turn_on config r done = turn_of (is_first r) r.numbers.log.opened r.met (step_at config (place_in config r) (value_done done)) done
 
 -- the step goes on, or is held for its ring
-abbrev pub held_on : List Route → Who → Runner → Done → Runner
-held_on routes who r done = record r {
+abbrev pub held_on : List Route → EndConfig → Runner → Done → Runner
+held_on routes config r done = record r {
   looks = 0;
   ringing = true;
   spans = spent r.spans;
-  actions = r.actions ++ done_of routes (call_chosen (chosen r)) (access_at who (place_in who r)) done;
-  turns = r.turns ++ turn_on who r done ∷ [];
+  actions = r.actions ++ done_of routes (call_chosen (chosen r)) (access_at config (place_in config r)) done;
+  turns = r.turns ++ turn_on config r done ∷ [];
 }
 
-abbrev pub woken_on : Who → Runner → Done → Wake
-woken_on who r done = wake_after (length r.end.accepted) (length r.end.delivered) r.wake (access_at who (place_in who r))
-    (marks_at who (place_in who r) (value_done done))
+abbrev pub woken_on : EndConfig → Runner → Done → Wake
+woken_on config r done = wake_after (length r.end.accepted) (length r.end.delivered) r.wake (access_at config (place_in config r))
+    (marks_at config (place_in config r) (value_done done))
 
-abbrev pub stepped_on : List Route → Who → Runner → Done → Runner
-stepped_on routes who r done = record {
-  end = end_after r.end (step_at who (place_in who r) (value_done done));
-  place = next_place who (place_in who r) (value_done done);
-  auto = counted_all (round_on r.auto (chosen r)) (marks_at who (place_in who r) (value_done done));
+abbrev pub stepped_on : List Route → EndConfig → Runner → Done → Runner
+stepped_on routes config r done = record {
+  end = end_after r.end (step_at config (place_in config r) (value_done done));
+  place = next_place config (place_in config r) (value_done done);
+  auto = counted_all (round_on r.auto (chosen r)) (marks_at config (place_in config r) (value_done done));
   looks = 0;
   ringing = false;
-  numbers = numbers_after r.numbers r.end (access_at who (place_in who r));
+  numbers = numbers_after r.numbers r.end (access_at config (place_in config r));
   met = None;
   spans = spent r.spans;
-  actions = r.actions ++ done_of routes (call_chosen (chosen r)) (access_at who (place_in who r)) done;
-  turns = r.turns ++ turn_on who r done ∷ [];
-  wake = woken_on who r done;
+  actions = r.actions ++ done_of routes (call_chosen (chosen r)) (access_at config (place_in config r)) done;
+  turns = r.turns ++ turn_on config r done ∷ [];
+  wake = woken_on config r done;
 }
 
-abbrev pub turned : List Route → Who → Runner → Done → Runner
-turned routes who r done = if holds_on done then held_on routes who r done else stepped_on routes who r done
+abbrev pub turned : List Route → EndConfig → Runner → Done → Runner
+turned routes config r done = if awaits_ring done then held_on routes config r done else stepped_on routes config r done
 
 -- the lines that it tells
-abbrev pub told_on : Who → Runner → Done → List Line
-told_on who r done = told_in who.me (turn_on who r done)
+abbrev pub lines_on : EndConfig → Runner → Done → List Line
+lines_on config r done = lines_in config.me (turn_on config r done)
 
 -- where its list leaves the runner
-abbrev pub stance_of : Runner → Stance
-stance_of r = record { end = r.end; place = settled_place r.place; numbers = r.numbers; wake = r.wake }
+abbrev pub derived_state_of : Runner → DerivedState
+derived_state_of r = record { end = r.end; place = settled_place r.place; numbers = r.numbers; wake = r.wake }
 
 -- what it met is what its session word holds, or what it loaded
 pub record HasMet (r : Runner) : Type 0 where
-  pub stored : (number : ℕ) → r.place ≡ Setting 2 → r.met ≡ Some number → r.numbers.stored ≡ true
-  pub loaded : (number : ℕ) → r.place ≡ Setting 3 → r.met ≡ Some number → r.numbers.loaded ≡ Some number
+  pub stored : (number : ℕ) → r.place ≡ WritingState 2 → r.met ≡ Some number → r.numbers.stored ≡ true
+  pub loaded : (number : ℕ) → r.place ≡ WritingState 3 → r.met ≡ Some number → r.numbers.loaded ≡ Some number
 
 -- the endpoint stands where the runner is, its list leaves it there, its frames may be offered, and a ring that is to come may be made
-pub record Stands (key : Key) (me : ℕ) (routes : List Route) (r : Runner) (end : Engine) : Type 0 where
-  pub stands : StandsAt end (who_in key me) r.end r.place
-  pub standing : standing key me (accesses_in r.actions) ≡ stance_of r
+pub record RunnerRefines (key : RunSetup) (me : ℕ) (routes : List Route) (r : Runner) (end : Engine) : Type 0 where
+  pub refines : RefinesAt end (config_in key me) r.end r.place
+  pub derived_state : derived_state key me (accesses_in r.actions) ≡ derived_state_of r
   pub bytes : HasFrames r.place
   pub frames : All (IsFrame key.queue.mtu) r.auto.frames
-  pub rings : r.ringing ≡ true → MayRingBy routes (access_at (who_in key me) r.place) r.actions
+  pub rings : r.ringing ≡ true → MayRingBy routes (access_at (config_in key me) r.place) r.actions
   pub met : HasMet r
 
 -- the pass is that of this peer alone, with its list
-pub record IsThere (key : Key) (me : ℕ) (routes : List Route) (r : Runner) (pass : Held) (end : Engine) : Type 0 where
-  pub stands : Stands key me routes r end
+pub record IsThere (key : RunSetup) (me : ℕ) (routes : List Route) (r : Runner) (pass : PassView) (end : Engine) : Type 0 where
+  pub refines : RunnerRefines key me routes r end
   pub from : pass.from ≡ me
   pub lists : pass.lists ≡ r.actions ∷ []
 
@@ -390,7 +390,7 @@ pub record IsAutoPeer (auto_peer : AutoPeer) (r : Runner) : Type 0 where
   pub met : auto_peer.met ≡ r.met
 
 -- a turn is to come that is no look and meets no number, for which this was chosen, with which the round went on
-pub record Turns (key : Key) (me : ℕ) (routes : List Route) (r : Runner) (choice : Option Choice) (pass : Held) (auto_peer : AutoPeer) : Type 0 where
+pub record Turns (key : RunSetup) (me : ℕ) (routes : List Route) (r : Runner) (choice : Option Choice) (pass : PassView) (auto_peer : AutoPeer) : Type 0 where
   pub there : IsThere key me routes r pass auto_peer.end
   pub is : IsAutoPeer auto_peer (record r { auto = round_on r.auto (chosen r) })
   pub matches : Matches choice auto_peer.auto.frames (chosen r)

@@ -1,43 +1,43 @@
 -- What the rule says between any two accesses: of all peers, of each honest link peer whatever the other one stores, and of two honest ones. A part is stated
--- over the key, the words, the lists of deeds and one of the two link peers, p; the other one is 1 - p.
+-- over the key, the words, the lists of memory operations and one of the two link peers, p; the other one is 1 - p.
 use Rattle.std.specs.Prelude.{ℕ, suc, ◌≡◌, ◌≢◌, ◌+◌, ◌-◌, ◌/◌, ◌%◌, ◌^◌, ◌<◌, ◌≤◌, ◌⊎◌, true, false, Option, Some, None, List, [], ◌∷◌, ◌++◌, length, slice_index, set, Contains}
 use Rattle.atomic_table.specs.Table.{State}
 use Rattle.section_map.specs.Geometry.{section_start, word_count}
 use Rattle.section_map.specs.MayWrite.{InSection}
-use Rattle.split_ring.specs.Layout.{Sizes, has_events, size_of, limit_of, word_place, Address, Entry}
-use Rattle.split_ring.specs.Frames.{start_of, takes_of, AreApart}
+use Rattle.split_ring.specs.Layout.{Sizes, has_events, size_of, limit_of, word_offset, DescAddress, AvailEntry}
+use Rattle.split_ring.specs.Frames.{start_of, footprint_of, AreApart}
 use Rattle.split_ring.specs.Ranges.{IsAvailEntry, IsDescAddress, IsDescLength}
 use Rattle.split_ring.specs.Spelling.{address_at, id_at, Spells}
 use Rattle.link_handshake.specs.declared.Phase.TheVariants.{Reset, Init, Ready, Run}
 use Rattle.link_handshake.specs.declared.Phase.{Phase}
 use Rattle.call_grammar.specs.Words.{words_for, lengths_of}
 use Rattle.call_grammar.specs.Ends.{End}
-use Rattle.call_grammar.specs.Offers.{Job}
-use Rattle.call_grammar.specs.Places.{Place, Clearing, Setting, Refusing, AtUsedIndex, AtUsedId, Filling, WritingLow, WritingHigh, WritingLength, WritingFlags, WritingEntry, WritingIndex, AtEntry, AtLow, AtHigh, AtLength, AtFlags, AtWord, GivingId, GivingLength, GivingIndex}
-use Rattle.ends_pair.specs.Ground.{first_words}
-use Rattle.ends_pair.specs.Alone.{frame_at}
-use Rattle.ends_pair.specs.Pair.{freed_at, Attends, OpensNone, EitherAttends}
+use Rattle.call_grammar.specs.Offers.{PendingOffer}
+use Rattle.call_grammar.specs.Places.{Place, Clearing, WritingState, Refusing, ReadingUsedIndex, ReadingUsedId, WritingFrameWord, WritingDescAddressLow, WritingDescAddressHigh, WritingDescLength, WritingDescFlags, WritingAvailEntry, WritingAvailIndex, ReadingAvailEntry, ReadingDescAddressLow, ReadingDescAddressHigh, ReadingDescLength, ReadingDescFlags, ReadingFrameWord, WritingUsedId, WritingUsedLength, WritingUsedIndex}
+use Rattle.link_invariant.specs.LinkConfig.{first_words}
+use Rattle.link_invariant.specs.EndInvariant.{frame_at}
+use Rattle.link_invariant.specs.Pair.{freed_at, IsAttached, OpensNone, EitherIsAttached}
 use Rattle.pair_sessions.specs.Numbers.{Numbers, WordIs, IsPaired}
-use Rattle.peer_runner.specs.declared.key.Key.{Key}
+use Rattle.peer_runner.specs.declared.run_setup.RunSetup.{RunSetup}
 use Rattle.peer_runner.specs.declared.view.View.{View}
-use Rattle.peer_runner.specs.Keys.{honest_of}
-use Rattle.peer_runner.specs.Standings.{At, Taken, Deed, called, standing, IsNext}
-use Rattle.peer_runner.specs.Made.{IsOwned, Made}
+use Rattle.peer_runner.specs.RunSetups.{honest_of}
+use Rattle.peer_runner.specs.DerivedStates.{At, CallAccess, MemoryOp, called, derived_state, IsNext}
+use Rattle.peer_runner.specs.SharedMemory.{IsOwned, Made}
 use Rattle.peer_runner.specs.Happened.{Happened}
 use Rattle.peer_runner.specs.Actions.{Action}
 use Rattle.peer_runner.specs.Interrupts.{Interrupts, Doorbells}
-use Rattle.peer_runner.specs.Rules.{region, session_words, accesses_by, Memory, Kept}
+use Rattle.peer_runner.specs.Rules.{region, session_words, accesses_by, Memory, TableInvariant}
 use Rattle.peer_runner.specs.ListSays.{last_written, last_state, has_written, call_writes}
 
 -- The end and the place in which its list leaves a peer, and how many frames it has freed: one more with each id that it read
 
-abbrev pub end_by : Key → (ℕ → List (Deed Taken)) → ℕ → End
-end_by key acc p = (standing key p (acc p)).end
+abbrev pub end_by : RunSetup → (ℕ → List (MemoryOp CallAccess)) → ℕ → End
+end_by key acc p = (derived_state key p (acc p)).end
 
-abbrev pub place_by : Key → (ℕ → List (Deed Taken)) → ℕ → Place
-place_by key acc p = (standing key p (acc p)).place
+abbrev pub place_by : RunSetup → (ℕ → List (MemoryOp CallAccess)) → ℕ → Place
+place_by key acc p = (derived_state key p (acc p)).place
 
-abbrev pub freed_by : Key → (ℕ → List (Deed Taken)) → ℕ → ℕ
+abbrev pub freed_by : RunSetup → (ℕ → List (MemoryOp CallAccess)) → ℕ → ℕ
 freed_by key acc p = freed_at (end_by key acc p).freed (place_by key acc p)
 
 -- a session is open
@@ -45,70 +45,70 @@ abbrev pub InSession : Phase → Type 0
 InSession phase = (phase ≡ Ready) ⊎ (phase ≡ Run)
 
 -- the words of its section, counted from its first one
-abbrev pub section_words : Key → (ℕ → ℕ) → ℕ → ℕ → ℕ
+abbrev pub section_words : RunSetup → (ℕ → ℕ) → ℕ → ℕ → ℕ
 section_words key memory p w = memory (section_start key.geometry p + w)
 
 -- Where a part holds: in each state of the table that the rule keeps, of each honest link peer; where both are honest, of each of the two; and there as soon
 -- as either attends to the other's session, in RUN or about to set it
 
-abbrev pub OfEachHonest : (Key → (ℕ → ℕ) → (ℕ → List (Deed Taken)) → ℕ → Type 0) → Type 0
-OfEachHonest Part = (key : Key) (s : State ℕ View) (kept : Kept key s) (p : ℕ) → honest_of key p ≡ true → Part key (region key s.words) (accesses_by kept.acc) p
+abbrev pub OfEachHonest : (RunSetup → (ℕ → ℕ) → (ℕ → List (MemoryOp CallAccess)) → ℕ → Type 0) → Type 0
+OfEachHonest Part = (key : RunSetup) (s : State ℕ View) (kept : TableInvariant key s) (p : ℕ) → honest_of key p ≡ true → Part key (region key s.words) (accesses_by kept.acc) p
 
-abbrev pub OfTwoHonest : (Key → (ℕ → ℕ) → (ℕ → List (Deed Taken)) → ℕ → Type 0) → Type 0
-OfTwoHonest Part = (key : Key) (s : State ℕ View) (kept : Kept key s) (p : ℕ) → honest_of key 0 ≡ true → honest_of key 1 ≡ true → p < 2 →
+abbrev pub OfTwoHonest : (RunSetup → (ℕ → ℕ) → (ℕ → List (MemoryOp CallAccess)) → ℕ → Type 0) → Type 0
+OfTwoHonest Part = (key : RunSetup) (s : State ℕ View) (kept : TableInvariant key s) (p : ℕ) → honest_of key 0 ≡ true → honest_of key 1 ≡ true → p < 2 →
     Part key (region key s.words) (accesses_by kept.acc) p
 
-abbrev pub WhereEitherAttends : (Key → (ℕ → ℕ) → (ℕ → List (Deed Taken)) → ℕ → Type 0) → Key → (ℕ → ℕ) → (ℕ → List (Deed Taken)) → ℕ → Type 0
-WhereEitherAttends Part key memory acc p = EitherAttends (end_by key acc) (place_by key acc) p → Part key memory acc p
+abbrev pub WhereEitherAttends : (RunSetup → (ℕ → ℕ) → (ℕ → List (MemoryOp CallAccess)) → ℕ → Type 0) → RunSetup → (ℕ → ℕ) → (ℕ → List (MemoryOp CallAccess)) → ℕ → Type 0
+WhereEitherAttends Part key memory acc p = EitherIsAttached (end_by key acc) (place_by key acc) p → Part key memory acc p
 
 -- Of all peers
 
--- the words of the region and of the sessions are what the deeds of the lists, one after another in some order, made of them
+-- the words of the region and of the sessions are what the memory operations of the lists, one after another in some order, made of them
 abbrev pub WordsAreMade : Type 0
-WordsAreMade = (key : Key) (s : State ℕ View) (kept : Kept key s) → Made key (region key s.words) (session_words key s.words) (accesses_by kept.acc)
+WordsAreMade = (key : RunSetup) (s : State ℕ View) (kept : TableInvariant key s) → Made key (region key s.words) (session_words key s.words) (accesses_by kept.acc)
 
 -- all words, those for interrupts too, are what the actions of the lists, one after another in some order, made of those at the start
 abbrev pub AllWordsAreMade : Type 0
-AllWordsAreMade = (key : Key) (s : State ℕ View) (kept : Kept key s) → Happened key (λ w. slice_index s.words w) kept.acc
+AllWordsAreMade = (key : RunSetup) (s : State ℕ View) (kept : TableInvariant key s) → Happened key (λ w. slice_index s.words w) kept.acc
 
 -- each store in a list is to a word that its peer may write
 abbrev pub StoresAreOwned : Type 0
-StoresAreOwned = (key : Key) (s : State ℕ View) (kept : Kept key s) (p : ℕ) (t : Taken) → Contains (accesses_by kept.acc p) (called t) → IsOwned key p t.access
+StoresAreOwned = (key : RunSetup) (s : State ℕ View) (kept : TableInvariant key s) (p : ℕ) (t : CallAccess) → Contains (accesses_by kept.acc p) (called t) → IsOwned key p t.access
 
 -- Of each peer and each bit: no more looks found it than rings set it, and one ring fewer where it is set now. Of each peer's Interrupt Control: its bit and
 -- the clears that found it set are as many as before any action. And at a one-shot peer each ring stands behind such a clear of the same list
 abbrev pub InterruptsAreRung : Type 0
-InterruptsAreRung = (key : Key) (s : State ℕ View) (kept : Kept key s) → Interrupts key (λ w. slice_index s.words w) kept.acc
+InterruptsAreRung = (key : RunSetup) (s : State ℕ View) (kept : TableInvariant key s) → Interrupts key (λ w. slice_index s.words w) kept.acc
 
 -- where a bit was rung it is set until its target finds it, and Interrupt Control that was cleared stays so
 abbrev pub DoorbellsStand : Type 0
-DoorbellsStand = (key : Key) (s : State ℕ View) (kept : Kept key s) → Doorbells key (λ w. slice_index s.words w) kept.acc
+DoorbellsStand = (key : RunSetup) (s : State ℕ View) (kept : TableInvariant key s) → Doorbells key (λ w. slice_index s.words w) kept.acc
 
 -- Of each honest link peer
 
 -- each access in its list is the next one of its calls, where the accesses before it had left the peer
-pub record AccessesAreCalls (key : Key) (memory : ℕ → ℕ) (acc : ℕ → List (Deed Taken)) (p : ℕ) : Type 0 where
-  pub next : (front back : List (Deed Taken)) (t : Taken) → acc p ≡ front ++ called t ∷ back → IsNext key p (standing key p front) t.begins t.access
+pub record AccessesAreCalls (key : RunSetup) (memory : ℕ → ℕ) (acc : ℕ → List (MemoryOp CallAccess)) (p : ℕ) : Type 0 where
+  pub next : (front back : List (MemoryOp CallAccess)) (t : CallAccess) → acc p ≡ front ++ called t ∷ back → IsNext key p (derived_state key p front) t.begins t.access
 
 -- each word of its section, and its state word, is what its list wrote last, or 0; a reset writes 0 in its state word
-pub record WordsAreWritten (key : Key) (memory : ℕ → ℕ) (acc : ℕ → List (Deed Taken)) (p : ℕ) : Type 0 where
+pub record WordsAreWritten (key : RunSetup) (memory : ℕ → ℕ) (acc : ℕ → List (MemoryOp CallAccess)) (p : ℕ) : Type 0 where
   pub section : (w : ℕ) → InSection key.geometry p w → memory w ≡ last_written (acc p) w
   pub state : memory p ≡ last_state (acc p)
 
 -- In RESET it wrote no word after its last write of State, or its last reset. While a tick clears its section it is in INIT, and the words that were cleared, from the first on,
 -- are 0; as the tick is about to set READY, all of them are. In READY the section is 0, and nothing is listed or counted
-pub record PhasesShow (key : Key) (memory : ℕ → ℕ) (acc : ℕ → List (Deed Taken)) (p : ℕ) : Type 0 where
+pub record PhasesShow (key : RunSetup) (memory : ℕ → ℕ) (acc : ℕ → List (MemoryOp CallAccess)) (p : ℕ) : Type 0 where
   pub reset : (end_by key acc p).handshake.phase ≡ Reset → has_written (acc p) ≡ false
   pub clears : (at more state : ℕ) → place_by key acc p ≡ Clearing at more state → ((end_by key acc p).handshake.phase ≡ Init) ×
       ((cleared : ℕ) × (at ≡ section_start key.geometry p + cleared) × ((j : ℕ) → j < cleared → section_words key memory p j ≡ 0))
-  pub cleared : place_by key acc p ≡ Setting 2 →
+  pub cleared : place_by key acc p ≡ WritingState 2 →
       ((end_by key acc p).handshake.phase ≡ Init) × ((j : ℕ) → j < key.geometry.out → section_words key memory p j ≡ 0)
   pub ready : (end_by key acc p).handshake.phase ≡ Ready → (j : ℕ) → j < key.geometry.out → section_words key memory p j ≡ 0
   pub empty : (end_by key acc p).handshake.phase ≡ Ready →
       ((end_by key acc p).accepted ≡ []) × ((end_by key acc p).freed ≡ 0) × ((end_by key acc p).delivered ≡ []) × ((end_by key acc p).returned ≡ 0)
 
 -- no more frames are in flight than may be; and in a session each of them is spelled, in the descriptor of its number and from the byte at which it starts
-pub record FlightIsSpelled (key : Key) (memory : ℕ → ℕ) (acc : ℕ → List (Deed Taken)) (p : ℕ) : Type 0 where
+pub record FlightIsSpelled (key : RunSetup) (memory : ℕ → ℕ) (acc : ℕ → List (MemoryOp CallAccess)) (p : ℕ) : Type 0 where
   pub least : freed_by key acc p ≤ length (end_by key acc p).accepted
   pub most : length (end_by key acc p).accepted ≤ freed_by key acc p + limit_of key.queue
   pub spelled : (k : ℕ) → InSession (end_by key acc p).handshake.phase → freed_by key acc p ≤ k → k < length (end_by key acc p).accepted →
@@ -117,16 +117,16 @@ pub record FlightIsSpelled (key : Key) (memory : ℕ → ℕ) (acc : ℕ → Lis
       address_at key.queue (section_words key memory p) (k % limit_of key.queue) ≡ start_of key.queue (lengths_of (end_by key acc p).accepted) k
 
 -- an offer is open whose frame isn't accepted yet
-abbrev pub offered_at : Place → Option Job
-offered_at (AtUsedIndex job freed) = Some job
-offered_at (AtUsedId job freed more) = Some job
-offered_at (Filling job at more) = Some job
-offered_at (WritingLow job) = Some job
-offered_at (WritingHigh job) = Some job
-offered_at (WritingLength job) = Some job
-offered_at (WritingFlags job) = Some job
-offered_at (WritingEntry job) = Some job
-offered_at (WritingIndex job) = Some job
+abbrev pub offered_at : Place → Option PendingOffer
+offered_at (ReadingUsedIndex pending freed) = Some pending
+offered_at (ReadingUsedId pending freed more) = Some pending
+offered_at (WritingFrameWord pending at more) = Some pending
+offered_at (WritingDescAddressLow pending) = Some pending
+offered_at (WritingDescAddressHigh pending) = Some pending
+offered_at (WritingDescLength pending) = Some pending
+offered_at (WritingDescFlags pending) = Some pending
+offered_at (WritingAvailEntry pending) = Some pending
+offered_at (WritingAvailIndex pending) = Some pending
 offered_at place = None
 
 -- the word is one of so many from this one on
@@ -134,25 +134,25 @@ abbrev pub IsAmong : (first count : ℕ) → ℕ → Type 0
 IsAmong first count w = (first ≤ w) × (w < first + count)
 
 -- the word is one of those that the job's frame takes, of the descriptor of its number or of its entry
-abbrev pub IsOfFrame : Key → ℕ → Job → ℕ → Type 0
-IsOfFrame key p job w =
-    IsAmong (section_start key.geometry p + start_of key.queue job.lengths job.number / 4) (takes_of key.queue (length job.frame) / 4) w ⊎
-    (IsAmong (section_start key.geometry p + word_place key.queue (Address (job.number % limit_of key.queue))) 4 w ⊎
-    (w ≡ section_start key.geometry p + word_place key.queue (Entry (job.number % size_of key.queue))))
+abbrev pub IsOfFrame : RunSetup → ℕ → PendingOffer → ℕ → Type 0
+IsOfFrame key p pending w =
+    IsAmong (section_start key.geometry p + start_of key.queue pending.lengths pending.number / 4) (footprint_of key.queue (length pending.frame) / 4) w ⊎
+    (IsAmong (section_start key.geometry p + word_offset key.queue (DescAddress (pending.number % limit_of key.queue))) 4 w ⊎
+    (w ≡ section_start key.geometry p + word_offset key.queue (AvailEntry (pending.number % size_of key.queue))))
 
 -- An open offer is of the frame after those accepted. It has stored in the bytes that this frame takes, in the descriptor and in the entry of its number alone;
 -- and as soon as it has stored anything, no frame in flight has that descriptor or any of those bytes
-pub record OfferStores (key : Key) (acc : ℕ → List (Deed Taken)) (p : ℕ) (job : Job) : Type 0 where
-  pub number : job.number ≡ length (end_by key acc p).accepted
-  pub lengths : job.lengths ≡ lengths_of ((end_by key acc p).accepted ++ job.frame ∷ [])
-  pub stores : (w : ℕ) → Contains (call_writes (acc p)) w → IsOfFrame key p job w
+pub record OfferStores (key : RunSetup) (acc : ℕ → List (MemoryOp CallAccess)) (p : ℕ) (pending : PendingOffer) : Type 0 where
+  pub number : pending.number ≡ length (end_by key acc p).accepted
+  pub lengths : pending.lengths ≡ lengths_of ((end_by key acc p).accepted ++ pending.frame ∷ [])
+  pub stores : (w : ℕ) → Contains (call_writes (acc p)) w → IsOfFrame key p pending w
   pub free : (k : ℕ) → call_writes (acc p) ≢ [] → freed_by key acc p ≤ k → k < length (end_by key acc p).accepted →
-      k % limit_of key.queue ≢ job.number % limit_of key.queue
+      k % limit_of key.queue ≢ pending.number % limit_of key.queue
   pub apart : (k : ℕ) → call_writes (acc p) ≢ [] → freed_by key acc p ≤ k → k < length (end_by key acc p).accepted →
-      AreApart (start_of key.queue job.lengths k) (takes_of key.queue (job.lengths k)) (start_of key.queue job.lengths job.number) (takes_of key.queue (length job.frame))
+      AreApart (start_of key.queue pending.lengths k) (footprint_of key.queue (pending.lengths k)) (start_of key.queue pending.lengths pending.number) (footprint_of key.queue (length pending.frame))
 
-abbrev pub OpenOfferStores : Key → (ℕ → ℕ) → (ℕ → List (Deed Taken)) → ℕ → Type 0
-OpenOfferStores key memory acc p = (job : Job) → offered_at (place_by key acc p) ≡ Some job → OfferStores key acc p job
+abbrev pub OpenOfferStores : RunSetup → (ℕ → ℕ) → (ℕ → List (MemoryOp CallAccess)) → ℕ → Type 0
+OpenOfferStores key memory acc p = (pending : PendingOffer) → offered_at (place_by key acc p) ≡ Some pending → OfferStores key acc p pending
 
 -- the index that an open poll has read stands for so many frames: at most as many more than were delivered as the queue has places
 abbrev pub IsPublished : Sizes → End → ℕ → Type 0
@@ -161,63 +161,63 @@ IsPublished q end count = (length end.delivered ≤ count) × (count ≤ length 
 -- What an open call holds of what it has read is within its ranges: the used index, as how many frames are freed once the ids left are read; and of a poll the
 -- available index, the entry, the address, the length, and a part of so many words
 abbrev pub IsInRange : Sizes → End → Place → Type 0
-IsInRange q end (AtUsedId job freed more) = freed + suc more ≤ length end.accepted
-IsInRange q end (AtEntry number more) = IsPublished q end (number + suc more)
-IsInRange q end (AtLow number more entry) = IsPublished q end (number + suc more) × IsAvailEntry q entry
-IsInRange q end (AtHigh number more entry low) = IsPublished q end (number + suc more) × IsAvailEntry q entry
-IsInRange q end (AtLength number more entry address) = IsPublished q end (number + suc more) × IsAvailEntry q entry × IsDescAddress q address
-IsInRange q end (AtFlags number more entry address bytes) =
+IsInRange q end (ReadingUsedId pending freed more) = freed + suc more ≤ length end.accepted
+IsInRange q end (ReadingAvailEntry number more) = IsPublished q end (number + suc more)
+IsInRange q end (ReadingDescAddressLow number more entry) = IsPublished q end (number + suc more) × IsAvailEntry q entry
+IsInRange q end (ReadingDescAddressHigh number more entry low) = IsPublished q end (number + suc more) × IsAvailEntry q entry
+IsInRange q end (ReadingDescLength number more entry address) = IsPublished q end (number + suc more) × IsAvailEntry q entry × IsDescAddress q address
+IsInRange q end (ReadingDescFlags number more entry address bytes) =
     IsPublished q end (number + suc more) × IsAvailEntry q entry × IsDescAddress q address × IsDescLength q address bytes
-IsInRange q end (AtWord number more entry address bytes read words) =
+IsInRange q end (ReadingFrameWord number more entry address bytes read words) =
     IsPublished q end (number + suc more) × IsAvailEntry q entry × IsDescAddress q address × IsDescLength q address bytes × (length read < words_for bytes)
-IsInRange q end (GivingId number more entry) = IsPublished q end (number + suc more) × IsAvailEntry q entry
-IsInRange q end (GivingLength number more) = IsPublished q end (number + suc more)
-IsInRange q end (GivingIndex number more) = IsPublished q end (number + suc more)
+IsInRange q end (WritingUsedId number more entry) = IsPublished q end (number + suc more) × IsAvailEntry q entry
+IsInRange q end (WritingUsedLength number more) = IsPublished q end (number + suc more)
+IsInRange q end (WritingUsedIndex number more) = IsPublished q end (number + suc more)
 IsInRange q end place = Unit {0}
 
-abbrev pub HeldIsInRange : Key → (ℕ → ℕ) → (ℕ → List (Deed Taken)) → ℕ → Type 0
-HeldIsInRange key memory acc p = IsInRange key.queue (end_by key acc p) (place_by key acc p)
+abbrev pub ReadValuesAreInRange : RunSetup → (ℕ → ℕ) → (ℕ → List (MemoryOp CallAccess)) → ℕ → Type 0
+ReadValuesAreInRange key memory acc p = IsInRange key.queue (end_by key acc p) (place_by key acc p)
 
 -- its sessions by their numbers
-abbrev pub numbers_by : Key → (ℕ → List (Deed Taken)) → ℕ → Numbers
-numbers_by key acc p = (standing key p (acc p)).numbers
+abbrev pub numbers_by : RunSetup → (ℕ → List (MemoryOp CallAccess)) → ℕ → Numbers
+numbers_by key acc p = (derived_state key p (acc p)).numbers
 
 -- Its session word is the number of sessions that it opened, or one more, which it stored since, and then it is in RESET or INIT; so in READY and RUN it is the
 -- number opened
-pub record SessionWordIs (key : Key) (words : ℕ → ℕ) (acc : ℕ → List (Deed Taken)) (p : ℕ) : Type 0 where
+pub record SessionWordIs (key : RunSetup) (words : ℕ → ℕ) (acc : ℕ → List (MemoryOp CallAccess)) (p : ℕ) : Type 0 where
   pub word : WordIs (end_by key acc p) (numbers_by key acc p) (words p)
   pub opened : InSession (end_by key acc p).handshake.phase → words p ≡ (numbers_by key acc p).log.opened
 
 abbrev pub SessionWordsAreNumbers : Type 0
-SessionWordsAreNumbers = (key : Key) (s : State ℕ View) (kept : Kept key s) (p : ℕ) → honest_of key p ≡ true →
+SessionWordsAreNumbers = (key : RunSetup) (s : State ℕ View) (kept : TableInvariant key s) (p : ℕ) → honest_of key p ≡ true →
     SessionWordIs key (session_words key s.words) (accesses_by kept.acc) p
 
 -- the session word of a hostile link peer stays 0
 abbrev pub HostileSessionsAreNone : Type 0
-HostileSessionsAreNone = (key : Key) (s : State ℕ View) (kept : Kept key s) (p : ℕ) → p < 2 → honest_of key p ≡ false → session_words key s.words p ≡ 0
+HostileSessionsAreNone = (key : RunSetup) (s : State ℕ View) (kept : TableInvariant key s) (p : ℕ) → p < 2 → honest_of key p ≡ false → session_words key s.words p ≡ 0
 
 -- Of two honest link peers
 
 -- The sessions of each that reached RUN carry numbers of the other's sessions, which rise; while it is in RUN the number is that of the session which the other
 -- opened last; each delivered a beginning of what was accepted in the session that it carries; and before it attends again the other has opened a later one
 abbrev pub SessionsArePaired : Type 0
-SessionsArePaired = (key : Key) (s : State ℕ View) (kept : Kept key s) (p : ℕ) → honest_of key 0 ≡ true → honest_of key 1 ≡ true → p < 2 →
+SessionsArePaired = (key : RunSetup) (s : State ℕ View) (kept : TableInvariant key s) (p : ℕ) → honest_of key 0 ≡ true → honest_of key 1 ≡ true → p < 2 →
     IsPaired (end_by key (accesses_by kept.acc) p) (end_by key (accesses_by kept.acc) (1 - p)) (place_by key (accesses_by kept.acc) p)
     (place_by key (accesses_by kept.acc) (1 - p)) (numbers_by key (accesses_by kept.acc) p) (numbers_by key (accesses_by kept.acc) (1 - p))
     (session_words key s.words p)
 
 -- neither is at a refusal or bears its mark
-pub record NeverRefuses (key : Key) (memory : ℕ → ℕ) (acc : ℕ → List (Deed Taken)) (p : ℕ) : Type 0 where
+pub record NeverRefuses (key : RunSetup) (memory : ℕ → ℕ) (acc : ℕ → List (MemoryOp CallAccess)) (p : ℕ) : Type 0 where
   pub place : place_by key acc p ≢ Refusing
   pub mark : (end_by key acc p).handshake.mark ≡ false
 
 -- while one attends to the other's session, in RUN or about to set it, the other isn't in INIT, nor about to set it
-abbrev pub OtherOpensNone : Key → (ℕ → ℕ) → (ℕ → List (Deed Taken)) → ℕ → Type 0
-OtherOpensNone key memory acc p = Attends (end_by key acc p) (place_by key acc p) → OpensNone (end_by key acc (1 - p)) (place_by key acc (1 - p))
+abbrev pub OtherOpensNone : RunSetup → (ℕ → ℕ) → (ℕ → List (MemoryOp CallAccess)) → ℕ → Type 0
+OtherOpensNone key memory acc p = IsAttached (end_by key acc p) (place_by key acc p) → OpensNone (end_by key acc (1 - p)) (place_by key acc (1 - p))
 
 -- No fewer frames are returned than freed, delivered than returned and accepted than delivered, and no more are in flight than may be; the frames delivered are
 -- the first ones accepted; each frame from those freed on is spelled; and the used elements from those freed to those returned name the descriptors in order
-pub record PairKeeps (key : Key) (memory : ℕ → ℕ) (acc : ℕ → List (Deed Taken)) (p : ℕ) : Type 0 where
+pub record PairKeeps (key : RunSetup) (memory : ℕ → ℕ) (acc : ℕ → List (MemoryOp CallAccess)) (p : ℕ) : Type 0 where
   pub returned : freed_by key acc p ≤ (end_by key acc (1 - p)).returned
   pub delivered : (end_by key acc (1 - p)).returned ≤ length (end_by key acc (1 - p)).delivered
   pub accepted : length (end_by key acc (1 - p)).delivered ≤ length (end_by key acc p).accepted
@@ -229,40 +229,40 @@ pub record PairKeeps (key : Key) (memory : ℕ → ℕ) (acc : ℕ → List (Dee
       id_at key.queue (section_words key memory (1 - p)) k ≡ k % limit_of key.queue
 
 -- In a link with events: where one asks for a doorbell at a frame, the other's offer of that frame, once it has read the event, goes on to the doorbell
-abbrev pub AskedIsRung : Key → (ℕ → ℕ) → (ℕ → List (Deed Taken)) → ℕ → Type 0
-AskedIsRung key memory acc p = has_events key.queue ≡ true → (number : ℕ) → (standing key p (acc p)).wake.asked ≡ At number →
-    ¬ Contains (standing key (1 - p) (acc (1 - p))).wake.missed number
+abbrev pub AskedIsRung : RunSetup → (ℕ → ℕ) → (ℕ → List (MemoryOp CallAccess)) → ℕ → Type 0
+AskedIsRung key memory acc p = has_events key.queue ≡ true → (number : ℕ) → (derived_state key p (acc p)).wake.asked ≡ At number →
+    ¬ Contains (derived_state key (1 - p) (acc (1 - p))).wake.missed number
 
 -- What an open call holds of what it has read is what the other has written: the used index stands for frames that were returned; and the available index for
 -- frames that were accepted, and the entry, the address, the length and the words are those of the frame with this number
 abbrev pub IsAsSent : Sizes → (accepted : List (List ℕ)) (returned : ℕ) → Place → Type 0
-IsAsSent q accepted returned (AtUsedId job freed more) = freed + suc more ≤ returned
-IsAsSent q accepted returned (AtEntry number more) = number + suc more ≤ length accepted
-IsAsSent q accepted returned (AtLow number more entry) = (number + suc more ≤ length accepted) × (entry ≡ number % limit_of q)
-IsAsSent q accepted returned (AtHigh number more entry low) =
+IsAsSent q accepted returned (ReadingUsedId pending freed more) = freed + suc more ≤ returned
+IsAsSent q accepted returned (ReadingAvailEntry number more) = number + suc more ≤ length accepted
+IsAsSent q accepted returned (ReadingDescAddressLow number more entry) = (number + suc more ≤ length accepted) × (entry ≡ number % limit_of q)
+IsAsSent q accepted returned (ReadingDescAddressHigh number more entry low) =
     (number + suc more ≤ length accepted) × (entry ≡ number % limit_of q) × (low ≡ start_of q (lengths_of accepted) number)
-IsAsSent q accepted returned (AtLength number more entry address) =
+IsAsSent q accepted returned (ReadingDescLength number more entry address) =
     (number + suc more ≤ length accepted) × (entry ≡ number % limit_of q) × (address ≡ start_of q (lengths_of accepted) number)
-IsAsSent q accepted returned (AtFlags number more entry address bytes) =
+IsAsSent q accepted returned (ReadingDescFlags number more entry address bytes) =
     (number + suc more ≤ length accepted) × (entry ≡ number % limit_of q) × (address ≡ start_of q (lengths_of accepted) number) ×
     (bytes ≡ length (frame_at accepted number))
-IsAsSent q accepted returned (AtWord number more entry address bytes read words) =
+IsAsSent q accepted returned (ReadingFrameWord number more entry address bytes read words) =
     (number + suc more ≤ length accepted) × (entry ≡ number % limit_of q) × (address ≡ start_of q (lengths_of accepted) number) ×
     (bytes ≡ length (frame_at accepted number)) × (read ≡ first_words (frame_at accepted number) (length read))
-IsAsSent q accepted returned (GivingId number more entry) = (number + suc more ≤ length accepted) × (entry ≡ number % limit_of q)
-IsAsSent q accepted returned (GivingLength number more) = number + suc more ≤ length accepted
-IsAsSent q accepted returned (GivingIndex number more) = number + suc more ≤ length accepted
+IsAsSent q accepted returned (WritingUsedId number more entry) = (number + suc more ≤ length accepted) × (entry ≡ number % limit_of q)
+IsAsSent q accepted returned (WritingUsedLength number more) = number + suc more ≤ length accepted
+IsAsSent q accepted returned (WritingUsedIndex number more) = number + suc more ≤ length accepted
 IsAsSent q accepted returned place = Unit {0}
 
-abbrev pub HeldIsAsSent : Key → (ℕ → ℕ) → (ℕ → List (Deed Taken)) → ℕ → Type 0
-HeldIsAsSent key memory acc p = IsAsSent key.queue (end_by key acc (1 - p)).accepted (end_by key acc (1 - p)).returned (place_by key acc p)
+abbrev pub ReadValuesAreAsSent : RunSetup → (ℕ → ℕ) → (ℕ → List (MemoryOp CallAccess)) → ℕ → Type 0
+ReadValuesAreAsSent key memory acc p = IsAsSent key.queue (end_by key acc (1 - p)).accepted (end_by key acc (1 - p)).returned (place_by key acc p)
 
 -- Beside a hostile link peer
 
 -- each word of the region is below 2^32; and whatever number below 2^32 a hostile peer stores in its section or in its state word, the rule is kept, with the lists of the
 -- others as they were
 pub record HostileWordsAreFree : Type 0 where
-  pub below : (key : Key) (s : State ℕ View) (kept : Kept key s) (w : ℕ) → w < word_count key.geometry → slice_index s.words w < 2 ^ 32
-  pub free : (key : Key) (s : State ℕ View) (kept : Kept key s) (p w n : ℕ) → p < key.geometry.peers → honest_of key p ≡ false →
+  pub below : (key : RunSetup) (s : State ℕ View) (kept : TableInvariant key s) (w : ℕ) → w < word_count key.geometry → slice_index s.words w < 2 ^ 32
+  pub free : (key : RunSetup) (s : State ℕ View) (kept : TableInvariant key s) (p w n : ℕ) → p < key.geometry.peers → honest_of key p ≡ false →
       InSection key.geometry p w ⊎ (w ≡ p) → n < 2 ^ 32 →
-      (acc : ℕ → List (Action (Deed Taken))) × Memory key (set s.words w n) acc × ((q : ℕ) → q ≢ p → acc q ≡ kept.acc q)
+      (acc : ℕ → List (Action (MemoryOp CallAccess))) × Memory key (set s.words w n) acc × ((q : ℕ) → q ≢ p → acc q ≡ kept.acc q)

@@ -5,7 +5,7 @@ use Rattle.std.specs.Prelude.{ℕ, zero, suc, ◌≡◌, ◌+◌, ◌-◌, ◌<�
 use Rattle.std.specs.List.{flat_map, list_any}
 use Rattle.split_ring.specs.Layout.{has_events}
 use Rattle.link_handshake.specs.PhaseTable.{phase_at, state_of}
-use Rattle.link_machine.specs.LinkMachine.{Side, fresh_side, Told, Wrote, WasReset, Log, no_sessions, log_after, DeliversInOrder}
+use Rattle.link_machine.specs.LinkMachine.{Side, initial_side, SideEvent, Wrote, WasReset, Log, no_sessions, log_after, DeliversInOrder}
 use Rattle.pair_sessions.specs.Numbers.{own_side}
 use Rattle.doorbell_irq.specs.DeviceRules.{is_one_shot, bytes_after}
 use Rattle.doorbell_irq.specs.Routes.{is_intx}
@@ -15,11 +15,11 @@ use Rattle.scenario_text.specs.Running.{has_turn}
 use Rattle.lawful_history.specs.declared.line.Line.{Line}
 use Rattle.lawful_history.specs.declared.line.Line.TheVariants as line
 use Rattle.record_text.specs.Parts.{Part, peers_of, running_peers}
-use Rattle.peer_runner.specs.Held.{Held}
-use Rattle.peer_runner.specs.Standings.{Asked, Nowhere, Asking, At, Stance}
+use Rattle.peer_runner.specs.PassView.{PassView}
+use Rattle.peer_runner.specs.DerivedStates.{DoorbellRequest, Nowhere, Asking, At, DerivedState}
 use Rattle.peer_runner.specs.Rules.{CarriesNone}
 use Rattle.peer_runner.specs.Passes.{actions_of}
-use Rattle.peer_runner.specs.Ways.{events_of}
+use Rattle.peer_runner.specs.DoorbellPaths.{events_of}
 use Rattle.peer_runner.specs.OwnRecord.{IsOwnRecord}
 
 -- the lines of a peer: none where it doesn't run
@@ -35,40 +35,40 @@ refuses _ = false
 
 -- What the lines of a peer tell of it: its state, the frames that it accepted and delivered in its present session, and the log of its sessions; where it asks
 -- for a doorbell, and the numbers of the frames of the session, from 0, for which it rang none; and whether its last line is a read
-pub record Telling : Type 0 where
+pub record RecordReader : Type 0 where
   pub state : ℕ
   pub accepted : List (List ℕ)
   pub delivered : List (List ℕ)
   pub log : Log
-  pub asked : Asked
+  pub asked : DoorbellRequest
   pub missed : List ℕ
   pub read : Bool
 
-abbrev pub untold : Telling
-untold = record { state = 0; accepted = []; delivered = []; log = no_sessions; asked = Nowhere; missed = []; read = false }
+abbrev pub initial_reader : RecordReader
+initial_reader = record { state = 0; accepted = []; delivered = []; log = no_sessions; asked = Nowhere; missed = []; read = false }
 
 -- the peer as a side of the link, by what its sessions depend on
-abbrev pub side_in : Telling → Side
-side_in t = record fresh_side { state = t.state; accepted = t.accepted; delivered = t.delivered }
+abbrev pub side_in : RecordReader → Side
+side_in t = record initial_side { state = t.state; accepted = t.accepted; delivered = t.delivered }
 
 -- its log after a State step or a reset. One with 3 is told with the number that it carries in the line behind it
-abbrev pub log_in : Telling → Told → Log
+abbrev pub log_in : RecordReader → SideEvent → Log
 log_in t told = log_after t.log no_sessions (side_in t) told
 
 -- a poll that looks and finds nothing writes its event and looks again; where it finds nothing then, it has asked for a doorbell at the next frame
-abbrev pub asked_now : (delivered : ℕ) → Asked → (count : ℕ) → Asked
+abbrev pub asked_now : (delivered : ℕ) → DoorbellRequest → (count : ℕ) → DoorbellRequest
 asked_now delivered Asking zero = At delivered
 asked_now delivered Asking (suc more) = Nowhere
 asked_now delivered was zero = Asking
 asked_now delivered was (suc more) = was
 
 -- a call that is over right after a read is an offer, of the frame accepted last: it read an event that doesn't ask for this frame, and rang no doorbell
-abbrev pub missed_now : Telling → List ℕ
+abbrev pub missed_now : RecordReader → List ℕ
 missed_now t = if t.read then t.missed ++ (length t.accepted - 1) ∷ [] else t.missed
 
 -- a value that is none of the four states is that of RESET, as the handshake takes it; and one of 2 opens a session
-abbrev pub state_told : Telling → ℕ → Telling
-state_told t value = record {
+abbrev pub reader_after_state : RecordReader → ℕ → RecordReader
+reader_after_state t value = record {
   state = state_of (phase_at value);
   accepted = if value == 2 then [] else t.accepted;
   delivered = if value == 2 then [] else t.delivered;
@@ -78,54 +78,54 @@ state_told t value = record {
   read = false;
 }
 
-abbrev pub reset_told : Telling → Telling
-reset_told t = record t { state = 0; log = log_in t WasReset; asked = Nowhere; read = false }
+abbrev pub reader_after_reset : RecordReader → RecordReader
+reader_after_reset t = record t { state = 0; log = log_in t WasReset; asked = Nowhere; read = false }
 
 abbrev pub with_carried : Log → ℕ → Log
 with_carried log other = record log { carried = other }
 
-abbrev pub tells : Telling → Line → Telling
-tells t (line.Read p word value) = record t { read = true }
-tells t (line.State p value) = state_told t value
-tells t (line.Reset p) = reset_told t
-tells t (line.Session p opened other) = record t { log = with_carried t.log other; read = false }
-tells t (line.Accept p frame) = record t { accepted = t.accepted ++ frame ∷ []; read = false }
-tells t (line.Deliver p frame) = record t { delivered = t.delivered ++ frame ∷ []; read = false }
-tells t (line.Look p count) = record t { asked = asked_now (length t.delivered) t.asked count; read = false }
-tells t (line.Over p) = record t { missed = missed_now t; read = false }
-tells t _ = record t { read = false }
+abbrev pub reader_after_line : RecordReader → Line → RecordReader
+reader_after_line t (line.Read p word value) = record t { read = true }
+reader_after_line t (line.State p value) = reader_after_state t value
+reader_after_line t (line.Reset p) = reader_after_reset t
+reader_after_line t (line.Session p opened other) = record t { log = with_carried t.log other; read = false }
+reader_after_line t (line.Accept p frame) = record t { accepted = t.accepted ++ frame ∷ []; read = false }
+reader_after_line t (line.Deliver p frame) = record t { delivered = t.delivered ++ frame ∷ []; read = false }
+reader_after_line t (line.Look p count) = record t { asked = asked_now (length t.delivered) t.asked count; read = false }
+reader_after_line t (line.Over p) = record t { missed = missed_now t; read = false }
+reader_after_line t _ = record t { read = false }
 
-unfoldable pub tells_all : Telling → List Line → Telling
-tells_all t [] = t
-tells_all t (line ∷ lines) = tells_all (tells t line) lines
+unfoldable pub reader_after_lines : RecordReader → List Line → RecordReader
+reader_after_lines t [] = t
+reader_after_lines t (line ∷ lines) = reader_after_lines (reader_after_line t line) lines
 
-abbrev pub telling_in : List Line → Telling
-telling_in lines = tells_all untold lines
+abbrev pub reader_of_lines : List Line → RecordReader
+reader_of_lines lines = reader_after_lines initial_reader lines
 
 -- the lines tell just this of where a peer stands
-pub record IsTold (s : Stance) (t : Telling) : Type 0 where
+pub record ReaderMatches (s : DerivedState) (t : RecordReader) : Type 0 where
   pub side : side_in t ≡ own_side s.end
   pub log : t.log ≡ s.numbers.log
   pub asked : t.asked ≡ s.wake.asked
   pub missed : t.missed ≡ s.wake.missed
 
-abbrev pub telling_of : List Part → ℕ → Telling
-telling_of parts p = telling_in (lines_by parts p)
+abbrev pub reader_of_part : List Part → ℕ → RecordReader
+reader_of_part parts p = reader_of_lines (lines_by parts p)
 
 -- Of two honest peers: the sessions of each that reached RUN carry sessions of the other's by their numbers, which rise; in each it delivered a beginning of what
 -- the other accepted in the session that it carries; and neither refused anything
 pub record ArePaired (parts : List Part) : Type 0 where
-  pub deliver : (p : ℕ) → p < 2 → DeliversInOrder (side_in (telling_of parts p)) (side_in (telling_of parts (1 - p))) (telling_of parts p).log
-      (telling_of parts (1 - p)).log
+  pub deliver : (p : ℕ) → p < 2 → DeliversInOrder (side_in (reader_of_part parts p)) (side_in (reader_of_part parts (1 - p))) (reader_of_part parts p).log
+      (reader_of_part parts (1 - p)).log
   pub never_refuse : (p : ℕ) → p < 2 → list_any refuses (lines_by parts p) ≡ false
 
 -- of an honest peer beside a hostile one: its sessions carry none of the other's
 abbrev pub CarryNone : World → List Part → Type 0
-CarryNone world parts = (p : ℕ) → p < 2 → is_link world p ≡ true → is_link world (1 - p) ≡ false → CarriesNone (telling_of parts p).log
+CarryNone world parts = (p : ℕ) → p < 2 → is_link world p ≡ true → is_link world (1 - p) ≡ false → CarriesNone (reader_of_part parts p).log
 
 -- where a peer that asked for a doorbell last asked at a frame, and wrote no event since, the other's offer of that frame didn't end without one
 abbrev pub AreWoken : List Part → Type 0
-AreWoken parts = (p number : ℕ) → p < 2 → (telling_of parts p).asked ≡ At number → ¬ Contains (telling_of parts (1 - p)).missed number
+AreWoken parts = (p number : ℕ) → p < 2 → (reader_of_part parts p).asked ≡ At number → ¬ Contains (reader_of_part parts (1 - p)).missed number
 
 -- Interrupts that came, and doorbells that may have brought them
 
@@ -152,17 +152,17 @@ bells_in intx p vector [] = 0
 bells_in intx p vector (part ∷ parts) = how_many (is_bell intx p vector) part.lines + bells_in intx p vector parts
 
 -- no interrupt is told that no doorbell brought, and a peer in one-shot mode tells one at most
-pub record AreHeard (world : World) (parts : List Part) : Type 0 where
+pub record InterruptsMatch (world : World) (parts : List Part) : Type 0 where
   pub rung : (p vector : ℕ) → p < world.geometry.peers → how_many (is_interrupt_by vector) (lines_by parts p) ≤ bells_in (is_intx world.wiring) p vector parts
   pub once : (p : ℕ) → p < world.geometry.peers → is_one_shot (bytes_after (devices_of world) (events_of world.acts) p) ≡ true →
       how_many is_interrupt (lines_by parts p) ≤ 1
 
 -- these parts are what a run of the scenario tells, in which the peers did to the words what the pass holds
-pub record IsRunOf (world : World) (h : Held) (parts : List Part) : Type 0 where
+pub record IsRunOf (world : World) (h : PassView) (parts : List Part) : Type 0 where
   pub peers : peers_of parts ≡ running_peers world
   pub own : All (λ (part : Part). IsOwnRecord world (actions_of h part.peer) part) parts
   pub idle : (p : ℕ) → has_turn world.acts p ≡ false → actions_of h p ≡ []
-  pub heard : AreHeard world parts
+  pub interrupt_lines : InterruptsMatch world parts
   pub paired : is_link world 0 ≡ true → is_link world 1 ≡ true → ArePaired parts
-  pub beside : CarryNone world parts
+  pub neighbour_word : CarryNone world parts
   pub woken : has_events world.queue ≡ true → is_link world 0 ≡ true → is_link world 1 ≡ true → AreWoken parts

@@ -7,18 +7,18 @@ use Rattle.split_ring.specs.declared.steps.Access.TheVariants as access
 use Rattle.call_grammar.specs.Steps.{Mark, Saw, Reclaim, Full, Look, Done, Over, Step}
 use Rattle.call_grammar.specs.Trees.{CallTree, Ended, Goes}
 use Rattle.call_grammar.specs.Ends.{End}
-use Rattle.call_grammar.specs.Calls.{Who}
+use Rattle.call_grammar.specs.Calls.{EndConfig}
 use Rattle.call_grammar.specs.Automatic.{Choice, IsFinished, is_empty, choice_of}
-use Rattle.link_endpoint.specs.Stands.{is_armed}
+use Rattle.link_endpoint.specs.Refinement.{is_armed}
 use Rattle.lawful_history.specs.declared.line.Line.{Line}
 use Rattle.lawful_history.specs.declared.line.Line.TheVariants as line
-use Rattle.lawful_history.specs.Entries.{access_lines, mark_line}
+use Rattle.lawful_history.specs.EventRecords.{access_lines, mark_line}
 use Rattle.lawful_history.specs.Peers.{Auto, Driver, Chooses, Storms, Peer, opened, stepped, was_reset}
 use Rattle.lawful_history.specs.Storm.{storm_after}
 use Rattle.doorbell_irq.specs.declared.route.Route.{Route}
-use Rattle.peer_runner.specs.Standings.{Touch, touch, Deed, called, numbered, carried, restarted}
+use Rattle.peer_runner.specs.DerivedStates.{ObservedAccess, touch, MemoryOp, called, numbered, carried, restarted}
 use Rattle.peer_runner.specs.Actions.{Action, accessed, looked, cleared}
-use Rattle.peer_runner.specs.Ways.{route_to, way_to, is_guarded, way_in, rung_by}
+use Rattle.peer_runner.specs.DoorbellPaths.{route_to, doorbell_path_to, is_guarded, doorbell_path_in, rung_by}
 
 -- A turn: a look, which finds this word; a step with all that it does, which is the first of its call or a later one; of the step of a doorbell at a peer in
 -- one-shot mode the clear, which finds this word, and the ring behind it; a store of the session word, and a load of the other's, which finds this number; the
@@ -72,31 +72,31 @@ later (turns ∷ spans) = spans
 -- Which turn is to come
 
 -- a step is the next one of the open call, else the first one of the call that the automatic peer chooses; or it is the step of the storm
-abbrev pub TakesStep : Who → (ℕ → Step) → Driver → Peer → Step → Peer → Type 0
-TakesStep who storm (Storms x) peer step after = (step ≡ storm x) × (after ≡ record peer { driver = Storms (storm_after x) })
-TakesStep who storm _ peer step after = (left : CallTree) × Goes (opened who peer).left step left × (after ≡ stepped (opened who peer) step left)
+abbrev pub TakesStep : EndConfig → (ℕ → Step) → Driver → Peer → Step → Peer → Type 0
+TakesStep config storm (Storms x) peer step after = (step ≡ storm x) × (after ≡ record peer { driver = Storms (storm_after x) })
+TakesStep config storm _ peer step after = (left : CallTree) × Goes (opened config peer).left step left × (after ≡ stepped (opened config peer) step left)
 
 -- an automatic peer sleeps where it waits armed and no frame is left
-abbrev pub sleeps : Who → End → Auto → Bool
-sleeps who end auto = is_armed who end && is_empty auto.frames
+abbrev pub sleeps : EndConfig → End → Auto → Bool
+sleeps config end auto = is_armed config end && is_empty auto.frames
 
 -- one that takes interrupts looks before each choice: once; or, where it sleeps, until a look has found a bit, at most 64 times
-abbrev pub looks_due : Who → End → CallTree → Driver → ℕ
-looks_due who end Ended (Chooses auto) = if sleeps who end auto then 64 else 1
-looks_due who end _ _ = 0
+abbrev pub looks_due : EndConfig → End → CallTree → Driver → ℕ
+looks_due config end Ended (Chooses auto) = if sleeps config end auto then 64 else 1
+looks_due config end _ _ = 0
 
 abbrev pub looks_after : (looks found : ℕ) → ℕ
 looks_after looks found = if found == 0 then looks + 1 else 64
 
-abbrev pub looks_next : Who → Route → Running → Bool
-looks_next who own run = own.enabled && nat_lt run.looks (looks_due who run.peer.end run.peer.left run.peer.driver)
+abbrev pub looks_next : EndConfig → Route → Running → Bool
+looks_next config own run = own.enabled && nat_lt run.looks (looks_due config run.peer.end run.peer.left run.peer.driver)
 
 -- the next step leads the peer there: no look comes first; and its ring is to come, and its doorbell is at a peer in one-shot mode, or not
-pub record StepsTo (who : Who) (storm : ℕ → Step) (routes : List Route) (run : Running) (ringing guarded : Bool) (step : Step) (after : Peer) : Type 0 where
-  pub first : looks_next who (route_to routes who.me) run ≡ false
+pub record StepsTo (config : EndConfig) (storm : ℕ → Step) (routes : List Route) (run : Running) (ringing guarded : Bool) (step : Step) (after : Peer) : Type 0 where
+  pub first : looks_next config (route_to routes config.me) run ≡ false
   pub rings : run.ringing ≡ ringing
-  pub guards : is_guarded (way_in routes step.access) ≡ guarded
-  pub takes : TakesStep who storm run.peer.driver run.peer step after
+  pub guards : is_guarded (doorbell_path_in routes step.access) ≡ guarded
+  pub takes : TakesStep config storm run.peer.driver run.peer step after
 
 -- the State step with this value, of a peer that chooses its calls
 abbrev pub sets : ℕ → Driver → Access → Bool
@@ -152,50 +152,50 @@ abbrev pub is_finished : Peer → Bool
 is_finished peer = has_ended peer.left && rests peer.end peer.driver
 
 -- a step comes next that sets this state; a number is met for it, or not
-pub record ComesToSet (who : Who) (storm : ℕ → Step) (routes : List Route) (run : Running) (state : ℕ) (step : Step) (after : Peer) : Type 0 where
-  pub step_is : StepsTo who storm routes run false false step after
+pub record ComesToSet (config : EndConfig) (storm : ℕ → Step) (routes : List Route) (run : Running) (state : ℕ) (step : Step) (after : Peer) : Type 0 where
+  pub step_is : StepsTo config storm routes run false false step after
   pub sets_it : sets state run.peer.driver step.access ≡ true
 
 -- A look, a step and each part of a doorbell are turns of the span. A peer that chooses its calls stores the number of the session that it opens right before
 -- its State step with 2, and loads the other's number right before its State step with 3, which bears both numbers. Where the turns of a span are taken and
 -- another span follows, the peer is reset, unless it is finished
-abbrev pub TakesTurn : Who → (ℕ → Step) → List Route → Running → Turn → Running → Type 0
-TakesTurn who storm routes run (Looks found) after = (has_turn_left run.spans ≡ true) × (looks_next who (route_to routes who.me) run ≡ true) ×
+abbrev pub TakesTurn : EndConfig → (ℕ → Step) → List Route → Running → Turn → Running → Type 0
+TakesTurn config storm routes run (Looks found) after = (has_turn_left run.spans ≡ true) × (looks_next config (route_to routes config.me) run ≡ true) ×
     (after ≡ record run { looks = looks_after run.looks found; spans = spent run.spans })
-TakesTurn who storm routes run (Makes first step) after = (has_turn_left run.spans ≡ true) ×
-    ((next : Peer) × StepsTo who storm routes run false false step next × (sets 2 run.peer.driver step.access ≡ true → run.met ≢ None) ×
+TakesTurn config storm routes run (Makes first step) after = (has_turn_left run.spans ≡ true) ×
+    ((next : Peer) × StepsTo config storm routes run false false step next × (sets 2 run.peer.driver step.access ≡ true → run.met ≢ None) ×
     (sets 3 run.peer.driver step.access ≡ false) × (after ≡ steps_on run step.access next) × (first ≡ has_ended run.peer.left))
-TakesTurn who storm routes run (Clears step found) after = (has_turn_left run.spans ≡ true) ×
-    ((next : Peer) × StepsTo who storm routes run false true step next × (after ≡ cleared_to found run step.access next))
-TakesTurn who storm routes run (Rings step) after = (has_turn_left run.spans ≡ true) ×
-    ((next : Peer) × StepsTo who storm routes run true true step next × (after ≡ steps_on run step.access next))
-TakesTurn who storm routes run (Stores number) after = (has_turn_left run.spans ≡ true) × (run.met ≡ None) × (number ≡ run.opened + 1) ×
-    ((step : Step) × (next : Peer) × ComesToSet who storm routes run 2 step next) × (after ≡ record run { met = Some number; spans = spent run.spans })
-TakesTurn who storm routes run (Loads number) after = (has_turn_left run.spans ≡ true) × (run.met ≡ None) ×
-    ((step : Step) × (next : Peer) × ComesToSet who storm routes run 3 step next) × (after ≡ record run { met = Some number; spans = spent run.spans })
-TakesTurn who storm routes run (Enters step opened other) after = (has_turn_left run.spans ≡ true) × (run.met ≡ Some other) × (run.opened ≡ opened) ×
-    ((next : Peer) × ComesToSet who storm routes run 3 step next × (after ≡ steps_on run step.access next))
-TakesTurn who storm routes run Restarts after = IsSpanSpent run.spans × (is_finished run.peer ≡ false) × (after ≡ restarts_to run)
+TakesTurn config storm routes run (Clears step found) after = (has_turn_left run.spans ≡ true) ×
+    ((next : Peer) × StepsTo config storm routes run false true step next × (after ≡ cleared_to found run step.access next))
+TakesTurn config storm routes run (Rings step) after = (has_turn_left run.spans ≡ true) ×
+    ((next : Peer) × StepsTo config storm routes run true true step next × (after ≡ steps_on run step.access next))
+TakesTurn config storm routes run (Stores number) after = (has_turn_left run.spans ≡ true) × (run.met ≡ None) × (number ≡ run.opened + 1) ×
+    ((step : Step) × (next : Peer) × ComesToSet config storm routes run 2 step next) × (after ≡ record run { met = Some number; spans = spent run.spans })
+TakesTurn config storm routes run (Loads number) after = (has_turn_left run.spans ≡ true) × (run.met ≡ None) ×
+    ((step : Step) × (next : Peer) × ComesToSet config storm routes run 3 step next) × (after ≡ record run { met = Some number; spans = spent run.spans })
+TakesTurn config storm routes run (Enters step opened other) after = (has_turn_left run.spans ≡ true) × (run.met ≡ Some other) × (run.opened ≡ opened) ×
+    ((next : Peer) × ComesToSet config storm routes run 3 step next × (after ≡ steps_on run step.access next))
+TakesTurn config storm routes run Restarts after = IsSpanSpent run.spans × (is_finished run.peer ≡ false) × (after ≡ restarts_to run)
 
-unfoldable pub TakesTurns : Who → (ℕ → Step) → List Route → Running → List Turn → Running → Type 0
-TakesTurns who storm routes run [] after = after ≡ run
-TakesTurns who storm routes run (turn ∷ turns) after = (mid : Running) × TakesTurn who storm routes run turn mid × TakesTurns who storm routes mid turns after
+unfoldable pub TakesTurns : EndConfig → (ℕ → Step) → List Route → Running → List Turn → Running → Type 0
+TakesTurns config storm routes run [] after = after ≡ run
+TakesTurns config storm routes run (turn ∷ turns) after = (mid : Running) × TakesTurn config storm routes run turn mid × TakesTurns config storm routes mid turns after
 
 -- What a turn does to the words
 
 -- a step makes its access to the region; a doorbell its ring, if it has one
-abbrev pub acted_by : List Route → Access → ℕ → List (Action (Deed Touch))
+abbrev pub acted_by : List Route → Access → ℕ → List (Action (MemoryOp ObservedAccess))
 acted_by routes (access.Read word) value = accessed (called (touch (access.Read word) value)) ∷ []
 acted_by routes (access.Write word written) value = accessed (called (touch (access.Write word written) value)) ∷ []
 acted_by routes (access.State state) value = accessed (called (touch (access.State state) value)) ∷ []
-acted_by routes (access.Ring target vector) value = rung_by (way_to routes target vector) target
+acted_by routes (access.Ring target vector) value = rung_by (doorbell_path_to routes target vector) target
 acted_by routes access.Nothing value = []
 
 abbrev pub cleared_by : {A : Type 0} → Access → ℕ → List (Action A)
 cleared_by (access.Ring target vector) found = cleared target found ∷ []
 cleared_by other found = []
 
-abbrev pub acted_in : List Route → Turn → List (Action (Deed Touch))
+abbrev pub acted_in : List Route → Turn → List (Action (MemoryOp ObservedAccess))
 acted_in routes (Looks found) = looked found ∷ []
 acted_in routes (Makes first step) = acted_by routes step.access step.value
 acted_in routes (Clears step found) = cleared_by step.access found
@@ -205,18 +205,18 @@ acted_in routes (Loads number) = accessed (carried number) ∷ []
 acted_in routes (Enters step opened other) = acted_by routes step.access step.value
 acted_in routes Restarts = accessed restarted ∷ []
 
-unfoldable pub actions_in : List Route → List Turn → List (Action (Deed Touch))
+unfoldable pub actions_in : List Route → List Turn → List (Action (MemoryOp ObservedAccess))
 actions_in routes turns = flat_map (acted_in routes) turns
 
 -- What is told of it
 
 -- a look tells the bits below n that it found
-abbrev pub heard_bit : ℕ → ℕ → ℕ → List Line
-heard_bit me bit found = if bit_at found bit == 0 then [] else line.Interrupt me bit ∷ []
+abbrev pub interrupt_line : ℕ → ℕ → ℕ → List Line
+interrupt_line me bit found = if bit_at found bit == 0 then [] else line.Interrupt me bit ∷ []
 
-unfoldable pub heard : ℕ → ℕ → ℕ → List Line
-heard zero me found = []
-heard (suc n) me found = heard n me found ++ heard_bit me n found
+unfoldable pub interrupt_lines : ℕ → ℕ → ℕ → List Line
+interrupt_lines zero me found = []
+interrupt_lines (suc n) me found = interrupt_lines n me found ++ interrupt_line me n found
 
 -- a call is quiet that finds nothing, all in one step, a read: a Tick that ends without a State step, a Poll that finds no frame and asks for no doorbell, an
 -- Offer that reclaims none and meets a full ring
@@ -243,15 +243,15 @@ marks_of (Enters step opened other) = step.marks
 marks_of _ = []
 
 -- a session's numbers stand behind the State step with 3
-abbrev pub told_in : ℕ → Turn → List Line
-told_in p (Looks found) = heard 64 p found
-told_in p (Makes first step) = lines_of p first step.access step.value step.marks
-told_in p (Clears step found) = access_lines p step.access step.value ++ map (mark_line p) (marks_of (Clears step found))
-told_in p (Rings step) = map (mark_line p) step.marks
-told_in p (Stores number) = []
-told_in p (Loads number) = []
-told_in p (Enters step opened other) = access_lines p step.access step.value ++ line.Session p opened other ∷ map (mark_line p) step.marks
-told_in p Restarts = line.Reset p ∷ []
+abbrev pub lines_in : ℕ → Turn → List Line
+lines_in p (Looks found) = interrupt_lines 64 p found
+lines_in p (Makes first step) = lines_of p first step.access step.value step.marks
+lines_in p (Clears step found) = access_lines p step.access step.value ++ map (mark_line p) (marks_of (Clears step found))
+lines_in p (Rings step) = map (mark_line p) step.marks
+lines_in p (Stores number) = []
+lines_in p (Loads number) = []
+lines_in p (Enters step opened other) = access_lines p step.access step.value ++ line.Session p opened other ∷ map (mark_line p) step.marks
+lines_in p Restarts = line.Reset p ∷ []
 
-unfoldable pub told_of : ℕ → List Turn → List Line
-told_of p turns = flat_map (told_in p) turns
+unfoldable pub lines_of_turns : ℕ → List Turn → List Line
+lines_of_turns p turns = flat_map (lines_in p) turns

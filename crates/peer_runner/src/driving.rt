@@ -8,24 +8,25 @@ ghost use Rattle.doorbell_irq.specs.declared.route.Route.{Route as RouteTo};
 ghost use Rattle.record_text.specs.OwnLines.{AreOwn};
 ghost use Rattle.record_text.specs.OwnParts.{part_of};
 ghost use Rattle.step_lines.specs.Storms.{IsStormOf};
-ghost use Rattle.peer_runner.specs.Keys.{world_in, honest_of};
+ghost use Rattle.peer_runner.specs.RunSetups.{world_in, honest_of};
 ghost use Rattle.peer_runner.specs.Actions.{Action, accessed};
-ghost use Rattle.peer_runner.specs.Standings.{Taken, Deed, restarted};
-ghost use Rattle.peer_runner.specs.Turns.{all_turns, has_turn_left, spent, later, IsSpanSpent, told_of};
+ghost use Rattle.peer_runner.specs.DerivedStates.{CallAccess, MemoryOp, restarted};
+ghost use Rattle.peer_runner.specs.Turns.{all_turns, has_turn_left, spent, later, IsSpanSpent, lines_of_turns};
 ghost use Rattle.peer_runner.specs.Passes.{IsOf, added, held};
-ghost use Rattle.peer_runner.specs.Ways.{AreRoutes};
+ghost use Rattle.peer_runner.specs.DoorbellPaths.{AreRoutes};
 ghost use Rattle.peer_runner.specs.Runners.{Runner, has_finished};
-ghost use Rattle.peer_runner.specs.Courses.{IsOnCourse, WentTo};
+ghost use Rattle.peer_runner.specs.Trajectories.{IsOnTrajectory, WentTo};
 ghost use Rattle.peer_runner.specs.Drives.{MayBeAuto, MayDrive, starting, storming, automatic, Drove};
 
+use crate::doorbell_paths::route_to;
 use crate::gate::Gate;
 use crate::sessions::reset;
 use crate::spans::Spans;
 use crate::storms::take_step;
 use crate::turns::{
-    AutoPeer, choose, is_finished, is_look_next, look_turn, looks_due, meet, take_turn, word_due,
+    AutoPeer, choose, exchange_session_number, is_finished, is_look_next, look_turn, looks_due,
+    take_turn, word_due,
 };
-use crate::ways::route_to;
 use crate::words::{Pass, Words};
 use arrayvec::ArrayVec;
 use call_grammar::places_follow_trees;
@@ -80,9 +81,9 @@ fn auto_turn<G: Gate>(
 ) -> Result<bool, NoMemory>
     requires honest { (me < 2) × (honest_of words.now.shared.key me ≡ true) }
     requires routes { AreRoutes words.now.shared.key routes.now }
-    requires course { (plan : Plan) × (spans : List ℕ) × (r : Runner) × (all_turns spans < 2 ^ 32) × IsOnCourse words.now.shared.table_id words.now.shared.key me routes.now plan spans r pass.old peer.old × (has_turn_left r.spans ≡ true) }
-    ensures course { (plan : Plan) (spans : List ℕ) (r : Runner) → IsOnCourse words.now.shared.table_id words.now.shared.key me routes.now plan spans r pass.old peer.old → has_turn_left r.spans ≡ true → lines.old ≡ told_of me r.turns →
-        (next : Runner) × IsOnCourse words.now.shared.table_id words.now.shared.key me routes.now plan spans next pass.new peer.new × IfOk result (λ went. (lines.new ≡ told_of me next.turns) × WentTo (spent r.spans) r next went) }
+    requires course { (plan : Plan) × (spans : List ℕ) × (r : Runner) × (all_turns spans < 2 ^ 32) × IsOnTrajectory words.now.shared.table_id words.now.shared.key me routes.now plan spans r pass.old peer.old × (has_turn_left r.spans ≡ true) }
+    ensures course { (plan : Plan) (spans : List ℕ) (r : Runner) → IsOnTrajectory words.now.shared.table_id words.now.shared.key me routes.now plan spans r pass.old peer.old → has_turn_left r.spans ≡ true → lines.old ≡ lines_of_turns me r.turns →
+        (next : Runner) × IsOnTrajectory words.now.shared.table_id words.now.shared.key me routes.now plan spans next pass.new peer.new × IfOk result (λ went. (lines.new ≡ lines_of_turns me next.turns) × WentTo (spent r.spans) r next went) }
 {
     let due = looks_due(&peer.auto, &peer.end);
     if is_look_next(route_to(routes, me), due, peer.looks) {
@@ -92,7 +93,7 @@ fn auto_turn<G: Gate>(
     }
     if let Some(word) = word_due(&peer.end, peer.met) {
         gate.pass(me, turn);
-        peer.met = Some(meet(words, pass, me, peer.opened, word));
+        peer.met = Some(exchange_session_number(words, pass, me, peer.opened, word));
         return Ok(true);
     }
     let choice = choose(&mut peer.auto, &peer.end);
@@ -119,9 +120,9 @@ fn auto_span<G: Gate>(
 ) -> Result<(), NoMemory>
     requires honest { (me < 2) × (honest_of words.now.shared.key me ≡ true) }
     requires routes { AreRoutes words.now.shared.key routes.now }
-    requires course { (plan : Plan) × (spans : List ℕ) × (r : Runner) × (rest : List ℕ) × (all_turns spans < 2 ^ 32) × IsOnCourse words.now.shared.table_id words.now.shared.key me routes.now plan spans r pass.old peer.old × (r.spans ≡ span ∷ rest) × (turns.old ≡ length r.turns) × (lines.old ≡ told_of me r.turns) }
-    ensures course { (plan : Plan) (spans : List ℕ) (r : Runner) (rest : List ℕ) → IsOnCourse words.now.shared.table_id words.now.shared.key me routes.now plan spans r pass.old peer.old → r.spans ≡ span ∷ rest → turns.old ≡ length r.turns → lines.old ≡ told_of me r.turns →
-        (next : Runner) × IsOnCourse words.now.shared.table_id words.now.shared.key me routes.now plan spans next pass.new peer.new × IfOk result (λ _. (lines.new ≡ told_of me next.turns) × (turns.new ≡ length next.turns) × (has_finished next ≡ false → next.spans ≡ 0 ∷ rest)) }
+    requires course { (plan : Plan) × (spans : List ℕ) × (r : Runner) × (rest : List ℕ) × (all_turns spans < 2 ^ 32) × IsOnTrajectory words.now.shared.table_id words.now.shared.key me routes.now plan spans r pass.old peer.old × (r.spans ≡ span ∷ rest) × (turns.old ≡ length r.turns) × (lines.old ≡ lines_of_turns me r.turns) }
+    ensures course { (plan : Plan) (spans : List ℕ) (r : Runner) (rest : List ℕ) → IsOnTrajectory words.now.shared.table_id words.now.shared.key me routes.now plan spans r pass.old peer.old → r.spans ≡ span ∷ rest → turns.old ≡ length r.turns → lines.old ≡ lines_of_turns me r.turns →
+        (next : Runner) × IsOnTrajectory words.now.shared.table_id words.now.shared.key me routes.now plan spans next pass.new peer.new × IfOk result (λ _. (lines.new ≡ lines_of_turns me next.turns) × (turns.new ≡ length next.turns) × (has_finished next ≡ false → next.spans ≡ 0 ∷ rest)) }
 {
     for _taken in 0..span {
         let turn = *turns + 1;
@@ -146,8 +147,8 @@ fn auto_restart<G: Gate>(
 ) -> Result<bool, NoMemory>
     requires honest { honest_of words.now.shared.key me ≡ true }
     requires of { IsOf words.now.shared.table_id words.now.shared.key pass.old × (pass.old.from ≡ me) × (0 < length pass.old.lists) }
-    ensures course { (routes : List RouteTo) (plan : Plan) (spans : List ℕ) (r : Runner) → IsOnCourse words.now.shared.table_id words.now.shared.key me routes plan spans r pass.old peer.old → (has_finished r ≡ false → IsSpanSpent r.spans) → lines.old ≡ told_of me r.turns →
-        (next : Runner) × IsOnCourse words.now.shared.table_id words.now.shared.key me routes plan spans next pass.new peer.new × IfOk result (λ went. (lines.new ≡ told_of me next.turns) × WentTo (later r.spans) r next went × (has_finished r ≡ not went)) }
+    ensures course { (routes : List RouteTo) (plan : Plan) (spans : List ℕ) (r : Runner) → IsOnTrajectory words.now.shared.table_id words.now.shared.key me routes plan spans r pass.old peer.old → (has_finished r ≡ false → IsSpanSpent r.spans) → lines.old ≡ lines_of_turns me r.turns →
+        (next : Runner) × IsOnTrajectory words.now.shared.table_id words.now.shared.key me routes plan spans next pass.new peer.new × IfOk result (λ went. (lines.new ≡ lines_of_turns me next.turns) × WentTo (later r.spans) r next went × (has_finished r ≡ not went)) }
 {
     let choice = choose(&mut peer.auto, &peer.end);
     if is_finished(choice) {
@@ -181,7 +182,7 @@ fn drive_auto<G: Gate>(
     requires fresh { (peer.looks ≡ 0) × (peer.ringing ≡ false) × (peer.opened ≡ 0) × (peer.met ≡ None) }
     requires few { all_turns spans.now < 2 ^ 32 }
     requires routes { AreRoutes words.now.shared.key routes.now }
-    ensures { (list : List (Action (Deed Taken))) × (pass.new ≡ held pass.old.table_id me (list ∷ [])) × Drove words.now.shared.key routes.now me spans.now (automatic peer.auto) list result }
+    ensures { (list : List (Action (MemoryOp CallAccess))) × (pass.new ≡ held pass.old.table_id me (list ∷ [])) × Drove words.now.shared.key routes.now me spans.now (automatic peer.auto) list result }
 {
     places_follow_trees();
     let mut lines = Lines::new(alloc);
@@ -247,7 +248,7 @@ fn drive_storm<G: Gate>(
     requires storm { IsStormOf (world_in words.now.shared.key) storm }
     requires few { all_turns spans.now < 2 ^ 32 }
     requires routes { AreRoutes words.now.shared.key routes.now }
-    ensures { (list : List (Action (Deed Taken))) × (pass.new ≡ held pass.old.table_id storm.peer (list ∷ [])) × Drove words.now.shared.key routes.now storm.peer spans.now (storming storm.at) list result }
+    ensures { (list : List (Action (MemoryOp CallAccess))) × (pass.new ≡ held pass.old.table_id storm.peer (list ∷ [])) × Drove words.now.shared.key routes.now storm.peer spans.now (storming storm.at) list result }
 {
     let mut lines = Lines::new(alloc);
     let mut turns = 0;
@@ -290,7 +291,7 @@ pub fn drive<G: Gate>(
     requires drives { MayDrive words.now.shared.key plan.peer plan.driver }
     requires few { all_turns plan.spans < 2 ^ 32 }
     requires routes { AreRoutes words.now.shared.key plan.routes.items }
-    ensures { (list : List (Action (Deed Taken))) × (pass.new ≡ held pass.old.table_id plan.peer (list ∷ [])) × Drove words.now.shared.key plan.routes.items plan.peer plan.spans (starting plan.driver) list result }
+    ensures { (list : List (Action (MemoryOp CallAccess))) × (pass.new ≡ held pass.old.table_id plan.peer (list ∷ [])) × Drove words.now.shared.key plan.routes.items plan.peer plan.spans (starting plan.driver) list result }
 {
     let PeerPlan {
         peer,

@@ -3,7 +3,7 @@ ghost use Rattle.std.specs.Prelude.{◌≡◌, ◌<◌, ◌≤◌, ◌+◌, ◌*
 ghost use Rattle.std.specs.Int.{bit_at};
 ghost use Rattle.peer_runner.specs.Actions.{rang, looked, cleared};
 ghost use Rattle.peer_runner.specs.Interrupts.{IsOneShot, MayRing};
-ghost use Rattle.peer_runner.specs.Rules.{Tells, rings_at, clears, front};
+ghost use Rattle.peer_runner.specs.Rules.{LearnsExactly, rings_at, clears, front};
 ghost use Rattle.peer_runner.specs.Passes.{IsOf, added};
 
 use crate::rule::Looks;
@@ -23,7 +23,7 @@ fn interrupt_word(words: &Words, peers: u32, peer: u32) -> usize
 
 /// Sets a bit at a play that the caller picks.
 fn ring_by<M: Play<u8, View>>(words: &Words, pass: &mut Pass, peers: u32, target: u32, bit: u32)
-    requires tells { Tells M.then (rings_at target bit) }
+    requires tells { LearnsExactly M.then (rings_at target bit) }
     requires of { IsOf words.now.shared.table_id words.now.shared.key pass.old × (peers ≡ words.now.shared.key.geometry.peers) × (0 < length pass.old.lists) }
     requires target { (target < peers) × (bit < 64) }
     requires may { IsOneShot words.now.shared.key target → MayRing target (front pass.old.lists) }
@@ -57,7 +57,7 @@ pub fn look(words: &Words, pass: &mut Pass, peers: u32, me: u32) -> u64
 
 /// Clears at a play that the caller picks.
 fn clear_by<M: Play<u8, View>>(words: &Words, pass: &mut Pass, peers: u32, target: u32) -> u64
-    requires tells { Tells M.then (clears words.now.shared.key target) }
+    requires tells { LearnsExactly M.then (clears words.now.shared.key target) }
     requires of { IsOf words.now.shared.table_id words.now.shared.key pass.old × (peers ≡ words.now.shared.key.geometry.peers) × (0 < length pass.old.lists) }
     requires target { target < peers }
     ensures list { pass.new ≡ added pass.old (cleared target result) }

@@ -1,8 +1,8 @@
-//! What the rule says of the words and of the lists of deeds, between any two accesses of whatever threads (`specs/RunningLaws`). No function here
+//! What the rule says of the words and of the lists of memory operations, between any two accesses of whatever threads (`specs/RunningLaws`). No function here
 //! does anything: each is a law, which its contract states.
-ghost use Rattle.peer_runner.specs.RunningLaws.{WordsAreMade, AllWordsAreMade, StoresAreOwned, InterruptsAreRung, DoorbellsStand, OfEachHonest, OfTwoHonest, AccessesAreCalls, WordsAreWritten, PhasesShow, FlightIsSpelled, OpenOfferStores, HeldIsInRange, NeverRefuses, OtherOpensNone, SessionWordsAreNumbers, HostileSessionsAreNone, SessionsArePaired, WhereEitherAttends, PairKeeps, AskedIsRung, HeldIsAsSent, HostileWordsAreFree};
+ghost use Rattle.peer_runner.specs.RunningLaws.{WordsAreMade, AllWordsAreMade, StoresAreOwned, InterruptsAreRung, DoorbellsStand, OfEachHonest, OfTwoHonest, AccessesAreCalls, WordsAreWritten, PhasesShow, FlightIsSpelled, OpenOfferStores, ReadValuesAreInRange, NeverRefuses, OtherOpensNone, SessionWordsAreNumbers, HostileSessionsAreNone, SessionsArePaired, WhereEitherAttends, PairKeeps, AskedIsRung, ReadValuesAreAsSent, HostileWordsAreFree};
 
-/// The words of the region and of the sessions are what the deeds of all lists made of them, one after another in some order.
+/// The words of the region and of the sessions are what the memory operations of all lists made of them, one after another in some order.
 pub fn words_are_made()
     ensures { WordsAreMade }
 {}
@@ -33,7 +33,7 @@ pub fn accesses_are_calls()
     ensures { OfEachHonest AccessesAreCalls }
 {}
 
-/// Each word of the section of an honest link peer, and its state word, is what its list of deeds wrote last, or 0; a reset writes 0 in its state word.
+/// Each word of the section of an honest link peer, and its state word, is what its list of memory operations wrote last, or 0; a reset writes 0 in its state word.
 pub fn words_are_written()
     ensures { OfEachHonest WordsAreWritten }
 {}
@@ -54,8 +54,8 @@ pub fn offers_store_apart()
 {}
 
 /// What an honest link peer holds of what it has read is within the ranges of its fields, by its checks alone.
-pub fn held_is_in_range()
-    ensures { OfEachHonest HeldIsInRange }
+pub fn read_values_are_in_range()
+    ensures { OfEachHonest ReadValuesAreInRange }
 {}
 
 /// Two honest link peers never refuse each other.
@@ -95,8 +95,8 @@ pub fn asked_doorbells_are_rung()
 {}
 
 /// What an open call of one of two honest link peers holds of what it has read is what the other one has written.
-pub fn held_is_as_sent()
-    ensures { OfTwoHonest HeldIsAsSent }
+pub fn read_values_are_as_sent()
+    ensures { OfTwoHonest ReadValuesAreAsSent }
 {}
 
 /// The words of a hostile peer may hold whatever number below 2^32.

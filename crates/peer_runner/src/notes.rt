@@ -1,13 +1,13 @@
 //! The lines of a running peer's steps.
 ghost use Rattle.std.specs.Prelude.{◌≡◌, ◌<◌, ◌++◌, ◌∷◌, [], map, OnOk};
-ghost use Rattle.lawful_history.specs.Entries.{access_lines, mark_line};
+ghost use Rattle.lawful_history.specs.EventRecords.{access_lines, mark_line};
 ghost use Rattle.link_endpoint.specs.Engine.{offered, delivered};
-ghost use Rattle.link_endpoint.specs.Stands.{marks_between};
+ghost use Rattle.link_endpoint.specs.Refinement.{marks_between};
 ghost use Rattle.std.specs.Int.{bit_at};
-ghost use Rattle.peer_runner.specs.Turns.{heard, heard_bit, finds_nothing, is_quiet, lines_of};
+ghost use Rattle.peer_runner.specs.Turns.{interrupt_lines, interrupt_line, finds_nothing, is_quiet, lines_of};
 ghost use Rattle.peer_runner.specs.Runners.{session_lines, stepped_lines, done_lines};
 
-use crate::ways::Done;
+use crate::doorbell_paths::Done;
 use ivs_base::NoMemory;
 use lawful_history::{Line, Lines};
 use link_endpoint::Endpoint;
@@ -16,7 +16,7 @@ use std::alloc::Global;
 use step_lines::line_of;
 
 /// Tells an access.
-pub fn tell_access(me: u32, access: Access, value: u32, lines: &mut Lines) -> Result<(), NoMemory>
+pub fn record_access(me: u32, access: Access, value: u32, lines: &mut Lines) -> Result<(), NoMemory>
     ensures { OnOk result (lines.new ≡ lines.old ++ access_lines me access value) }
 {
     let line = match access {
@@ -42,7 +42,7 @@ pub fn tell_access(me: u32, access: Access, value: u32, lines: &mut Lines) -> Re
 }
 
 /// Tells the notes of a step.
-fn tell_notes(
+fn record_notes(
     alloc: Global,
     me: u32,
     end: &Endpoint,
@@ -79,7 +79,7 @@ fn is_quiet(first: bool, access: Access, end: &Endpoint, notes: &[Note]) -> bool
 }
 
 /// Tells the mark of a session behind a State step with 3, for which the other's number was met.
-fn tell_session(
+fn record_session(
     me: u32,
     opened: u32,
     met: Option<u32>,
@@ -99,7 +99,7 @@ fn tell_session(
 }
 
 /// Tells a step of a call, unless the call is quiet. `opened` and `met` are the numbers of the session that it may enter.
-fn tell(
+fn record_lines(
     alloc: Global,
     me: u32,
     first: bool,
@@ -116,13 +116,13 @@ fn tell(
     if is_quiet(first, access, end, notes) {
         return Ok(());
     }
-    tell_access(me, access, value, lines)?;
-    tell_session(me, opened, met, access, lines)?;
-    tell_notes(alloc, me, end, notes, lines)
+    record_access(me, access, value, lines)?;
+    record_session(me, opened, met, access, lines)?;
+    record_notes(alloc, me, end, notes, lines)
 }
 
 /// Tells what was done of a step that is done with it. `first` says that its call begins with it.
-pub fn tell_done(
+pub fn record_step(
     alloc: Global,
     me: u32,
     first: bool,
@@ -137,21 +137,21 @@ pub fn tell_done(
     ensures { OnOk result (lines.new ≡ lines.old ++ done_lines me first opened met access done (marks_between (offered end.now) (delivered end.now) notes.now)) }
 {
     match done {
-        Done::Stepped(value) => tell(
+        Done::Stepped(value) => record_lines(
             alloc, me, first, opened, met, access, value, end, notes, lines,
         ),
         Done::Cleared(_) => {
-            tell_access(me, access, 0, lines)?;
-            tell_notes(alloc, me, end, notes, lines)
+            record_access(me, access, 0, lines)?;
+            record_notes(alloc, me, end, notes, lines)
         }
-        Done::Rung => tell_notes(alloc, me, end, notes, lines),
+        Done::Rung => record_notes(alloc, me, end, notes, lines),
     }
 }
 
 /// Tells one bit of what a look found.
-fn tell_bit(me: u32, bit: u32, found: u64, lines: &mut Lines) -> Result<(), NoMemory>
+fn record_interrupt(me: u32, bit: u32, found: u64, lines: &mut Lines) -> Result<(), NoMemory>
     requires { bit < 64 }
-    ensures { OnOk result (lines.new ≡ lines.old ++ heard_bit me bit found) }
+    ensures { OnOk result (lines.new ≡ lines.old ++ interrupt_line me bit found) }
 {
     if (found >> bit) & 1 == 0 {
         return Ok(());
@@ -163,11 +163,11 @@ fn tell_bit(me: u32, bit: u32, found: u64, lines: &mut Lines) -> Result<(), NoMe
 }
 
 /// Tells the bits that a look found, ascending.
-pub fn tell_heard(me: u32, found: u64, lines: &mut Lines) -> Result<(), NoMemory>
-    ensures { OnOk result (lines.new ≡ lines.old ++ heard 64 me found) }
+pub fn record_interrupts(me: u32, found: u64, lines: &mut Lines) -> Result<(), NoMemory>
+    ensures { OnOk result (lines.new ≡ lines.old ++ interrupt_lines 64 me found) }
 {
     for bit in 0..64 {
-        tell_bit(me, bit, found, lines)?;
+        record_interrupt(me, bit, found, lines)?;
     }
     Ok(())
 }

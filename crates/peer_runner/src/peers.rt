@@ -5,9 +5,9 @@ ghost use Rattle.scenario_text.specs.Running.{not_running};
 ghost use Rattle.scenario_text.specs.Spelling.{world_of};
 ghost use Rattle.record_text.specs.OwnParts.{part_of};
 ghost use Rattle.record_text.specs.Parts.{peers_of, running_peers};
-ghost use Rattle.peer_runner.specs.Keys.{IsMadeFor};
+ghost use Rattle.peer_runner.specs.RunSetups.{IsMadeFor};
 ghost use Rattle.peer_runner.specs.Actions.{Action};
-ghost use Rattle.peer_runner.specs.Standings.{Taken, Deed};
+ghost use Rattle.peer_runner.specs.DerivedStates.{CallAccess, MemoryOp};
 ghost use Rattle.peer_runner.specs.Passes.{IsOf, IsWhole, IsUnused, held};
 ghost use Rattle.peer_runner.specs.Drives.{RanOne, RanAll, BothOk};
 ghost use Rattle.peer_runner.specs.RunningRecord.{IsRunOf};
@@ -35,7 +35,7 @@ fn run_one<G: Gate>(
     requires made { IsMadeFor (world_of scenario.now) words.now.shared.key }
     requires of { IsOf words.now.shared.table_id words.now.shared.key pass.old }
     requires alone { (pass.old.from ≡ me) × (pass.old.lists ≡ [] ∷ []) }
-    ensures { (list : List (Action (Deed Taken))) × (pass.new ≡ held pass.old.table_id me (list ∷ []))
+    ensures { (list : List (Action (MemoryOp CallAccess))) × (pass.new ≡ held pass.old.table_id me (list ∷ []))
         × IfOk result (λ traces. RanOne (world_of scenario.now) words.now.shared.key me list traces.items) }
 {
     let Some(plan) = plan_of(alloc, scenario, me)? else {
@@ -62,7 +62,7 @@ fn run_range<R: Threads + Sync, G: Gate + Sync>(
     requires made { IsMadeFor (world_of scenario.now) words.now.shared.key }
     requires of { IsOf words.now.shared.table_id words.now.shared.key pass }
     requires whole { (pass.from ≡ from) × (pass.lists ≡ replicate count []) }
-    ensures { (lists : List (List (Action (Deed Taken)))) × (result.1 ≡ held pass.table_id from lists) × (length lists ≡ count)
+    ensures { (lists : List (List (Action (MemoryOp CallAccess)))) × (result.1 ≡ held pass.table_id from lists) × (length lists ≡ count)
         × IfOk result.0 (λ traces. RanAll (world_of scenario.now) words.now.shared.key from lists traces.items) }
 {
     if count == 0 {
@@ -84,7 +84,7 @@ fn run_range<R: Threads + Sync, G: Gate + Sync>(
             requires made { IsMadeFor (world_of scenario.now) words.now.shared.key }
             requires of { IsOf words.now.shared.table_id words.now.shared.key pass }
             requires whole { (pass.from ≡ from) × (pass.lists ≡ replicate half []) }
-            ensures { (lists : List (List (Action (Deed Taken)))) × (result.1 ≡ held pass.table_id from lists) × (length lists ≡ half)
+            ensures { (lists : List (List (Action (MemoryOp CallAccess)))) × (result.1 ≡ held pass.table_id from lists) × (length lists ≡ half)
                 × IfOk result.0 (λ traces. RanAll (world_of scenario.entry.now) words.entry.now.shared.key from lists traces.items) }
         { run_range(rt, alloc, words, pass, scenario, from, half, gate) },
         move || -> (Result<Vec<OwnTrace>, NoMemory>, Pass)
@@ -93,7 +93,7 @@ fn run_range<R: Threads + Sync, G: Gate + Sync>(
             requires made { IsMadeFor (world_of scenario.now) words.now.shared.key }
             requires of { IsOf words.now.shared.table_id words.now.shared.key upper }
             requires whole { (upper.from ≡ middle) × (upper.lists ≡ replicate rest []) }
-            ensures { (lists : List (List (Action (Deed Taken)))) × (result.1 ≡ held upper.table_id middle lists) × (length lists ≡ rest)
+            ensures { (lists : List (List (Action (MemoryOp CallAccess)))) × (result.1 ≡ held upper.table_id middle lists) × (length lists ≡ rest)
                 × IfOk result.0 (λ traces. RanAll (world_of scenario.entry.now) words.entry.now.shared.key middle lists traces.items) }
         { run_range(rt, alloc, words, upper, scenario, middle, rest, gate) },
     );

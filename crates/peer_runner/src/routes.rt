@@ -1,10 +1,10 @@
 //! How doorbells reach the peers of a scenario, once its acts have set their devices.
 ghost use Rattle.std.specs.Prelude.{◌≡◌, ℕ, ◌++◌, List};
 ghost use Rattle.doorbell_irq.specs.Events.{Devices, Event};
-ghost use Rattle.doorbell_irq.specs.Stands.{Stands, peer_count};
+ghost use Rattle.doorbell_irq.specs.Refinement.{Refines, peer_count};
 ghost use Rattle.lawful_history.specs.Device.{devices_of};
 ghost use Rattle.scenario_text.specs.Spelling.{world_of};
-ghost use Rattle.peer_runner.specs.Ways.{events_in, events_of, MaySet, AreRoutesOf};
+ghost use Rattle.peer_runner.specs.DoorbellPaths.{events_in, events_of, MaySet, AreRoutesOf};
 
 use arrayvec::ArrayVec;
 use doorbell_irq::{Device, Route};
@@ -13,7 +13,7 @@ use scenario_text::{Act, Scenario};
 /// Does what an act says to the devices.
 fn set(device: &mut Device, act: &Act)
     requires { MaySet (peer_count device.old) act.now }
-    ensures stands { (w : Devices) (events : List Event) → Stands w events device.old → Stands w (events_in act.now ++ events) device.new }
+    ensures refines { (w : Devices) (events : List Event) → Refines w events device.old → Refines w (events_in act.now ++ events) device.new }
     ensures peers { peer_count device.new ≡ peer_count device.old }
 {
     match act {
@@ -44,7 +44,7 @@ fn set(device: &mut Device, act: &Act)
 
 /// The devices after all acts of the scenario.
 fn devices_for(scenario: &Scenario) -> Device
-    ensures stands { Stands (devices_of (world_of scenario.now)) (events_of scenario.now.acts) result }
+    ensures refines { Refines (devices_of (world_of scenario.now)) (events_of scenario.now.acts) result }
     ensures peers { peer_count result ≡ scenario.now.geometry.peers }
 {
     let mut device = Device::new(&scenario.geometry, scenario.wiring);

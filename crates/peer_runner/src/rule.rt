@@ -1,9 +1,9 @@
 //! The rule of the table, and what its steps tell.
 ghost use Rattle.std.specs.Prelude.{[], Option, None};
 ghost use Rattle.call_grammar.specs.Calls.{Call};
-ghost use Rattle.peer_runner.specs.Rules.{Kept, newcomer, reads, writes, sets, stores_number, loads_number, resets, looks, joined};
+ghost use Rattle.peer_runner.specs.Rules.{TableInvariant, initial_view, reads, writes, sets, stores_number, loads_number, resets, looks, joined};
 
-use crate::key::Key;
+use crate::run_setup::RunSetup;
 use crate::view::View;
 use atomic_table::{Join, Play, Split, TableRule};
 use std::marker::{Brand, PhantomData};
@@ -11,10 +11,10 @@ use std::marker::{Brand, PhantomData};
 /// The rule of running peers (`specs/Rules`).
 pub struct Rule;
 
-impl TableRule<u8, View, Key> for Rule {
-    ghost holds = { Kept };
+impl TableRule<u8, View, RunSetup> for Rule {
+    ghost holds = { TableInvariant };
 
-    ghost first = { newcomer };
+    ghost first = { initial_view };
 }
 
 /// The call that an access begins, if it begins one. Each caller picks it.

@@ -1,9 +1,9 @@
 //! Session words, and the reset of a running peer. `peers` is the number of all peers.
 ghost use Rattle.std.specs.Prelude.{◌≡◌, ◌<◌, ◌≤◌, ◌+◌, true, length};
-ghost use Rattle.call_grammar.specs.Places.{Setting};
-ghost use Rattle.peer_runner.specs.Keys.{honest_of};
+ghost use Rattle.call_grammar.specs.Places.{WritingState};
+ghost use Rattle.peer_runner.specs.RunSetups.{honest_of};
 ghost use Rattle.peer_runner.specs.Actions.{accessed, accesses_in};
-ghost use Rattle.peer_runner.specs.Standings.{numbered, carried, restarted, standing};
+ghost use Rattle.peer_runner.specs.DerivedStates.{numbered, carried, restarted, derived_state};
 ghost use Rattle.peer_runner.specs.Rules.{front};
 ghost use Rattle.peer_runner.specs.Passes.{IsOf, added};
 
@@ -30,8 +30,8 @@ fn session_word(words: &Words, peer: u32) -> usize
 /// Stores in the session word of an honest peer the number of the session that it opens next, right before its State step with 2.
 pub fn store_session(words: &Words, pass: &mut Pass, me: u32, number: u32)
     requires honest { honest_of words.now.shared.key me ≡ true }
-    requires place { (standing words.now.shared.key me (accesses_in (front pass.old.lists))).place ≡ Setting 2 }
-    requires number { number ≡ (standing words.now.shared.key me (accesses_in (front pass.old.lists))).numbers.log.opened + 1 }
+    requires place { (derived_state words.now.shared.key me (accesses_in (front pass.old.lists))).place ≡ WritingState 2 }
+    requires number { number ≡ (derived_state words.now.shared.key me (accesses_in (front pass.old.lists))).numbers.log.opened + 1 }
     requires of { IsOf words.now.shared.table_id words.now.shared.key pass.old × (pass.old.from ≡ me) × (0 < length pass.old.lists) }
     ensures { pass.new ≡ added pass.old (accessed (numbered number)) }
 {
@@ -44,7 +44,7 @@ pub fn store_session(words: &Words, pass: &mut Pass, me: u32, number: u32)
 /// Loads the other's session word, right before the State step with 3 of an honest peer.
 pub fn load_session(words: &Words, pass: &mut Pass, me: u32) -> u32
     requires honest { honest_of words.now.shared.key me ≡ true }
-    requires place { (standing words.now.shared.key me (accesses_in (front pass.old.lists))).place ≡ Setting 3 }
+    requires place { (derived_state words.now.shared.key me (accesses_in (front pass.old.lists))).place ≡ WritingState 3 }
     requires of { IsOf words.now.shared.table_id words.now.shared.key pass.old × (pass.old.from ≡ me) × (0 < length pass.old.lists) }
     ensures { pass.new ≡ added pass.old (accessed (carried result)) }
 {

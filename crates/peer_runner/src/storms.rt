@@ -1,18 +1,18 @@
 //! A turn of a storm.
 ghost use Rattle.std.specs.Prelude.{◌≡◌, ◌++◌, ◌<◌, true, false, if◌then◌else◌, None, length, OnOk};
 ghost use Rattle.step_lines.specs.Storms.{IsStormOf, IsDrawn};
-ghost use Rattle.peer_runner.specs.Keys.{world_in, honest_of};
-ghost use Rattle.peer_runner.specs.Ways.{AreRoutes, is_guarded, way_in};
+ghost use Rattle.peer_runner.specs.RunSetups.{world_in, honest_of};
+ghost use Rattle.peer_runner.specs.DoorbellPaths.{AreRoutes, is_guarded, doorbell_path_in};
 ghost use Rattle.peer_runner.specs.Rules.{front};
-ghost use Rattle.peer_runner.specs.Turns.{told_in};
+ghost use Rattle.peer_runner.specs.Turns.{lines_in};
 ghost use Rattle.peer_runner.specs.Drives.{storm_in, storm_on};
-ghost use Rattle.peer_runner.specs.Runners.{made, value_done, done_of, turn_of, drawn_lines, IsDone, holds_on, MayRingBy};
+ghost use Rattle.peer_runner.specs.Runners.{made, value_done, done_of, turn_of, drawn_lines, IsDone, awaits_ring, MayRingBy};
 ghost use Rattle.peer_runner.specs.Passes.{IsOf};
 
 use crate::accesses::{set_state, store};
 use crate::bells::ring_turn;
-use crate::notes::tell_access;
-use crate::ways::Done;
+use crate::doorbell_paths::Done;
+use crate::notes::record_access;
 use crate::words::{Pass, Words};
 use doorbell_irq::Route;
 use ivs_base::NoMemory;
@@ -35,10 +35,10 @@ fn make(
     requires hostile { honest_of words.now.shared.key me ≡ false }
     requires drawn { IsDrawn (world_in words.now.shared.key) me access }
     requires rings { ringing ≡ true → MayRingBy routes.now access (front pass.old.lists) }
-    ensures done { IsDone ringing (is_guarded (way_in routes.now access)) result }
+    ensures done { IsDone ringing (is_guarded (doorbell_path_in routes.now access)) result }
     ensures pass { pass.new ≡ made pass.old (done_of routes.now None access result) }
     ensures value { value_done result ≡ 0 }
-    ensures rings { holds_on result ≡ true → MayRingBy routes.now access (front pass.new.lists) }
+    ensures rings { awaits_ring result ≡ true → MayRingBy routes.now access (front pass.new.lists) }
 {
     match access {
         Access::Write(word, value) => {
@@ -71,34 +71,39 @@ pub fn take_step(
     requires hostile { honest_of words.now.shared.key storm.old.peer ≡ false }
     requires storm { IsStormOf (world_in words.now.shared.key) storm.old }
     requires rings { ringing.old ≡ true → MayRingBy routes.now (storm_in words.now.shared.key storm.old.peer storm.old.at).access (front pass.old.lists) }
-    ensures { (done : Done) × IsDone ringing.old (is_guarded (way_in routes.now (storm_in words.now.shared.key storm.old.peer storm.old.at).access)) done × (value_done done ≡ 0)
+    ensures { (done : Done) × IsDone ringing.old (is_guarded (doorbell_path_in routes.now (storm_in words.now.shared.key storm.old.peer storm.old.at).access)) done × (value_done done ≡ 0)
         × (pass.new ≡ made pass.old (done_of routes.now None (storm_in words.now.shared.key storm.old.peer storm.old.at).access done))
-        × (storm.new ≡ record storm.old { at = storm_on storm.old.at done }) × (ringing.new ≡ holds_on done)
-        × (holds_on done ≡ true → MayRingBy routes.now (storm_in words.now.shared.key storm.old.peer storm.old.at).access (front pass.new.lists))
-        × OnOk result (lines.new ≡ lines.old ++ told_in storm.old.peer (turn_of true 0 None (storm_in words.now.shared.key storm.old.peer storm.old.at) done)) }
+        × (storm.new ≡ record storm.old { at = storm_on storm.old.at done }) × (ringing.new ≡ awaits_ring done)
+        × (awaits_ring done ≡ true → MayRingBy routes.now (storm_in words.now.shared.key storm.old.peer storm.old.at).access (front pass.new.lists))
+        × OnOk result (lines.new ≡ lines.old ++ lines_in storm.old.peer (turn_of true 0 None (storm_in words.now.shared.key storm.old.peer storm.old.at) done)) }
 {
     let me = storm.peer;
     let mut ahead = *storm;
     let access = ahead.step();
     let done = make(words, pass, me, routes, access, *ringing);
-    *ringing = done.holds_on();
+    *ringing = done.awaits_ring();
     *storm = after(storm, ahead, done);
-    tell_drawn(me, access, done, lines)
+    record_storm_write(me, access, done, lines)
 }
 
 /// The storm after a turn: it goes ahead where its step is done.
 fn after(storm: &Storm, ahead: Storm, done: Done) -> Storm
-    ensures { result ≡ (if holds_on done then storm.now else ahead) }
+    ensures { result ≡ (if awaits_ring done then storm.now else ahead) }
 {
-    if done.holds_on() { *storm } else { ahead }
+    if done.awaits_ring() { *storm } else { ahead }
 }
 
 /// Tells what was done of a step that was drawn: a ring was told as its clear was done.
-fn tell_drawn(me: u32, access: Access, done: Done, lines: &mut Lines) -> Result<(), NoMemory>
+fn record_storm_write(
+    me: u32,
+    access: Access,
+    done: Done,
+    lines: &mut Lines,
+) -> Result<(), NoMemory>
     ensures { OnOk result (lines.new ≡ lines.old ++ drawn_lines me access done) }
 {
     match done {
-        Done::Stepped(_) | Done::Cleared(_) => tell_access(me, access, 0, lines),
+        Done::Stepped(_) | Done::Cleared(_) => record_access(me, access, 0, lines),
         Done::Rung => Ok(()),
     }
 }

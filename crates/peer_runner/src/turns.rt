@@ -1,30 +1,30 @@
 //! The turns of an automatic peer.
 ghost use Rattle.std.specs.Prelude.{◌≡◌, ℕ, ◌+◌, ◌^◌, ◌++◌, ◌<◌, ◌≤◌, true, false, length, OnOk};
 ghost use Rattle.call_grammar.specs.Automatic.{is_empty};
-ghost use Rattle.call_grammar.specs.Calls.{Who};
+ghost use Rattle.call_grammar.specs.Calls.{EndConfig};
 ghost use Rattle.call_grammar.specs.Ends.{End};
 ghost use Rattle.call_grammar.specs.Places as places;
-ghost use Rattle.call_grammar.specs.Places.{Setting, access_at};
+ghost use Rattle.call_grammar.specs.Places.{WritingState, access_at};
 ghost use Rattle.lawful_history.specs.Peers as peers;
 ghost use Rattle.link_endpoint.specs.Engine.{is_busy};
-ghost use Rattle.link_endpoint.specs.Stands.{StandsAt};
+ghost use Rattle.link_endpoint.specs.Refinement.{RefinesAt};
 ghost use Rattle.step_lines.specs.Plans.{IsPlanOf};
-ghost use Rattle.peer_runner.specs.Keys.{who_in, honest_of};
-ghost use Rattle.peer_runner.specs.Standings.{standing, IsNext};
+ghost use Rattle.peer_runner.specs.RunSetups.{config_in, honest_of};
+ghost use Rattle.peer_runner.specs.DerivedStates.{derived_state, IsNext};
 ghost use Rattle.peer_runner.specs.Actions.{accessed, accesses_in, looked};
 ghost use Rattle.peer_runner.specs.Rules.{front};
 ghost use Rattle.peer_runner.specs.Passes.{IsOf, added};
-ghost use Rattle.peer_runner.specs.Ways.{AreRoutes, is_guarded, way_in};
-ghost use Rattle.peer_runner.specs.Turns.{heard, looks_after, opens};
-ghost use Rattle.peer_runner.specs.Runners.{Runner, round_on, choice_at, chosen, place_in, place_for, Matches, tells_end, call_of, call_told, IsBegun, IsBegunIf, Closes, touches, MayMake, made, done_of, IsDone, holds_on, MayRingBy, due_at, looks_now, due_word, state_for, deed_met, turned, told_on, IsThere, IsAutoPeer, Turns};
+ghost use Rattle.peer_runner.specs.DoorbellPaths.{AreRoutes, is_guarded, doorbell_path_in};
+ghost use Rattle.peer_runner.specs.Turns.{interrupt_lines, looks_after, opens};
+ghost use Rattle.peer_runner.specs.Runners.{Runner, round_on, choice_at, chosen, place_in, place_for, Matches, is_end_choice, call_of, call_chosen_by, IsBegun, IsBegunIf, Closes, touches, MayMake, made, done_of, IsDone, awaits_ring, MayRingBy, due_at, looks_now, due_word, state_for, memory_op_met, turned, lines_on, IsThere, IsAutoPeer, Turns};
 
 use crate::accesses::{load, set_state, store};
 use crate::bells::ring_turn;
+use crate::doorbell_paths::Done;
 use crate::interrupts::look;
-use crate::notes::{tell_access, tell_done, tell_heard};
+use crate::notes::{record_access, record_interrupts, record_step};
 use crate::rule::Begins;
 use crate::sessions::{SessionWord, load_session, store_session};
-use crate::ways::Done;
 use crate::words::{Pass, Words};
 use doorbell_irq::Route;
 use ivs_base::NoMemory;
@@ -37,9 +37,9 @@ use step_lines::count_notes;
 
 /// What the peer chooses where no call is open.
 pub fn choose(auto: &mut Auto, end: &Endpoint) -> Option<Choice>
-    ensures chosen { (who : Who) (at : End) (place : places.Place) (plan : peers.Auto) → StandsAt end.now who at place → IsPlanOf auto.old plan → Matches result auto.new.frames (choice_at at place plan) }
+    ensures chosen { (config : EndConfig) (at : End) (place : places.Place) (plan : peers.Auto) → RefinesAt end.now config at place → IsPlanOf auto.old plan → Matches result auto.new.frames (choice_at at place plan) }
     ensures closes { Closes result (is_busy end.now) }
-    ensures plan { (who : Who) (at : End) (place : places.Place) (plan : peers.Auto) → StandsAt end.now who at place → IsPlanOf auto.old plan → IsPlanOf auto.new (round_on plan (choice_at at place plan)) }
+    ensures plan { (config : EndConfig) (at : End) (place : places.Place) (plan : peers.Auto) → RefinesAt end.now config at place → IsPlanOf auto.old plan → IsPlanOf auto.new (round_on plan (choice_at at place plan)) }
 {
     if end.busy() {
         return None;
@@ -49,7 +49,7 @@ pub fn choose(auto: &mut Auto, end: &Endpoint) -> Option<Choice>
 
 /// Is nothing left to do?
 pub fn is_finished(choice: Option<Choice>) -> bool
-    ensures { result ≡ tells_end choice }
+    ensures { result ≡ is_end_choice choice }
 {
     matches!(choice, Some(Choice::Finished))
 }
@@ -57,10 +57,10 @@ pub fn is_finished(choice: Option<Choice>) -> bool
 /// Opens the call that was chosen.
 fn begin(auto: &Auto, end: &mut Endpoint, choice: Choice)
     requires closed { is_busy end.old ≡ false }
-    requires chosen { IsBegun end.old.who.sizes.mtu choice auto.now.frames }
-    ensures stands { (who : Who) (at : End) → StandsAt end.old who at places.Closed → StandsAt end.new who at (place_for who at places.Closed (call_of choice auto.now.frames)) }
+    requires chosen { IsBegun end.old.config.sizes.mtu choice auto.now.frames }
+    ensures refines { (config : EndConfig) (at : End) → RefinesAt end.old config at places.Closed → RefinesAt end.new config at (place_for config at places.Closed (call_of choice auto.now.frames)) }
     ensures open { is_busy end.new ≡ true }
-    ensures who { end.new.who ≡ end.old.who }
+    ensures config { end.new.config ≡ end.old.config }
 {
     match choice {
         Choice::Tick => end.begin(Call::Tick),
@@ -76,10 +76,10 @@ fn begin(auto: &Auto, end: &mut Endpoint, choice: Choice)
 /// Opens the call that was chosen, if one was.
 fn open_call(auto: &Auto, end: &mut Endpoint, choice: Option<Choice>)
     requires closed { Closes choice (is_busy end.old) }
-    requires chosen { IsBegunIf end.old.who.sizes.mtu choice auto.now.frames }
-    ensures stands { (who : Who) (r : Runner) → StandsAt end.old who r.end r.place → Matches choice auto.now.frames (chosen r) → StandsAt end.new who r.end (place_in who r) }
+    requires chosen { IsBegunIf end.old.config.sizes.mtu choice auto.now.frames }
+    ensures refines { (config : EndConfig) (r : Runner) → RefinesAt end.old config r.end r.place → Matches choice auto.now.frames (chosen r) → RefinesAt end.new config r.end (place_in config r) }
     ensures open { is_busy end.new ≡ true }
-    ensures who { end.new.who ≡ end.old.who }
+    ensures config { end.new.config ≡ end.old.config }
 {
     if let Some(choice) = choice {
         begin(auto, end, choice);
@@ -95,7 +95,7 @@ fn has_no_frame(auto: &Auto) -> bool
 
 /// How many looks stand before the next choice of a peer that takes interrupts: one, or 64 where it sleeps.
 pub fn looks_due(auto: &Auto, end: &Endpoint) -> u32
-    ensures due { (who : Who) (at : End) (place : places.Place) (plan : peers.Auto) → StandsAt end.now who at place → IsPlanOf auto.now plan → result ≡ due_at who at place plan }
+    ensures due { (config : EndConfig) (at : End) (place : places.Place) (plan : peers.Auto) → RefinesAt end.now config at place → IsPlanOf auto.now plan → result ≡ due_at config at place plan }
     ensures most { result ≤ 64 }
 {
     if end.busy() {
@@ -136,11 +136,11 @@ pub fn look_turn(
     requires of { IsOf words.now.shared.table_id words.now.shared.key pass.old × (peers ≡ words.now.shared.key.geometry.peers) × (0 < length pass.old.lists) }
     requires own { pass.old.from ≡ me }
     requires few { looks.old < 64 }
-    ensures { (found : ℕ) × (pass.new ≡ added pass.old (looked found)) × (looks.new ≡ looks_after looks.old found) × OnOk result (lines.new ≡ lines.old ++ heard 64 me found) }
+    ensures { (found : ℕ) × (pass.new ≡ added pass.old (looked found)) × (looks.new ≡ looks_after looks.old found) × OnOk result (lines.new ≡ lines.old ++ interrupt_lines 64 me found) }
 {
     let found = look(words, pass, peers, me);
     *looks = looks_after(*looks, found);
-    tell_heard(me, found, lines)
+    record_interrupts(me, found, lines)
 }
 
 /// Does what a turn does of the step with this access. `_auto` and `_choice` tell the proof which call the access begins.
@@ -154,14 +154,14 @@ fn take<B: Begins>(
     _auto: &Auto,
     _choice: Option<Choice>,
 ) -> Done
-    requires next { touches access ≡ true → IsNext words.now.shared.key me (standing words.now.shared.key me (accesses_in (front pass.old.lists))) B.call access }
+    requires next { touches access ≡ true → IsNext words.now.shared.key me (derived_state words.now.shared.key me (accesses_in (front pass.old.lists))) B.call access }
     requires of { IsOf words.now.shared.table_id words.now.shared.key pass.old × (pass.old.from ≡ me) × (0 < length pass.old.lists) }
     requires routes { AreRoutes words.now.shared.key routes.now }
     requires may { MayMake words.now.shared.key me access }
     requires rings { ringing ≡ true → MayRingBy routes.now access (front pass.old.lists) }
-    ensures done { IsDone ringing (is_guarded (way_in routes.now access)) result }
+    ensures done { IsDone ringing (is_guarded (doorbell_path_in routes.now access)) result }
     ensures pass { pass.new ≡ made pass.old (done_of routes.now B.call access result) }
-    ensures rings { holds_on result ≡ true → MayRingBy routes.now access (front pass.new.lists) }
+    ensures rings { awaits_ring result ≡ true → MayRingBy routes.now access (front pass.new.lists) }
 {
     match access {
         Access::Read(word) => Done::Stepped(load::<B>(words, pass, word)),
@@ -191,14 +191,14 @@ fn take_for(
     auto: &Auto,
     choice: Option<Choice>,
 ) -> Done
-    requires next { touches access ≡ true → IsNext words.now.shared.key me (standing words.now.shared.key me (accesses_in (front pass.old.lists))) (call_told choice auto.now.frames) access }
+    requires next { touches access ≡ true → IsNext words.now.shared.key me (derived_state words.now.shared.key me (accesses_in (front pass.old.lists))) (call_chosen_by choice auto.now.frames) access }
     requires of { IsOf words.now.shared.table_id words.now.shared.key pass.old × (pass.old.from ≡ me) × (0 < length pass.old.lists) }
     requires routes { AreRoutes words.now.shared.key routes.now }
     requires may { MayMake words.now.shared.key me access }
     requires rings { ringing ≡ true → MayRingBy routes.now access (front pass.old.lists) }
-    ensures done { IsDone ringing (is_guarded (way_in routes.now access)) result }
-    ensures pass { pass.new ≡ made pass.old (done_of routes.now (call_told choice auto.now.frames) access result) }
-    ensures rings { holds_on result ≡ true → MayRingBy routes.now access (front pass.new.lists) }
+    ensures done { IsDone ringing (is_guarded (doorbell_path_in routes.now access)) result }
+    ensures pass { pass.new ≡ made pass.old (done_of routes.now (call_chosen_by choice auto.now.frames) access result) }
+    ensures rings { awaits_ring result ≡ true → MayRingBy routes.now access (front pass.new.lists) }
 {
     take::<Brand>(words, pass, me, routes, access, ringing, auto, choice)
 }
@@ -222,7 +222,7 @@ pub struct AutoPeer {
 
 /// The session word to which the peer comes before its next step, if that is its State step with 2 or with 3 and it has met no number for it.
 pub fn word_due(end: &Endpoint, met: Option<u32>) -> Option<SessionWord>
-    ensures { (who : Who) (at : End) (place : places.Place) → StandsAt end.now who at place → result ≡ due_word place met }
+    ensures { (config : EndConfig) (at : End) (place : places.Place) → RefinesAt end.now config at place → result ≡ due_word place met }
 {
     if met.is_some() || !end.busy() {
         return None;
@@ -235,12 +235,18 @@ pub fn word_due(end: &Endpoint, met: Option<u32>) -> Option<SessionWord>
 }
 
 /// A turn at a session word: stores the number of the session that the peer opens, or loads the other's. Returns the number.
-pub fn meet(words: &Words, pass: &mut Pass, me: u32, opened: u32, word: SessionWord) -> u32
+pub fn exchange_session_number(
+    words: &Words,
+    pass: &mut Pass,
+    me: u32,
+    opened: u32,
+    word: SessionWord,
+) -> u32
     requires honest { (me < 2) × (honest_of words.now.shared.key me ≡ true) }
-    requires place { (standing words.now.shared.key me (accesses_in (front pass.old.lists))).place ≡ Setting (state_for word) }
-    requires opened { (opened ≡ (standing words.now.shared.key me (accesses_in (front pass.old.lists))).numbers.log.opened) × (opened + 1 < 2 ^ 32) }
+    requires place { (derived_state words.now.shared.key me (accesses_in (front pass.old.lists))).place ≡ WritingState (state_for word) }
+    requires opened { (opened ≡ (derived_state words.now.shared.key me (accesses_in (front pass.old.lists))).numbers.log.opened) × (opened + 1 < 2 ^ 32) }
     requires of { IsOf words.now.shared.table_id words.now.shared.key pass.old × (pass.old.from ≡ me) × (0 < length pass.old.lists) }
-    ensures { (pass.new ≡ added pass.old (accessed (deed_met word result))) × (word ≡ SessionWord.Own → result ≡ opened + 1) }
+    ensures { (pass.new ≡ added pass.old (accessed (memory_op_met word result))) × (word ≡ SessionWord.Own → result ≡ opened + 1) }
 {
     match word {
         SessionWord::Own => {
@@ -279,10 +285,10 @@ pub fn take_turn(
     requires few { peer.old.opened + 1 < 2 ^ 32 }
     requires turns { (r : Runner) × Turns words.now.shared.key me routes.now r choice pass.old peer.old }
     ensures turned { (r : Runner) → Turns words.now.shared.key me routes.now r choice pass.old peer.old →
-        (done : Done) × IsDone peer.old.ringing (is_guarded (way_in routes.now (access_at (who_in words.now.shared.key me) (place_in (who_in words.now.shared.key me) r)))) done
-        × IsThere words.now.shared.key me routes.now (turned routes.now (who_in words.now.shared.key me) r done) pass.new peer.new.end
-        × IsAutoPeer peer.new (turned routes.now (who_in words.now.shared.key me) r done)
-        × OnOk result (lines.new ≡ lines.old ++ told_on (who_in words.now.shared.key me) r done) }
+        (done : Done) × IsDone peer.old.ringing (is_guarded (doorbell_path_in routes.now (access_at (config_in words.now.shared.key me) (place_in (config_in words.now.shared.key me) r)))) done
+        × IsThere words.now.shared.key me routes.now (turned routes.now (config_in words.now.shared.key me) r done) pass.new peer.new.end
+        × IsAutoPeer peer.new (turned routes.now (config_in words.now.shared.key me) r done)
+        × OnOk result (lines.new ≡ lines.old ++ lines_on (config_in words.now.shared.key me) r done) }
     ensures id { pass.new.table_id ≡ pass.old.table_id }
 {
     let first = choice.is_some();
@@ -291,9 +297,9 @@ pub fn take_turn(
     let (ringing, auto) = (peer.ringing, &peer.auto);
     let done = take_for(words, pass, me, routes, access, ringing, auto, choice);
     peer.looks = 0;
-    peer.ringing = done.holds_on();
+    peer.ringing = done.awaits_ring();
     if peer.ringing {
-        return tell_access(me, access, 0, lines);
+        return record_access(me, access, 0, lines);
     }
     let (opened, met) = (peer.opened, peer.met);
     peer.opened = opened_after(opened, access);
@@ -301,7 +307,7 @@ pub fn take_turn(
     let taken = peer.end.took(done.value());
     let (end, notes) = (&peer.end, taken.as_slice());
     count_notes(&mut peer.auto, notes);
-    tell_done(
+    record_step(
         alloc, me, first, opened, met, access, done, end, notes, lines,
     )
 }

@@ -2,14 +2,14 @@
 ghost use Rattle.std.specs.Prelude.{List, ℕ};
 ghost use Rattle.std.specs.Borrow.{ftrue};
 ghost use Rattle.peer_runner.specs.Actions.{Action};
-ghost use Rattle.peer_runner.specs.Standings.{Taken, Deed};
+ghost use Rattle.peer_runner.specs.DerivedStates.{CallAccess, MemoryOp};
 
 use std::marker::Model;
 
 /// The actions of each peer of a range that begins with `from`. No value of it is made.
 pub struct View {
     pub ghost from: { ℕ },
-    pub ghost lists: { List (List (Action (Deed Taken))) },
+    pub ghost lists: { List (List (Action (MemoryOp CallAccess))) },
 }
 
 impl Model for View {

@@ -3,25 +3,25 @@ ghost use Rattle.std.specs.Prelude.{◌≡◌, ◌<◌, ◌≤◌, ◌+◌, ◌+
 ghost use Rattle.std.specs.Int.{bit_at};
 ghost use Rattle.scenario_text.specs.Running.{not_running};
 ghost use Rattle.scenario_text.specs.Spelling.{world_of};
-ghost use Rattle.peer_runner.specs.Keys.{IsFit};
+ghost use Rattle.peer_runner.specs.RunSetups.{IsFit};
 ghost use Rattle.peer_runner.specs.Interrupts.{words_at_start};
-ghost use Rattle.peer_runner.specs.Rules.{lower, upper, learns, Tells, Told};
+ghost use Rattle.peer_runner.specs.Rules.{lower, upper, learns, LearnsExactly, IsLearned};
 ghost use Rattle.peer_runner.specs.Passes.{IsOf, IsWhole, IsUnused, lower_pass, upper_pass, join_passes};
 
-use crate::key::Key;
 use crate::routes::routes_of;
 use crate::rule::{Both, Rule};
+use crate::run_setup::RunSetup;
 use crate::view::View;
 use atomic_table::{Play, Seat, Split, Table};
-use ends_pair::{honest_ends_agree, runs_keep_the_whole};
 use ivs_base::NoMemory;
+use link_invariant::{honest_ends_agree, runs_keep_the_invariant};
 use pair_sessions::sessions_are_paired;
 use scenario_text::Scenario;
 use std::alloc::Global;
 use std::marker::{Brand, Model};
 
 /// The words of a region, and those for interrupts and for sessions behind them, which threads share, under the rule of running peers.
-pub type Words = Table<u8, View, Key, Rule, Global>;
+pub type Words = Table<u8, View, RunSetup, Rule, Global>;
 
 /// A seat at the words. It is seen as its range of peers, and the list of the actions of each.
 #[derive(Drop)]
@@ -31,9 +31,9 @@ pub struct Pass {
 
 impl Model for Pass {
     ghost use Rattle.std.specs.Prelude.{◌≡◌, []};
-    ghost use Rattle.peer_runner.specs.Held.{Held};
+    ghost use Rattle.peer_runner.specs.PassView.{PassView};
 
-    ghost Value = { Held };
+    ghost Value = { PassView };
 
     ghost view = { λ p. record { table_id = p.seat.table_id; from = p.seat.me.0.from; lists = p.seat.me.0.lists } };
 
@@ -51,7 +51,7 @@ fn push_words(words: &mut Vec<u64>, enabled: u32, peer: u32) -> Result<(), NoMem
 }
 
 /// The words of the region, behind them those of each peer, and last the two session words.
-fn first_words(alloc: Global, key: &Key) -> Result<Vec<u64>, NoMemory>
+fn first_words(alloc: Global, key: &RunSetup) -> Result<Vec<u64>, NoMemory>
     requires { IsFit key.now }
     ensures { IfOk result (λ v. v.items ≡ words_at_start key.now) }
 {
@@ -73,7 +73,7 @@ pub fn words_for(alloc: Global, scenario: &Scenario) -> Result<(Words, Pass), No
     ensures unused { IfOk result (λ r. IsUnused r.0.shared.key r.1) }
 {
     let routes = routes_of(scenario);
-    let key = Key::of(scenario, routes.as_slice());
+    let key = RunSetup::of(scenario, routes.as_slice());
     let first = first_words(alloc, &key)?;
     let (table, seat): (Words, Seat<u8, View>) = Table::of_words(alloc, first.as_slice(), &key)?;
     Ok((table, Pass { seat }))
@@ -114,12 +114,12 @@ pub fn join_pass(words: &Words, pass: &mut Pass, other: Pass)
 
 /// A load that adds no action, by which the pass tells what the rule says of its lists.
 fn learn_by<M: Play<u8, View>>(words: &Words, pass: &mut Pass)
-    requires tells { Tells M.then (learns words.now.shared.key) }
+    requires tells { LearnsExactly M.then (learns words.now.shared.key) }
     requires of { IsOf words.now.shared.table_id words.now.shared.key pass.old }
     ensures same { pass.new ≡ pass.old }
-    ensures told { Told words.now.shared.key pass.old.from pass.old.lists }
+    ensures told { IsLearned words.now.shared.key pass.old.from pass.old.lists }
 {
-    runs_keep_the_whole();
+    runs_keep_the_invariant();
     sessions_are_paired();
     honest_ends_agree();
     words.shared.load::<M>(&mut pass.seat, 0);
@@ -129,7 +129,7 @@ fn learn_by<M: Play<u8, View>>(words: &Words, pass: &mut Pass)
 pub(crate) fn learn(words: &Words, pass: &mut Pass)
     requires of { IsOf words.now.shared.table_id words.now.shared.key pass.old }
     ensures same { pass.new ≡ pass.old }
-    ensures told { Told words.now.shared.key pass.old.from pass.old.lists }
+    ensures told { IsLearned words.now.shared.key pass.old.from pass.old.lists }
 {
     learn_by::<Brand>(words, pass);
 }

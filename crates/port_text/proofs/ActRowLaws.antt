@@ -1,9 +1,9 @@
 -- Rows of acts: each act form's row is an act's, and an act is allowed exactly where its row can follow.
 use Rattle.std.proofs.Common.{◌≡◌, ℕ, ◌+◌, ◌≤◌, true, false, List, [], get_or, Some, None, Option, refl, sym, ap}
 use Rattle.std.specs.Option.{option_map_or}
-use Rattle.line_text.specs.Forms.{Fit, FitBytes}
-use Rattle.line_text.specs.Rows.{row, fields_of_row}
-use Rattle.line_text.proofs.FitLaws.{counted, list_1, list_2, list_3}
+use Rattle.line_format.specs.Forms.{Fit, FitBytes}
+use Rattle.line_format.specs.Rows.{row, fields_of_row}
+use Rattle.line_format.proofs.FitLaws.{counted, list_1, list_2, list_3}
 use Rattle.port_text.specs.declared.acts.Act.{Act}
 use Rattle.port_text.specs.declared.acts.Act.TheVariants as acts
 use Rattle.port_text.specs.declared.forms.Form.{Form}

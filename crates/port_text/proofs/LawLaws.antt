@@ -1,10 +1,10 @@
 -- The laws of all texts, from those of the machine over lines.
 use Rattle.std.proofs.Common.{◌≡◌, ℕ, ◌+◌, ◌<◌, List, ◌++◌, length, take, map, Err, refl, ap, subst, ◌∙◌, arith}
 use Rattle.std.proofs.lemmas.List.{length-map}
-use Rattle.line_text.specs.Forms.{cuts}
-use Rattle.line_text.specs.Machine.{After, text_of_lines}
-use Rattle.line_text.proofs.MachineLaws.{reads_cut, reads_after, is_first_wrong}
-use Rattle.line_text.proofs.RowLaws.{bare}
+use Rattle.line_format.specs.Forms.{cuts}
+use Rattle.line_format.specs.Machine.{After, text_of_lines}
+use Rattle.line_format.proofs.MachineLaws.{reads_cut, reads_after, is_first_wrong}
+use Rattle.line_format.proofs.RowLaws.{bare}
 use Rattle.port_text.specs.Table.{pieces_of}
 use Rattle.port_text.specs.Spelling.{rows_of, world_of}
 use Rattle.port_text.specs.Judge.{machine, at_start, faulted, world_in, answer}

@@ -1,8 +1,8 @@
 -- The test of a port's sizes says what a port asks for.
 use Rattle.std.proofs.Common.{◌≡◌, ℕ, ◌*◌, ◌≤◌, true, eq-eqb}
 use Rattle.std.proofs.lemmas.Bool.{leb-true, le-leb, eqb-true}
-use Rattle.line_text.proofs.SpellLaws.{both_true}
-use Rattle.line_text.proofs.LineLaws.{are_true}
+use Rattle.line_format.proofs.SpellLaws.{both_true}
+use Rattle.line_format.proofs.LineLaws.{are_true}
 use Rattle.port_text.specs.Sizes.{IsMessageSize, port_words, has_port}
 
 -- a section of so many words has room for a port

@@ -1,7 +1,7 @@
 -- What a call answers, against what the definitions say. Want of memory is the one free answer.
 use Rattle.std.specs.Prelude.{◌≡◌, Result, Ok, Err}
-use Rattle.line_text.specs.declared.reading.TextFault.{TextFault}
-use Rattle.line_text.specs.declared.reading.TextFault.TheVariants as texts
+use Rattle.line_format.specs.declared.reading.TextFault.{TextFault}
+use Rattle.line_format.specs.declared.reading.TextFault.TheVariants as texts
 use Rattle.port_text.specs.declared.faults.Cause.{Cause}
 use Rattle.port_text.specs.declared.faults.PortsFault.{PortsFault}
 use Rattle.port_text.specs.declared.faults.PortsFault.TheVariants as faults

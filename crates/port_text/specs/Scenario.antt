@@ -1,6 +1,6 @@
 -- What makes a schedule of ports (profile): a head gives the region, the size of messages and the kinds of peers, and then come acts.
 use Rattle.std.specs.Prelude.{◌≡◌, ℕ, ◌≤◌, ◌&&◌, not, nat_lt, nat_le, Bool, true, false, List, length, slice_index, slice_index_or, All}
-use Rattle.line_text.specs.Forms.{Fit, FitBytes}
+use Rattle.line_format.specs.Forms.{Fit, FitBytes}
 use Rattle.section_map.specs.Geometry.{Shape, IsShape, word_count}
 use Rattle.port_text.specs.declared.acts.Act.{Act}
 use Rattle.port_text.specs.declared.forms.Form.{Form}

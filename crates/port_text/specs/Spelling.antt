@@ -1,6 +1,6 @@
 -- Schedules of ports as texts: the rows of a schedule, one line each. So a schedule has one spelling.
 use Rattle.std.specs.Prelude.{◌≡◌, ℕ, ◌+◌, ◌*◌, Bool, true, false, List, [], ◌∷◌, ◌++◌, map}
-use Rattle.line_text.specs.Rows.{Row, row, text_of}
+use Rattle.line_format.specs.Rows.{Row, row, text_of}
 use Rattle.port_text.specs.declared.forms.Form.{Form}
 use Rattle.port_text.specs.declared.forms.Form.TheVariants.{Version, Peers, Out, Longest, Honest, Hostile, Begin, End}
 use Rattle.port_text.specs.declared.scenarios.Scenario.{Scenario}

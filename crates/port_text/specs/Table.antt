@@ -1,6 +1,6 @@
 -- The forms of the lines of a text of ports, by words and numbers (profile).
 use Rattle.std.specs.Prelude.{List, [], ◌∷◌, codes}
-use Rattle.line_text.specs.Forms.{Piece, Word, Number, Hex}
+use Rattle.line_format.specs.Forms.{Piece, Word, Number, Hex}
 use Rattle.scenario_text.specs.Table.{any_number, u32_number}
 use Rattle.port_text.specs.declared.forms.Form.{Form}
 use Rattle.port_text.specs.declared.forms.Form.TheVariants.{Version, Peers, Out, Longest, Honest, Hostile, Begin, Publish, Sample, Turn, Poke, End}

@@ -1,10 +1,10 @@
 //! The forms of the lines of a text of ports, as a table.
 ghost use Rattle.std.specs.Prelude.{◌≡◌, ◌≤◌, length};
-ghost use Rattle.line_text.specs.Forms.{pieces, texts};
-ghost use Rattle.line_text.specs.Rows.{find_form};
+ghost use Rattle.line_format.specs.Forms.{pieces, texts};
+ghost use Rattle.line_format.specs.Rows.{find_form};
 ghost use Rattle.port_text.specs.Table.{pieces_of, all_forms};
 
-use line_text::{Slot, has_form};
+use line_format::{FieldKind, has_form};
 
 /// A form of a line. Two words at one place are two forms.
 #[derive(Clone, Copy, Debug, PartialEq, Eq)]
@@ -50,35 +50,39 @@ const FORMS: [Form; 12] = [
     Form::End,
 ];
 
-const ANY: Slot = Slot::Number(0, u64::MAX);
+const ANY: FieldKind = FieldKind::Number(0, u64::MAX);
 
-const U32: Slot = Slot::Number(0, u32::MAX as u64);
+const U32: FieldKind = FieldKind::Number(0, u32::MAX as u64);
 
 impl Form {
     /// What stands in the fields of the form.
-    pub fn slots(self) -> &'static [Slot]
+    pub fn slots(self) -> &'static [FieldKind]
         ensures value { pieces result.now ≡ pieces_of self }
         ensures few { length result.now ≤ 6 }
     {
         match self {
-            Form::Version => &[Slot::Word(b"ports"), Slot::Number(1, 1)],
-            Form::Peers => &[Slot::Word(b"peers"), Slot::Number(2, 8)],
-            Form::Out => &[Slot::Word(b"out"), ANY],
-            Form::Longest => &[Slot::Word(b"message"), U32],
-            Form::Honest => &[Slot::Word(b"peer"), ANY, Slot::Word(b"honest")],
-            Form::Hostile => &[Slot::Word(b"peer"), ANY, Slot::Word(b"hostile")],
-            Form::Begin => &[Slot::Word(b"begin")],
-            Form::Publish => &[Slot::Word(b"publish"), ANY, Slot::Hex],
-            Form::Sample => &[Slot::Word(b"sample"), ANY, ANY],
-            Form::Turn => &[Slot::Word(b"turn"), ANY, Slot::Number(0, 4_000_000)],
-            Form::Poke => &[Slot::Word(b"poke"), ANY, U32, U32],
-            Form::End => &[Slot::Word(b"end")],
+            Form::Version => &[FieldKind::Word(b"ports"), FieldKind::Number(1, 1)],
+            Form::Peers => &[FieldKind::Word(b"peers"), FieldKind::Number(2, 8)],
+            Form::Out => &[FieldKind::Word(b"out"), ANY],
+            Form::Longest => &[FieldKind::Word(b"message"), U32],
+            Form::Honest => &[FieldKind::Word(b"peer"), ANY, FieldKind::Word(b"honest")],
+            Form::Hostile => &[FieldKind::Word(b"peer"), ANY, FieldKind::Word(b"hostile")],
+            Form::Begin => &[FieldKind::Word(b"begin")],
+            Form::Publish => &[FieldKind::Word(b"publish"), ANY, FieldKind::Hex],
+            Form::Sample => &[FieldKind::Word(b"sample"), ANY, ANY],
+            Form::Turn => &[
+                FieldKind::Word(b"turn"),
+                ANY,
+                FieldKind::Number(0, 4_000_000),
+            ],
+            Form::Poke => &[FieldKind::Word(b"poke"), ANY, U32, U32],
+            Form::End => &[FieldKind::Word(b"end")],
         }
     }
 }
 
 /// The form of a line with these fields.
-#[tactic(auto, unfolding(line_text::specs::Rows::find_form))]
+#[tactic(auto, unfolding(line_format::specs::Rows::find_form))]
 pub fn form_of(fields: &[&[u8]]) -> Option<Form>
     ensures { result ≡ find_form pieces_of all_forms (texts fields.now) }
 {

@@ -1,6 +1,6 @@
 //! The tests of a line, in their order.
 ghost use Rattle.std.specs.Prelude.{◌≡◌, ◌<◌, ◌≤◌, ◌^◌, length, slice_index, slice_index_or, false, IsTrue};
-ghost use Rattle.line_text.specs.Forms.{texts, AreInRange};
+ghost use Rattle.line_format.specs.Forms.{texts, AreInRange};
 ghost use Rattle.section_map.specs.Geometry.{word_count};
 ghost use Rattle.scenario_text.specs.Sizes.{is_geometry};
 ghost use Rattle.port_text.specs.Sizes.{ports_shape, has_port};
@@ -13,7 +13,7 @@ use crate::acts::{Act, Message};
 use crate::drafts::Draft;
 use crate::forms::Form;
 use crate::positions::Position;
-use line_text::{number, number_at};
+use line_format::{number, number_at};
 use section_map::Geometry;
 
 /// The bytes of the State Table of the region.

@@ -1,6 +1,6 @@
 //! Writing a text of ports.
 ghost use Rattle.std.specs.Prelude.{◌≡◌, ◌++◌, OnOk, map};
-ghost use Rattle.line_text.specs.Rows.{row, line_of_row, text_of};
+ghost use Rattle.line_format.specs.Rows.{row, line_of_row, text_of};
 ghost use Rattle.port_text.specs.Table.{pieces_of};
 ghost use Rattle.port_text.specs.ActRows.{row_of_act};
 ghost use Rattle.port_text.specs.Spelling.{world_of, row_of_peer, rows_of_peers, sizes_rows, spelling};
@@ -8,11 +8,11 @@ ghost use Rattle.port_text.specs.Spelling.{world_of, row_of_peer, rows_of_peers,
 use crate::acts::Act;
 use crate::forms::Form;
 use crate::scenarios::Scenario;
-use line_text::put_line;
+use line_format::put_line;
 use std::alloc::AllocError;
 
 /// Puts the line of a form last.
-#[tactic(auto, unfolding(line_text::specs::Rows::line_of_row))]
+#[tactic(auto, unfolding(line_format::specs::Rows::line_of_row))]
 fn put(out: &mut Vec<u8>, form: Form, numbers: &[u64], bytes: &[u8]) -> Result<(), AllocError>
     ensures { OnOk result (out.new.items ≡ out.old.items ++ line_of_row pieces_of (row form numbers.now bytes.now)) }
 {

@@ -14,7 +14,7 @@ use crate::faults::PortsFault;
 use crate::judging::TABLE;
 use crate::positions::Position;
 use crate::scenarios::Scenario;
-use line_text::read_text;
+use line_format::read_text;
 use scenario_text::Flags;
 use section_map::Geometry;
 use std::alloc::Global;

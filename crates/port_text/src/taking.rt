@@ -1,10 +1,10 @@
 //! Taking a line into a draft.
 ghost use Rattle.std.specs.Prelude.{◌≡◌, ◌<◌, ◌≤◌, ◌+◌, ◌^◌, IsTrue, slice_index, OnOk, IfOk, IfSome, option_map, true};
-ghost use Rattle.line_text.specs.Forms.{texts, AreInRange};
+ghost use Rattle.line_format.specs.Forms.{texts, AreInRange};
 ghost use Rattle.port_text.specs.Table.{pieces_of};
 ghost use Rattle.port_text.specs.Acts.{cost};
 ghost use Rattle.port_text.specs.Judge.{SoFar, numbers_in, message_in, add_head, with_act, with_peer, judge, step, fits_sizes, machine, is_sample};
-ghost use Rattle.line_text.specs.Reading.{Gives};
+ghost use Rattle.line_format.specs.Reading.{Gives};
 ghost use Rattle.port_text.specs.Drafts.{so_far};
 
 use crate::acts::{Act, Message};
@@ -17,7 +17,7 @@ use crate::judging::{
 use crate::positions::Position;
 use arrayvec::ArrayVec;
 use ivs_base::NoMemory;
-use line_text::{LineFault, TakeLines, hex_field, is_printable, number_at, numbers_in, read_hex};
+use line_format::{LineFault, TakeLines, hex_field, is_printable, number_at, numbers_in, read_hex};
 use std::alloc::Global;
 
 /// The most acts of a schedule.
@@ -158,7 +158,7 @@ impl TakeLines for Draft {
         if !is_printable(line) {
             return Err(LineFault::Wrong(Cause::BadLine));
         }
-        let Some(fields) = line_text::fields(line) else {
+        let Some(fields) = line_format::fields(line) else {
             return Err(LineFault::Wrong(Cause::BadLine));
         };
         let Some(form) = form_of(&fields) else {

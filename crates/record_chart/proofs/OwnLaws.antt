@@ -7,7 +7,7 @@ use Rattle.scenario_text.specs.Scenario.{World, is_link}
 use Rattle.link_machine.specs.LinkMachine.{Side, side_with, MayDeliver}
 use Rattle.lawful_history.specs.declared.line.Line.{Line}
 use Rattle.lawful_history.specs.declared.line.Line.TheVariants as kinds
-use Rattle.history_laws.specs.Told.{telling_of, side_told, side_of}
+use Rattle.history_laws.specs.SideEvents.{line_side_event_of, side_after_line, side_of}
 use Rattle.history_laws.specs.Rows.{EachLine, HasRow, KeepsRows, HistoriesRunTheMachine}
 use Rattle.record_chart.specs.Arrows.{begins_session, accepts, acceptances, delivered_after, delivery_count, source_of}
 use Rattle.record_chart.specs.Own.{DeliveriesHaveTheirArrows}
@@ -36,7 +36,7 @@ accept_accepted : (b : Bool) (frame : List ℕ) (side : Side) →
 accept_accepted true frame side = refl
 accept_accepted false frame side = refl
 
-told_accepted : (line : Line) (q : ℕ) (side : Side) → (side_told (telling_of line) q side).accepted ≡ accepted_then line q side.accepted
+told_accepted : (line : Line) (q : ℕ) (side : Side) → (side_after_line (line_side_event_of line) q side).accepted ≡ accepted_then line q side.accepted
 told_accepted (kinds.Read peer word value) q side = accepted_kept (peer == q) _ side _ refl refl
 told_accepted (kinds.Write peer word value) q side = refl
 told_accepted (kinds.Denied peer word) q side = refl
@@ -85,7 +85,7 @@ deliver_delivered : (b : Bool) (frame : List ℕ) (side : Side) →
 deliver_delivered true frame side = length_push side.delivered frame
 deliver_delivered false frame side = refl
 
-told_delivered : (line : Line) (p : ℕ) (side : Side) → length (side_told (telling_of line) p side).delivered ≡ delivered_after p line (length side.delivered)
+told_delivered : (line : Line) (p : ℕ) (side : Side) → length (side_after_line (line_side_event_of line) p side).delivered ≡ delivered_after p line (length side.delivered)
 told_delivered (kinds.Read peer word value) p side = delivered_kept (peer == p) _ side _ refl refl
 told_delivered (kinds.Write peer word value) p side = refl
 told_delivered (kinds.Denied peer word) p side = refl
@@ -124,7 +124,7 @@ deliveries_are p (line ∷ older) = ap (delivered_after p line) (deliveries_are 
 record IsAcceptance (q : ℕ) (before : List Line) (number : ℕ) (frame : List ℕ) : Type 0 where
   pub place : ℕ
   pub number_is : number ≡ place + 1
-  pub stands : slice_get before place ≡ Some (kinds.Accept q frame)
+  pub refines : slice_get before place ≡ Some (kinds.Accept q frame)
 
 abbrev Paired : ℕ → List Line → List ℕ → List (List ℕ) → Type 0
 Paired q before [] [] = Unit {0}
@@ -146,7 +146,7 @@ paired_more q before more [] [] paired = tt
 paired_more q before more [] (frame ∷ frames) paired = absurd paired
 paired_more q before more (n ∷ ns) [] paired = absurd paired
 paired_more q before more (n ∷ ns) (frame ∷ frames) (is, paired) = (
-  record { place = is.place; number_is = is.number_is; stands = get_left before more is.place (kinds.Accept q frame) is.stands },
+  record { place = is.place; number_is = is.number_is; refines = get_left before more is.place (kinds.Accept q frame) is.refines },
   paired_more q before
       more ns frames paired,
 )
@@ -190,10 +190,10 @@ paired_step : (b d : Bool) (q : ℕ) (line : Line) (before : List Line) (count :
     (if b then [] else if d then frames ++ frame_of line ∷ [] else frames)
 paired_step true d q line before count ns frames is counted paired = tt
 paired_step false true q line before count ns frames is counted paired =
-    let stands : slice_get (before ++ line ∷ []) (length before) ≡ Some (kinds.Accept q (frame_of line)) = get_last before line
+    let refines : slice_get (before ++ line ∷ []) (length before) ≡ Some (kinds.Accept q (frame_of line)) = get_last before line
     ∙ ap (λ (l : Line). Some l) (is_accept q line (sym is)) in
     paired_push q (before ++ line ∷ []) (count + 1) (frame_of line)
-    (record { place = length before; number_is = ap (λ (n : ℕ). n + 1) counted; stands = stands }) ns frames
+    (record { place = length before; number_is = ap (λ (n : ℕ). n + 1) counted; refines = refines }) ns frames
     (paired_more q before (line ∷ []) ns frames paired)
 paired_step false false q line before count ns frames is counted paired = paired_more q before (line ∷ []) ns frames paired
 
@@ -232,7 +232,7 @@ own_arrows machine world before after p frame is_world lawful zeroth first below
     let older : List Line = reverse before in
     let rows : KeepsRows world (reverse after ++ kinds.Deliver p frame ∷ older) =
     subst (KeepsRows world) (split before after (kinds.Deliver p frame)) (machine world (before ++ kinds.Deliver p frame ∷ after) is_world lawful) in
-    let here = each_back (λ older line. HasRow world older line (telling_of line)) (reverse after) (kinds.Deliver p frame ∷ older) rows in
+    let here = each_back (λ older line. HasRow world older line (line_side_event_of line)) (reverse after) (kinds.Deliver p frame ∷ older) rows in
     let may : MayDeliver (is_link world (1 - p)) (side_of older p) (side_of older (1 - p)) frame = here.0.1.1.2 in
     let due : slice_get (side_of older (1 - p)).accepted (length (side_of older p).delivered) ≡ Some frame =
     subst (λ (b : Bool). MayDeliver b (side_of older p) (side_of older (1 - p)) frame) (other_link world p zeroth first below) may in
@@ -243,5 +243,5 @@ own_arrows machine world before after p frame is_world lawful zeroth first below
       found.accepted.place,
       source,
       subst (λ (ls : List Line). slice_get ls found.accepted.place ≡ Some (kinds.Accept (1 - p) frame))
-          (reverse-reverse before) found.accepted.stands,
+          (reverse-reverse before) found.accepted.refines,
     )

@@ -9,19 +9,19 @@ use Rattle.scenario_text.specs.Scenario.{World}
 use Rattle.call_grammar.specs.Steps.{Step, value_given, step_of}
 use Rattle.call_grammar.specs.Trees.{CallTree, Ended, Does, Reads, Goes}
 use Rattle.call_grammar.specs.Ends.{End}
-use Rattle.call_grammar.specs.Calls.{Who, Call, Tick, Stop, Offer, Poll, in_run, job_of, tree_of}
+use Rattle.call_grammar.specs.Calls.{EndConfig, Call, Tick, Stop, Offer, Poll, in_run, pending_of, tree_of}
 use Rattle.call_grammar.specs.Polls.{is_last}
 use Rattle.call_grammar.specs.Automatic.{Choice, ChoosesTick, ChoosesOffer, ChoosesPoll, IsFinished, choice_by_rule}
-use Rattle.call_grammar.specs.Places.{Place, Closed, Downed, AtUsedIndex, AtAvailIndex, remaining, first_place, next_place, access_at, step_at}
+use Rattle.call_grammar.specs.Places.{Place, Closed, NotInRun, ReadingUsedIndex, ReadingAvailIndex, remaining, first_place, next_place, access_at, step_at}
 use Rattle.call_grammar.proofs.Following.{following}
 use Rattle.lawful_history.specs.declared.line.Line.{Line}
 use Rattle.lawful_history.specs.declared.line.Line.TheVariants as line
-use Rattle.lawful_history.specs.Schedule.{Event, Asked, Automated, Stormed, Turned, Acted, WasReset, Reached, Loses, Repeated, event_peer}
-use Rattle.lawful_history.specs.Sides.{who_of}
+use Rattle.lawful_history.specs.Schedule.{Event, CallQueued, AutoStarted, StormStarted, TurnTaken, RegionAccessed, DeviceReset, DeviceAccessed, InterruptDropped, InterruptRepeated, event_peer}
+use Rattle.lawful_history.specs.Sides.{config_of}
 use Rattle.lawful_history.specs.Storm.{storm_step}
-use Rattle.lawful_history.specs.Entries.{Entry, owner, access_lines, mark_line, step_lines, turn_lines, denied_lines, acted_lines, lines_by, lines_of}
+use Rattle.lawful_history.specs.EventRecords.{EventRecord, owner, access_lines, mark_line, step_lines, turn_lines, denied_lines, region_access_lines, lines_by, lines_of}
 use Rattle.lawful_history.specs.Device.{losses_with, DeviceRules}
-use Rattle.lawful_history.specs.Order.{Chooser, Nobody, TheRule, TheStorm, chooser, asked_since, frames_left, delivered_in, Progress, chooses_by, chosen_next, asked_or_chosen, begins_by, begins, GoesOn, Idles, Moves, Turns, IsMade, Acts, outset, noted, Serves}
+use Rattle.lawful_history.specs.Order.{Chooser, Nobody, TheRule, TheStorm, chooser, queued_since_reset, frames_left, delivered_in, Progress, chooses_by, chosen_next, queued_or_chosen, begins_by, begins, GoesOn, IdleStep, CallStep, Turns, IsMade, EventStep, initial_progress, noted, IsCallSequence}
 use Rattle.record_text.specs.Spelling.{Fits}
 use Rattle.record_sizes.proofs.LineBytes.{lines_cost, priced}
 use Rattle.record_sizes.proofs.Paying.{prices, marks_price, interrupts_price, credit, pays}
@@ -54,28 +54,28 @@ step_bytes peer step device fits few =
 
 -- the device's lines are among those of an entry
 device_fits : (event : Event) (went : Option Step) (device : List Line) → AreFitting (lines_by event went device) → AreFitting device
-device_fits (Asked peer call) went device fits = fits
-device_fits (Automated peer expected) went device fits = fits
-device_fits (Stormed peer seed) went device fits = fits
-device_fits (Turned peer) None device fits = fits.1
-device_fits (Turned peer) (Some step) device fits =
+device_fits (CallQueued peer call) went device fits = fits
+device_fits (AutoStarted peer expected) went device fits = fits
+device_fits (StormStarted peer seed) went device fits = fits
+device_fits (TurnTaken peer) None device fits = fits.1
+device_fits (TurnTaken peer) (Some step) device fits =
     (parts_fit device (map (mark_line peer) step.marks) (parts_fit (access_lines peer step.access step.value) (device ++ map (mark_line peer) step.marks) fits).1).0
-device_fits (Acted peer a) None device fits = (parts_fit (denied_lines peer a) device fits).1
-device_fits (Acted peer a) (Some step) device fits =
+device_fits (RegionAccessed peer a) None device fits = (parts_fit (denied_lines peer a) device fits).1
+device_fits (RegionAccessed peer a) (Some step) device fits =
     (parts_fit device (map (mark_line peer) step.marks) (parts_fit (access_lines peer step.access step.value) (device ++ map (mark_line peer) step.marks) fits).1).0
-device_fits (WasReset peer) went device fits = fits.1
-device_fits (Reached peer a) went device fits = fits
-device_fits (Loses peer) went device fits = fits
-device_fits (Repeated peer vector) went device fits = fits
+device_fits (DeviceReset peer) went device fits = fits.1
+device_fits (DeviceAccessed peer a) went device fits = fits
+device_fits (InterruptDropped peer) went device fits = fits
+device_fits (InterruptRepeated peer vector) went device fits = fits
 
 -- An entry of a peer of one digit whose lines fit, and whose device's lines have their room
 
-pub record IsRoomy (entry : Entry) : Type 0 where
+pub record IsRoomy (entry : EventRecord) : Type 0 where
   pub one : length (decimal (owner entry)) ≤ 1
   pub fits : AreFitting (lines_of entry)
   pub few : lines_cost entry.device ≤ device_room entry.event entry.went
 
-pub all_roomy : (world : World) → world.geometry.peers ≤ 8 → (older : List Line) (losses : ℕ → ℕ) (entries : List Entry) → DeviceRules world older losses entries →
+pub all_roomy : (world : World) → world.geometry.peers ≤ 8 → (older : List Line) (losses : ℕ → ℕ) (entries : List EventRecord) → DeviceRules world older losses entries →
     AllByRecursion (λ entry. owner entry < world.geometry.peers) entries → AllByRecursion (λ entry. AreFitting (lines_of entry)) entries → AllByRecursion IsRoomy entries
 all_roomy world few older losses [] rules owners fits = tt
 all_roomy world few older losses (entry ∷ entries) rules owners fits =
@@ -89,55 +89,55 @@ all_roomy world few older losses (entry ∷ entries) rules owners fits =
 
 -- What a peer has spent: it is at a place of its open call
 
-pub record Owes (who : Who) (peer : Progress) (spent count : ℕ) : Type 0 where
+pub record Owes (config : EndConfig) (peer : Progress) (spent count : ℕ) : Type 0 where
   pub place : Place
-  pub at : peer.left ≡ remaining who place
+  pub at : peer.left ≡ remaining config place
   pub paid : spent + credit place ≤ 200 * count
 
 -- The call that a turn begins has paid for nothing yet
 
-record StandsAt (who : Who) (peer : Progress) (most : ℕ) : Type 0 where
+record StandsAt (config : EndConfig) (peer : Progress) (most : ℕ) : Type 0 where
   place : Place
-  at : peer.left ≡ remaining who place
+  at : peer.left ≡ remaining config place
   few : credit place ≤ most
 
-by_run : (b : Bool) (place : Place) → credit place ≡ 0 → credit (if b then place else Downed) ≡ 0
+by_run : (b : Bool) (place : Place) → credit place ≡ 0 → credit (if b then place else NotInRun) ≡ 0
 by_run true place none = none
 by_run false place none = refl
 
-first_credit : (who : Who) (end : End) (call : Call) → credit (first_place who end call) ≡ 0
-first_credit who end Tick = refl
-first_credit who end Stop = refl
-first_credit who end (Offer frame) = by_run (in_run end.handshake.phase) (AtUsedIndex (job_of who end frame) end.freed) refl
-first_credit who end Poll = by_run (in_run end.handshake.phase) (AtAvailIndex (length end.delivered) (is_last who end.found_none)) refl
+first_credit : (config : EndConfig) (end : End) (call : Call) → credit (first_place config end call) ≡ 0
+first_credit config end Tick = refl
+first_credit config end Stop = refl
+first_credit config end (Offer frame) = by_run (in_run end.handshake.phase) (ReadingUsedIndex (pending_of config end frame) end.freed) refl
+first_credit config end Poll = by_run (in_run end.handshake.phase) (ReadingAvailIndex (length end.delivered) (is_last config end.found_none)) refl
 
-begun_at : (who : Who) (end : End) (call : Call) (peer : Progress) (most : ℕ) → peer.left ≡ tree_of who end call → StandsAt who peer most
-begun_at who end call peer most is = record {
-  place = first_place who end call;
-  at = is ∙ sym (following.begins who end call);
-  few = omega (arith, first_credit who end call);
+begun_at : (config : EndConfig) (end : End) (call : Call) (peer : Progress) (most : ℕ) → peer.left ≡ tree_of config end call → StandsAt config peer most
+begun_at config end call peer most is = record {
+  place = first_place config end call;
+  at = is ∙ sym (following.begins config end call);
+  few = omega (arith, first_credit config end call);
 }
 
-chosen_at : (who : Who) (peer : Progress) (most : ℕ) (choice : Choice) → StandsAt who peer most → StandsAt who (chooses_by who peer choice) most
-chosen_at who peer most ChoosesTick at = begun_at who peer.end Tick _ most refl
-chosen_at who peer most (ChoosesOffer frame) at = begun_at who peer.end (Offer frame) _ most refl
-chosen_at who peer most ChoosesPoll at = begun_at who peer.end Poll _ most refl
-chosen_at who peer most IsFinished at = at
+chosen_at : (config : EndConfig) (peer : Progress) (most : ℕ) (choice : Choice) → StandsAt config peer most → StandsAt config (chooses_by config peer choice) most
+chosen_at config peer most ChoosesTick at = begun_at config peer.end Tick _ most refl
+chosen_at config peer most (ChoosesOffer frame) at = begun_at config peer.end (Offer frame) _ most refl
+chosen_at config peer most ChoosesPoll at = begun_at config peer.end Poll _ most refl
+chosen_at config peer most IsFinished at = at
 
-next_at : (who : Who) (peer : Progress) (most : ℕ) (chooser : Chooser) → StandsAt who peer most → StandsAt who (chosen_next who peer chooser) most
-next_at who peer most Nobody at = at
-next_at who peer most (TheRule expected) at =
-    chosen_at who peer most (choice_by_rule peer.end.handshake.phase peer.before (frames_left peer.past) (delivered_in peer.past) expected) at
-next_at who peer most TheStorm at = at
+next_at : (config : EndConfig) (peer : Progress) (most : ℕ) (chooser : Chooser) → StandsAt config peer most → StandsAt config (chosen_next config peer chooser) most
+next_at config peer most Nobody at = at
+next_at config peer most (TheRule expected) at =
+    chosen_at config peer most (choice_by_rule peer.end.handshake.phase peer.before (frames_left peer.past) (delivered_in peer.past) expected) at
+next_at config peer most TheStorm at = at
 
-asked_at : (who : Who) (peer : Progress) (most : ℕ) (call : Option Call) → StandsAt who peer most → StandsAt who (asked_or_chosen who peer call) most
-asked_at who peer most None at = next_at who peer most (chooser peer.past) at
-asked_at who peer most (Some call) at = begun_at who peer.end call _ most refl
+asked_at : (config : EndConfig) (peer : Progress) (most : ℕ) (call : Option Call) → StandsAt config peer most → StandsAt config (queued_or_chosen config peer call) most
+asked_at config peer most None at = next_at config peer most (chooser peer.past) at
+asked_at config peer most (Some call) at = begun_at config peer.end call _ most refl
 
-begins_at : (who : Who) (peer : Progress) (most : ℕ) (left : CallTree) → StandsAt who peer most → StandsAt who (begins_by who peer left) most
-begins_at who peer most Ended at = asked_at who peer most (slice_get (asked_since peer.past) peer.begun) at
-begins_at who peer most (Does a marks rest) at = at
-begins_at who peer most (Reads word marks rest) at = at
+begins_at : (config : EndConfig) (peer : Progress) (most : ℕ) (left : CallTree) → StandsAt config peer most → StandsAt config (begins_by config peer left) most
+begins_at config peer most Ended at = asked_at config peer most (slice_get (queued_since_reset peer.past) peer.begun) at
+begins_at config peer most (Does a marks rest) at = at
+begins_at config peer most (Reads word marks rest) at = at
 
 -- An access without marks
 
@@ -167,22 +167,22 @@ denied_bytes peer a device fits few =
 -- An entry pays
 
 -- the peer is at this place then, and the lines cost no more than what the place before has paid for and 200
-owes_then : (who : Who) (peer : Progress) (place : Place) (spent bytes before count : ℕ) → peer.left ≡ remaining who place → spent + before ≤ 200 * count → bytes + credit place ≤ before + 200 →
-    Owes who peer (spent + bytes) (suc count)
-owes_then who peer place spent bytes before count at paid few = record { place = place; at = at; paid = omega (arith, paid, few) }
+owes_then : (config : EndConfig) (peer : Progress) (place : Place) (spent bytes before count : ℕ) → peer.left ≡ remaining config place → spent + before ≤ 200 * count → bytes + credit place ≤ before + 200 →
+    Owes config peer (spent + bytes) (suc count)
+owes_then config peer place spent bytes before count at paid few = record { place = place; at = at; paid = omega (arith, paid, few) }
 
 module _ (world : World) (p : ℕ) where
   none_owes : (peer : ℕ) (old new : Progress) (went : Option Step) (device : List Line) (spent before count : ℕ) → (went ≡ None) × (new ≡ old) → AreFitting (turn_lines peer went device) → lines_cost device ≤ step_room went →
-      spent + before ≤ 200 * count → StandsAt (who_of world p) old before → Owes (who_of world p) new (spent + lines_cost (turn_lines peer went device)) (suc count)
+      spent + before ≤ 200 * count → StandsAt (config_of world p) old before → Owes (config_of world p) new (spent + lines_cost (turn_lines peer went device)) (suc count)
   none_owes peer old new went device spent before count idles fits few paid at =
       let its = subst (λ (w : Option Step). AreFitting (turn_lines peer w device)) idles.0 fits in
       let room = subst (λ (w : Option Step). lines_cost device ≤ step_room w) idles.0 few in
       let idle = priced (line.Idle peer) its.0 in
       let bytes = subst (λ (w : Option Step). lines_cost (turn_lines peer w device) ≤ 200) (sym idles.0) (omega (arith, idle, room)) in
-      owes_then (who_of world p) new at.place spent _ before count (ap (λ (x : Progress). x.left) idles.1 ∙ at.at) paid (omega (arith, bytes, at.few))
+      owes_then (config_of world p) new at.place spent _ before count (ap (λ (x : Progress). x.left) idles.1 ∙ at.at) paid (omega (arith, bytes, at.few))
 
-  idle_owes : (peer : ℕ) → length (decimal peer) ≤ 1 → (old new : Progress) (chooser : Chooser) (went : Option Step) (device : List Line) (spent before count : ℕ) → Idles world p old chooser went new → AreFitting (turn_lines peer went device) → lines_cost device ≤ step_room went →
-      spent + before ≤ 200 * count → StandsAt (who_of world p) old before → Owes (who_of world p) new (spent + lines_cost (turn_lines peer went device)) (suc count)
+  idle_owes : (peer : ℕ) → length (decimal peer) ≤ 1 → (old new : Progress) (chooser : Chooser) (went : Option Step) (device : List Line) (spent before count : ℕ) → IdleStep world p old chooser went new → AreFitting (turn_lines peer went device) → lines_cost device ≤ step_room went →
+      spent + before ≤ 200 * count → StandsAt (config_of world p) old before → Owes (config_of world p) new (spent + lines_cost (turn_lines peer went device)) (suc count)
   idle_owes peer one old new Nobody went device spent before count idles fits few paid at = none_owes peer old new went device spent before count idles fits few paid at
   idle_owes peer one old new (TheRule expected) went device spent before count idles fits few paid at = none_owes peer old new went device spent before count idles fits few paid at
   idle_owes peer one old new TheStorm went device spent before count idles fits few paid at =
@@ -190,86 +190,86 @@ module _ (world : World) (p : ℕ) where
       let its = subst (λ (w : Option Step). AreFitting (turn_lines peer w device)) idles.0 fits in
       let room = subst (λ (w : Option Step). lines_cost device ≤ step_room w) idles.0 few in
       let bytes = subst (λ (w : Option Step). lines_cost (turn_lines peer w device) ≤ 200) (sym idles.0) (bare_bytes peer one step.access 0 device its room) in
-      owes_then (who_of world p) new at.place spent _ before count (ap (λ (x : Progress). x.left) idles.1 ∙ at.at) paid (omega (arith, bytes, at.few))
+      owes_then (config_of world p) new at.place spent _ before count (ap (λ (x : Progress). x.left) idles.1 ∙ at.at) paid (omega (arith, bytes, at.few))
 
   -- a step of the open call
   step_owes : (peer : ℕ) → length (decimal peer) ≤ 1 → (old new : Progress) (call : CallTree) (went : Option Step) (device : List Line) (spent before count : ℕ) → old.left ≡ call → GoesOn old call went new → AreFitting (turn_lines peer went device) → lines_cost device ≤ step_room went →
-      spent + before ≤ 200 * count → StandsAt (who_of world p) old before → Owes (who_of world p) new (spent + lines_cost (turn_lines peer went device)) (suc count)
+      spent + before ≤ 200 * count → StandsAt (config_of world p) old before → Owes (config_of world p) new (spent + lines_cost (turn_lines peer went device)) (suc count)
   step_owes peer one old new call went device spent before count is (step, left, made, goes, comes) fits few paid at =
-      let who = who_of world p in
-      let g = following.goes who at.place step left (subst (λ (t : CallTree). Goes t step left) (sym is ∙ at.at) goes) in
+      let config = config_of world p in
+      let g = following.goes config at.place step left (subst (λ (t : CallTree). Goes t step left) (sym is ∙ at.at) goes) in
       let value = g.0 in
-      let made' : went ≡ Some (step_at who at.place value) = made ∙ ap (λ (s : Step). Some s) g.1 in
+      let made' : went ≡ Some (step_at config at.place value) = made ∙ ap (λ (s : Step). Some s) g.1 in
       let its = subst (λ (w : Option Step). AreFitting (turn_lines peer w device)) made' fits in
       let room = subst (λ (w : Option Step). lines_cost device ≤ step_room w) made' few in
-      let cost = step_bytes peer (step_at who at.place value) device its room in
-      let pay = pays peer one who at.place (value_given (access_at who at.place) value) value in
-      let bytes = subst (λ (w : Option Step). lines_cost (turn_lines peer w device) + credit (next_place who at.place value) ≤ credit at.place + 200) (sym made') (omega (arith, cost, pay)) in
-      owes_then who new (next_place who at.place value) spent _ before count (ap (λ (x : Progress). x.left) comes ∙ g.2) paid (omega (arith, bytes, at.few))
+      let cost = step_bytes peer (step_at config at.place value) device its room in
+      let pay = pays peer one config at.place (value_given (access_at config at.place) value) value in
+      let bytes = subst (λ (w : Option Step). lines_cost (turn_lines peer w device) + credit (next_place config at.place value) ≤ credit at.place + 200) (sym made') (omega (arith, cost, pay)) in
+      owes_then config new (next_place config at.place value) spent _ before count (ap (λ (x : Progress). x.left) comes ∙ g.2) paid (omega (arith, bytes, at.few))
 
-  moves_owes : (peer : ℕ) → length (decimal peer) ≤ 1 → (old new : Progress) (call : CallTree) (went : Option Step) (device : List Line) (spent before count : ℕ) → old.left ≡ call → Moves world p old call went new → AreFitting (turn_lines peer went device) → lines_cost device ≤ step_room went →
-      spent + before ≤ 200 * count → StandsAt (who_of world p) old before → Owes (who_of world p) new (spent + lines_cost (turn_lines peer went device)) (suc count)
+  moves_owes : (peer : ℕ) → length (decimal peer) ≤ 1 → (old new : Progress) (call : CallTree) (went : Option Step) (device : List Line) (spent before count : ℕ) → old.left ≡ call → CallStep world p old call went new → AreFitting (turn_lines peer went device) → lines_cost device ≤ step_room went →
+      spent + before ≤ 200 * count → StandsAt (config_of world p) old before → Owes (config_of world p) new (spent + lines_cost (turn_lines peer went device)) (suc count)
   moves_owes peer one old new Ended went device spent before count is moves fits few paid at = idle_owes peer one old new (chooser old.past) went device spent before count moves fits few paid at
   moves_owes peer one old new (Does a marks rest) went device spent before count is moves fits few paid at = step_owes peer one old new (Does a marks rest) went device spent before count is moves fits few paid at
   moves_owes peer one old new (Reads word marks rest) went device spent before count is moves fits few paid at = step_owes peer one old new (Reads word marks rest) went device spent before count is moves fits few paid at
 
   turn_owes : (peer : ℕ) → length (decimal peer) ≤ 1 → (old new : Progress) (went : Option Step) (device : List Line) (spent count : ℕ) → Turns world p old went new → AreFitting (turn_lines peer went device) → lines_cost device ≤ step_room went →
-      Owes (who_of world p) old spent count → Owes (who_of world p) new (spent + lines_cost (turn_lines peer went device)) (suc count)
+      Owes (config_of world p) old spent count → Owes (config_of world p) new (spent + lines_cost (turn_lines peer went device)) (suc count)
   turn_owes peer one old new went device spent count turns fits few owes =
-      let at = begins_at (who_of world p) old (credit owes.place) old.left (record { place = owes.place; at = owes.at; few = omega arith }) in
-      moves_owes peer one (begins (who_of world p) old) new (begins (who_of world p) old).left went device spent (credit owes.place) count refl turns fits few owes.paid at
+      let at = begins_at (config_of world p) old (credit owes.place) old.left (record { place = owes.place; at = owes.at; few = omega arith }) in
+      moves_owes peer one (begins (config_of world p) old) new (begins (config_of world p) old).left went device spent (credit owes.place) count refl turns fits few owes.paid at
 
   -- an event that leaves the open call as it is
-  stays_owes : (old new : Progress) (spent bytes count : ℕ) → new.left ≡ old.left → bytes ≤ 200 → Owes (who_of world p) old spent count → Owes (who_of world p) new (spent + bytes) (suc count)
-  stays_owes old new spent bytes count same few owes = owes_then (who_of world p) new owes.place spent bytes (credit owes.place) count (same ∙ owes.at) owes.paid (omega (arith, few))
+  stays_owes : (old new : Progress) (spent bytes count : ℕ) → new.left ≡ old.left → bytes ≤ 200 → Owes (config_of world p) old spent count → Owes (config_of world p) new (spent + bytes) (suc count)
+  stays_owes old new spent bytes count same few owes = owes_then (config_of world p) new owes.place spent bytes (credit owes.place) count (same ∙ owes.at) owes.paid (omega (arith, few))
 
   -- the step that was made is this one
-  made_bytes : (peer : ℕ) → length (decimal peer) ≤ 1 → (a step : Access) (value : ℕ) (went : Option Step) (device : List Line) → went ≡ Some (step_of step value []) → AreFitting (acted_lines peer a went device) → lines_cost device ≤ step_room went → lines_cost (acted_lines peer a went device) ≤ 200
+  made_bytes : (peer : ℕ) → length (decimal peer) ≤ 1 → (a step : Access) (value : ℕ) (went : Option Step) (device : List Line) → went ≡ Some (step_of step value []) → AreFitting (region_access_lines peer a went device) → lines_cost device ≤ step_room went → lines_cost (region_access_lines peer a went device) ≤ 200
   made_bytes peer one a step value went device made fits few =
-      let its = subst (λ (w : Option Step). AreFitting (acted_lines peer a w device)) made fits in
+      let its = subst (λ (w : Option Step). AreFitting (region_access_lines peer a w device)) made fits in
       let room = subst (λ (w : Option Step). lines_cost device ≤ step_room w) made few in
-      subst (λ (w : Option Step). lines_cost (acted_lines peer a w device) ≤ 200) (sym made) (bare_bytes peer one step value device its room)
+      subst (λ (w : Option Step). lines_cost (region_access_lines peer a w device) ≤ 200) (sym made) (bare_bytes peer one step value device its room)
 
   -- an access of its own
-  acted_bytes : (peer : ℕ) → length (decimal peer) ≤ 1 → (a : Access) (went : Option Step) (device : List Line) → IsMade a went → AreFitting (acted_lines peer a went device) → lines_cost device ≤ step_room went → lines_cost (acted_lines peer a went device) ≤ 200
+  acted_bytes : (peer : ℕ) → length (decimal peer) ≤ 1 → (a : Access) (went : Option Step) (device : List Line) → IsMade a went → AreFitting (region_access_lines peer a went device) → lines_cost device ≤ step_room went → lines_cost (region_access_lines peer a went device) ≤ 200
   acted_bytes peer one (access.Read word) went device made fits few = made_bytes peer one (access.Read word) (access.Read word) made.0 went device made.1 fits few
   acted_bytes peer one (access.Write word written) went device (inl made) fits few = made_bytes peer one (access.Write word written) (access.Write word written) 0 went device made fits few
   acted_bytes peer one (access.Write word written) went device (inr none) fits few =
-      let its = subst (λ (w : Option Step). AreFitting (acted_lines peer (access.Write word written) w device)) none fits in
+      let its = subst (λ (w : Option Step). AreFitting (region_access_lines peer (access.Write word written) w device)) none fits in
       let room = subst (λ (w : Option Step). lines_cost device ≤ step_room w) none few in
-      subst (λ (w : Option Step). lines_cost (acted_lines peer (access.Write word written) w device) ≤ 200) (sym none) (denied_bytes peer (access.Write word written) device its room)
+      subst (λ (w : Option Step). lines_cost (region_access_lines peer (access.Write word written) w device) ≤ 200) (sym none) (denied_bytes peer (access.Write word written) device its room)
   acted_bytes peer one (access.State state) went device made fits few = made_bytes peer one (access.State state) (access.State state) 0 went device made fits few
   acted_bytes peer one (access.Ring target vector) went device made fits few = made_bytes peer one (access.Ring target vector) (access.Ring target vector) 0 went device made fits few
   acted_bytes peer one access.Nothing went device made fits few = made_bytes peer one access.Nothing access.Nothing 0 went device made fits few
 
-  event_owes : (old new : Progress) (event : Event) → length (decimal (event_peer event)) ≤ 1 → (went : Option Step) (device : List Line) (spent count : ℕ) → Acts world p old event went new → AreFitting (lines_by event went device) → lines_cost device ≤ device_room event went →
-      Owes (who_of world p) old spent count → Owes (who_of world p) new (spent + lines_cost (lines_by event went device)) (suc count)
-  event_owes old new (Asked peer call) one went device spent count acts fits few owes = stays_owes old new spent _ count (ap (λ (x : Progress). x.left) acts.1) (omega (arith, few)) owes
-  event_owes old new (Automated peer expected) one went device spent count acts fits few owes = stays_owes old new spent _ count (ap (λ (x : Progress). x.left) acts.1) (omega (arith, few)) owes
-  event_owes old new (Stormed peer seed) one went device spent count acts fits few owes = stays_owes old new spent _ count (ap (λ (x : Progress). x.left) acts.1) (omega (arith, few)) owes
-  event_owes old new (Turned peer) one went device spent count acts fits few owes = turn_owes peer one old new went device spent count acts fits few owes
-  event_owes old new (Acted peer a) one went device spent count acts fits few owes = stays_owes old new spent _ count (ap (λ (x : Progress). x.left) acts.1) (acted_bytes peer one a went device acts.0 fits few) owes
-  event_owes old new (WasReset peer) one went device spent count acts fits few owes =
+  event_owes : (old new : Progress) (event : Event) → length (decimal (event_peer event)) ≤ 1 → (went : Option Step) (device : List Line) (spent count : ℕ) → EventStep world p old event went new → AreFitting (lines_by event went device) → lines_cost device ≤ device_room event went →
+      Owes (config_of world p) old spent count → Owes (config_of world p) new (spent + lines_cost (lines_by event went device)) (suc count)
+  event_owes old new (CallQueued peer call) one went device spent count acts fits few owes = stays_owes old new spent _ count (ap (λ (x : Progress). x.left) acts.1) (omega (arith, few)) owes
+  event_owes old new (AutoStarted peer expected) one went device spent count acts fits few owes = stays_owes old new spent _ count (ap (λ (x : Progress). x.left) acts.1) (omega (arith, few)) owes
+  event_owes old new (StormStarted peer seed) one went device spent count acts fits few owes = stays_owes old new spent _ count (ap (λ (x : Progress). x.left) acts.1) (omega (arith, few)) owes
+  event_owes old new (TurnTaken peer) one went device spent count acts fits few owes = turn_owes peer one old new went device spent count acts fits few owes
+  event_owes old new (RegionAccessed peer a) one went device spent count acts fits few owes = stays_owes old new spent _ count (ap (λ (x : Progress). x.left) acts.1) (acted_bytes peer one a went device acts.0 fits few) owes
+  event_owes old new (DeviceReset peer) one went device spent count acts fits few owes =
       let first = priced (line.Reset peer) fits.0 in
-      owes_then (who_of world p) new Closed spent _ (credit owes.place) count (ap (λ (x : Progress). x.left) acts.1) owes.paid (omega (arith, first, few))
-  event_owes old new (Reached peer a) one went device spent count acts fits few owes = stays_owes old new spent _ count (ap (λ (x : Progress). x.left) acts.1) (omega (arith, few)) owes
-  event_owes old new (Loses peer) one went device spent count acts fits few owes = stays_owes old new spent _ count (ap (λ (x : Progress). x.left) acts.1) (omega (arith, few)) owes
-  event_owes old new (Repeated peer vector) one went device spent count acts fits few owes = stays_owes old new spent _ count (ap (λ (x : Progress). x.left) acts.1) (omega (arith, few)) owes
+      owes_then (config_of world p) new Closed spent _ (credit owes.place) count (ap (λ (x : Progress). x.left) acts.1) owes.paid (omega (arith, first, few))
+  event_owes old new (DeviceAccessed peer a) one went device spent count acts fits few owes = stays_owes old new spent _ count (ap (λ (x : Progress). x.left) acts.1) (omega (arith, few)) owes
+  event_owes old new (InterruptDropped peer) one went device spent count acts fits few owes = stays_owes old new spent _ count (ap (λ (x : Progress). x.left) acts.1) (omega (arith, few)) owes
+  event_owes old new (InterruptRepeated peer vector) one went device spent count acts fits few owes = stays_owes old new spent _ count (ap (λ (x : Progress). x.left) acts.1) (omega (arith, few)) owes
 
 -- The entries of a peer
 
-abbrev pub entries_cost : List Entry → ℕ
+abbrev pub entries_cost : List EventRecord → ℕ
 entries_cost [] = 0
 entries_cost (entry ∷ entries) = lines_cost (lines_of entry) + entries_cost entries
 
-all_owe : (world : World) (p : ℕ) (old new : Progress) (entries : List Entry) (spent count : ℕ) → AllByRecursion IsRoomy entries → Serves world p old entries new → Owes (who_of world p) old spent count →
-    Owes (who_of world p) new (spent + entries_cost entries) (count + length entries)
+all_owe : (world : World) (p : ℕ) (old new : Progress) (entries : List EventRecord) (spent count : ℕ) → AllByRecursion IsRoomy entries → IsCallSequence world p old entries new → Owes (config_of world p) old spent count →
+    Owes (config_of world p) new (spent + entries_cost entries) (count + length entries)
 all_owe world p old new [] spent count roomy serves owes = record { place = owes.place; at = ap (λ (x : Progress). x.left) serves ∙ owes.at; paid = omega (arith, owes.paid) }
 all_owe world p old new (entry ∷ entries) spent count roomy (mid, acts, serves) owes =
     let here = event_owes world p old mid entry.event roomy.0.one entry.went entry.device spent count acts roomy.0.fits roomy.0.few owes in
     let there = all_owe world p (noted mid entry) new entries (spent + lines_cost (lines_of entry)) (suc count) roomy.1 serves (record { place = here.place; at = here.at; paid = here.paid }) in
     record { place = there.place; at = there.at; paid = omega (arith, there.paid) }
 
-pub own_bytes : (world : World) (p : ℕ) (new : Progress) (entries : List Entry) → AllByRecursion IsRoomy entries → Serves world p outset entries new → entries_cost entries ≤ 200 * length entries
+pub own_bytes : (world : World) (p : ℕ) (new : Progress) (entries : List EventRecord) → AllByRecursion IsRoomy entries → IsCallSequence world p initial_progress entries new → entries_cost entries ≤ 200 * length entries
 own_bytes world p new entries roomy serves =
-    let owes = all_owe world p outset new entries 0 0 roomy serves (record { place = Closed; at = refl; paid = omega arith }) in omega (arith, owes.paid)
+    let owes = all_owe world p initial_progress new entries 0 0 roomy serves (record { place = Closed; at = refl; paid = omega arith }) in omega (arith, owes.paid)

@@ -12,9 +12,9 @@ use Rattle.scenario_text.specs.Scenario.{World}
 use Rattle.call_grammar.specs.Steps.{Step}
 use Rattle.lawful_history.specs.declared.line.Line.{Line}
 use Rattle.lawful_history.specs.declared.line.Line.TheVariants as line
-use Rattle.lawful_history.specs.Schedule.{Event, Asked, Automated, Stormed, Turned, Acted, WasReset, Reached, Loses, Repeated, DeviceAccess, ReadsConfig, WritesConfig, ReadsRegister, WritesRegister, ReadsMsix, WritesMsix}
-use Rattle.lawful_history.specs.Entries.{access_lines}
-use Rattle.lawful_history.specs.Device.{devices_of, device_events, lost_count, arrival, arrived, arrivals_by, told_by, brought_by, step_interrupts, reached_line, device_lines}
+use Rattle.lawful_history.specs.Schedule.{Event, CallQueued, AutoStarted, StormStarted, TurnTaken, RegionAccessed, DeviceReset, DeviceAccessed, InterruptDropped, InterruptRepeated, DeviceAccess, ReadsConfig, WritesConfig, ReadsRegister, WritesRegister, ReadsMsix, WritesMsix}
+use Rattle.lawful_history.specs.EventRecords.{access_lines}
+use Rattle.lawful_history.specs.Device.{devices_of, device_events, lost_count, arrival, arrived, arrivals_by, device_event_of, brought_by, step_interrupts, device_access_line, device_lines}
 use Rattle.record_text.specs.Spelling.{Fits}
 use Rattle.record_sizes.proofs.LineBytes.{line_cost, lines_cost, price, priced}
 use Rattle.record_sizes.proofs.Paying.{interrupts_price}
@@ -74,12 +74,12 @@ module _ (world : World) (few : world.geometry.peers ≤ 8) where
       lines_cost (brought_by world older losses (access_lines peer a value)) ≤ interrupts_price a
   access_bytes older losses peer (access.Read word) value fits = omega arith
   access_bytes older losses peer (access.Write word written) value fits = omega arith
-  access_bytes older losses peer (access.State state) value fits = event_bytes older losses (line.State peer state) (told_by (line.State peer state)) fits
-  access_bytes older losses peer (access.Ring target vector) value fits = event_bytes older losses (line.Doorbell peer target vector) (told_by (line.Doorbell peer target vector)) fits
+  access_bytes older losses peer (access.State state) value fits = event_bytes older losses (line.State peer state) (device_event_of (line.State peer state)) fits
+  access_bytes older losses peer (access.Ring target vector) value fits = event_bytes older losses (line.Doorbell peer target vector) (device_event_of (line.Doorbell peer target vector)) fits
   access_bytes older losses peer access.Nothing value fits = omega arith
 
   -- an access to a part of the device
-  reached_price : (older : List Line) (peer : ℕ) (a : DeviceAccess) → price (reached_line world older peer a) ≤ 47
+  reached_price : (older : List Line) (peer : ℕ) (a : DeviceAccess) → price (device_access_line world older peer a) ≤ 47
   reached_price older peer (ReadsConfig offset width) = omega arith
   reached_price older peer (WritesConfig offset width value) = omega arith
   reached_price older peer (ReadsRegister offset) = omega arith
@@ -94,15 +94,15 @@ step_room None = 0
 step_room (Some step) = interrupts_price step.access
 
 abbrev pub device_room : Event → Option Step → ℕ
-device_room (Asked peer call) went = 0
-device_room (Automated peer expected) went = 0
-device_room (Stormed peer seed) went = 0
-device_room (Turned peer) went = step_room went
-device_room (Acted peer a) went = step_room went
-device_room (WasReset peer) went = 144
-device_room (Reached peer a) went = 47
-device_room (Loses peer) went = 0
-device_room (Repeated peer vector) went = 24
+device_room (CallQueued peer call) went = 0
+device_room (AutoStarted peer expected) went = 0
+device_room (StormStarted peer seed) went = 0
+device_room (TurnTaken peer) went = step_room went
+device_room (RegionAccessed peer a) went = step_room went
+device_room (DeviceReset peer) went = 144
+device_room (DeviceAccessed peer a) went = 47
+device_room (InterruptDropped peer) went = 0
+device_room (InterruptRepeated peer vector) went = 24
 
 went_bytes : (world : World) → world.geometry.peers ≤ 8 → (older : List Line) (losses : ℕ → ℕ) (peer : ℕ) (went : Option Step) → AllByRecursion Fits (step_interrupts world older losses peer went) → lines_cost (step_interrupts world older losses peer went) ≤ step_room went
 went_bytes world few older losses peer None fits = omega arith
@@ -110,13 +110,13 @@ went_bytes world few older losses peer (Some step) fits = access_bytes world few
 
 pub device_bytes : (world : World) → world.geometry.peers ≤ 8 → (older : List Line) (losses : ℕ → ℕ) (event : Event) (went : Option Step) → AllByRecursion Fits (device_lines world older losses event went) →
     lines_cost (device_lines world older losses event went) ≤ device_room event went
-device_bytes world few older losses (Asked peer call) went fits = omega arith
-device_bytes world few older losses (Automated peer expected) went fits = omega arith
-device_bytes world few older losses (Stormed peer seed) went fits = omega arith
-device_bytes world few older losses (Turned peer) went fits = went_bytes world few older losses peer went fits
-device_bytes world few older losses (Acted peer a) went fits = went_bytes world few older losses peer went fits
-device_bytes world few older losses (WasReset peer) went fits = event_bytes world few older losses (line.Reset peer) (told_by (line.Reset peer)) fits
-device_bytes world few older losses (Reached peer a) went fits =
-    let one = priced (reached_line world older peer a) fits.0 in let most = reached_price world few older peer a in omega (arith, one, most)
-device_bytes world few older losses (Loses peer) went fits = omega arith
-device_bytes world few older losses (Repeated peer vector) went fits = let one = priced (line.Interrupt peer vector) fits.0 in omega (arith, one)
+device_bytes world few older losses (CallQueued peer call) went fits = omega arith
+device_bytes world few older losses (AutoStarted peer expected) went fits = omega arith
+device_bytes world few older losses (StormStarted peer seed) went fits = omega arith
+device_bytes world few older losses (TurnTaken peer) went fits = went_bytes world few older losses peer went fits
+device_bytes world few older losses (RegionAccessed peer a) went fits = went_bytes world few older losses peer went fits
+device_bytes world few older losses (DeviceReset peer) went fits = event_bytes world few older losses (line.Reset peer) (device_event_of (line.Reset peer)) fits
+device_bytes world few older losses (DeviceAccessed peer a) went fits =
+    let one = priced (device_access_line world older peer a) fits.0 in let most = reached_price world few older peer a in omega (arith, one, most)
+device_bytes world few older losses (InterruptDropped peer) went fits = omega arith
+device_bytes world few older losses (InterruptRepeated peer vector) went fits = let one = priced (line.Interrupt peer vector) fits.0 in omega (arith, one)

@@ -6,11 +6,11 @@ use Rattle.std.proofs.lemmas.Bool.{eqb-true, leb-true, ltb-true}
 use Rattle.std.proofs.lemmas.Fmt.{length-decimal-le}
 use Rattle.hex.specs.Hex.{lower_digits}
 use Rattle.hex.proofs.HexLemmas.{length-encode_with}
-use Rattle.line_text.specs.Forms.{Piece, Word, Number, Hex, spell, line_of, Fit, FitBytes, is_form, is_visible}
-use Rattle.line_text.specs.Rows.{Row, fields_of_row, text_of}
-use Rattle.line_text.proofs.LengthLaws.{widths}
-use Rattle.line_text.proofs.SpellLaws.{both_true}
-use Rattle.line_text.proofs.RowLaws.{bare, text-cons}
+use Rattle.line_format.specs.Forms.{Piece, Word, Number, Hex, spell, line_of, Fit, FitBytes, is_form, is_visible}
+use Rattle.line_format.specs.Rows.{Row, fields_of_row, text_of}
+use Rattle.line_format.proofs.LengthLaws.{widths}
+use Rattle.line_format.proofs.SpellLaws.{both_true}
+use Rattle.line_format.proofs.RowLaws.{bare, text-cons}
 use Rattle.split_ring.specs.declared.ranges.FieldName.{FieldName}
 use Rattle.split_ring.specs.declared.ranges.FieldName.TheVariants.{AvailIndex}
 use Rattle.lawful_history.specs.declared.line.Line.{Line}

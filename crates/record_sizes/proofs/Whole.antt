@@ -7,16 +7,16 @@ use Rattle.std.proofs.lemmas.List.{length-map, length-replicate}
 use Rattle.std.proofs.lemmas.List.Concat.{flat_map-cons}
 use Rattle.std.proofs.lemmas.List.Elements.{All-head, All-tail}
 use Rattle.std.proofs.lemmas.List.Sums.{sum_by-cons}
-use Rattle.line_text.specs.Rows.{row, text_of}
-use Rattle.line_text.proofs.RowLaws.{bare, text-cons}
+use Rattle.line_format.specs.Rows.{row, text_of}
+use Rattle.line_format.proofs.RowLaws.{bare, text-cons}
 use Rattle.scenario_text.specs.declared.acts.Act.{Act}
 use Rattle.scenario_text.specs.declared.acts.Act.TheVariants as act
 use Rattle.scenario_text.specs.Acts.{cost, turns_of}
 use Rattle.scenario_text.specs.Scenario.{World, IsWorld}
 use Rattle.scenario_text.specs.Spelling as scenario
 use Rattle.lawful_history.specs.declared.line.Line.{Line}
-use Rattle.lawful_history.specs.Schedule.{Event, Turned, events_of, schedule}
-use Rattle.lawful_history.specs.Entries.{Entry, event_of, owner, lines_of, own}
+use Rattle.lawful_history.specs.Schedule.{Event, TurnTaken, events_of, schedule}
+use Rattle.lawful_history.specs.EventRecords.{EventRecord, event_of, owner, lines_of, own}
 use Rattle.lawful_history.specs.Lawful.{IsLawful}
 use Rattle.record_text.specs.declared.forms.LineForm.TheVariants.{Count}
 use Rattle.record_text.specs.Table.{pieces_of}
@@ -31,7 +31,7 @@ use Rattle.record_sizes.proofs.Sharing.{all_pay}
 -- The acts of a scenario count for as many as its events
 
 act_events : (a : Act) → length (events_of a) ≡ cost a
-act_events (act.Turn peer steps) = length-replicate steps (Turned peer)
+act_events (act.Turn peer steps) = length-replicate steps (TurnTaken peer)
 act_events (act.Tick peer) = refl
 act_events _ = refl
 
@@ -47,15 +47,15 @@ by_recursion : {X : Type 0} (P : X → Type 0) (xs : List X) → All P xs → Al
 by_recursion P [] all = tt
 by_recursion P (x ∷ xs) all = (All-head P x xs all, by_recursion P xs (All-tail P x xs all))
 
-entries_fit : (entries : List Entry) → AreFitting (flat_map lines_of entries) → AllByRecursion (λ entry. AreFitting (lines_of entry)) entries
+entries_fit : (entries : List EventRecord) → AreFitting (flat_map lines_of entries) → AllByRecursion (λ entry. AreFitting (lines_of entry)) entries
 entries_fit [] fits = tt
 entries_fit (entry ∷ entries) fits = let parts = parts_fit (lines_of entry) (flat_map lines_of entries) fits in (parts.0, entries_fit entries parts.1)
 
-told_cost : (entries : List Entry) → lines_cost (flat_map lines_of entries) ≡ entries_cost entries
+told_cost : (entries : List EventRecord) → lines_cost (flat_map lines_of entries) ≡ entries_cost entries
 told_cost [] = refl
 told_cost (entry ∷ entries) = omega (arith, cost-append (lines_of entry) (flat_map lines_of entries), told_cost entries)
 
-own_roomy : (peer : ℕ) (entries : List Entry) → AllByRecursion IsRoomy entries → AllByRecursion IsRoomy (own peer entries)
+own_roomy : (peer : ℕ) (entries : List EventRecord) → AllByRecursion IsRoomy entries → AllByRecursion IsRoomy (own peer entries)
 own_roomy peer [] roomy = tt
 own_roomy peer (entry ∷ entries) roomy = own_by (owner entry == peer) roomy.0 (own_roomy peer entries roomy.1)
   where
@@ -66,7 +66,7 @@ own_roomy peer (entry ∷ entries) roomy = own_by (owner entry == peer) roomy.0 
 history_cost : (world : World) (lines : List Line) → IsWorld world → AreFitting lines → IsLawful world lines → lines_cost lines ≤ 200 * turns_of world.acts
 history_cost world lines is fits (entries, by) =
     let fitting = subst AreFitting (sym by.told) fits in
-    let owners = by_recursion (λ (entry : Entry). owner entry < world.geometry.peers) entries by.owners in
+    let owners = by_recursion (λ (entry : EventRecord). owner entry < world.geometry.peers) entries by.owners in
     let roomy = all_roomy world is.few [] (λ peer. 0) entries by.device owners (entries_fit entries fitting) in
     let each : (peer : ℕ) → peer < world.geometry.peers → entries_cost (own peer entries) ≤ 200 * length (own peer entries) =
     λ peer below. let calls = by.calls peer below in own_bytes world peer calls.0 (own peer entries) (own_roomy peer entries roomy) calls.1 in

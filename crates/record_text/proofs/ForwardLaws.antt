@@ -3,14 +3,14 @@ use Rattle.std.proofs.Common.{◌≡◌, ℕ, suc, ◌^◌, ◌<◌, true, false
 use Rattle.std.specs.List.{list_all}
 use Rattle.std.proofs.lemmas.List.{append-nil, map-append}
 use Rattle.std.proofs.lemmas.List.Concat.{flat_map-append, flat_map-cons}
-use Rattle.line_text.specs.Forms.{numbers_of, hex_of, hex_bytes, is_printable}
-use Rattle.line_text.specs.Rows.{Row, row, text_of, fields_of_row}
-use Rattle.line_text.specs.Machine.{Leads, HasNoNewline, text_of_lines}
-use Rattle.line_text.proofs.SpellLaws.{both_true, numbers_of-spell}
-use Rattle.line_text.proofs.LineLaws.{free_of}
-use Rattle.line_text.proofs.MachineLaws.{Goes, goes-append, goes-leads, reads}
-use Rattle.line_text.proofs.TableLaws.{finds}
-use Rattle.line_text.proofs.RowLaws.{IsRow, bare, row_plain, row_printable, row_cut, hex_of-spell, text_is_lines}
+use Rattle.line_format.specs.Forms.{numbers_of, hex_of, hex_bytes, is_printable}
+use Rattle.line_format.specs.Rows.{Row, row, text_of, fields_of_row}
+use Rattle.line_format.specs.Machine.{Leads, HasNoNewline, text_of_lines}
+use Rattle.line_format.proofs.SpellLaws.{both_true, numbers_of-spell}
+use Rattle.line_format.proofs.LineLaws.{free_of}
+use Rattle.line_format.proofs.MachineLaws.{Goes, goes-append, goes-leads, reads}
+use Rattle.line_format.proofs.TableLaws.{finds}
+use Rattle.line_format.proofs.RowLaws.{IsRow, bare, row_plain, row_printable, row_cut, hex_of-spell, text_is_lines}
 use Rattle.lawful_history.specs.declared.line.Line.{Line}
 use Rattle.scenario_text.specs.Scenario.{World}
 use Rattle.scenario_text.specs.Table as scenario_table

@@ -2,7 +2,7 @@
 use Rattle.std.proofs.Common.{List, [], ◌∷◌, ◌++◌, length, map, sym, ap, ◌∙◌, append_assoc, ℕ}
 use Rattle.std.proofs.lemmas.List.{append-nil, map-append}
 use Rattle.std.proofs.lemmas.List.Concat.{flat_map-append, flat_map-cons}
-use Rattle.line_text.specs.Rows.{Row, row, line_of_row, text_of}
+use Rattle.line_format.specs.Rows.{Row, row, line_of_row, text_of}
 use Rattle.record_text.specs.declared.forms.LineForm.{LineForm}
 use Rattle.record_text.specs.declared.forms.LineForm.TheVariants.{Count}
 use Rattle.record_text.specs.Table.{pieces_of}

@@ -3,7 +3,7 @@ use Rattle.std.proofs.Common.{◌≡◌, ℕ, ◌+◌, ◌<◌, List, [], ◌∷
 use Rattle.std.proofs.lemmas.List.{append-nil, take_more, map-append}
 use Rattle.std.proofs.lemmas.List.Concat.{flat_map-append, flat_map-cons}
 use Rattle.std.proofs.lemmas.List.Elements.{All-append}
-use Rattle.line_text.specs.Rows.{Row, line_of_row, text_of}
+use Rattle.line_format.specs.Rows.{Row, line_of_row, text_of}
 use Rattle.lawful_history.specs.declared.line.Line.{Line}
 use Rattle.record_text.specs.declared.forms.LineForm.{LineForm}
 use Rattle.record_text.specs.Table.{pieces_of}

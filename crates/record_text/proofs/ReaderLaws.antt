@@ -4,13 +4,13 @@ use Rattle.std.proofs.lemmas.Bool.{ne_eqb}
 use Rattle.std.proofs.lemmas.List.{length-map}
 use Rattle.std.proofs.lemmas.List.Concat.{flat_map-cons}
 use Rattle.std.proofs.lemmas.List.Splits.{slice_split_at}
-use Rattle.line_text.specs.declared.reading.TextFault.{TextFault}
-use Rattle.line_text.specs.Reading.{Reads}
-use Rattle.line_text.specs.Forms.{cuts}
-use Rattle.line_text.specs.Machine.{Machine, Wrong, At, After, read_pieces, text_of_lines}
-use Rattle.line_text.proofs.MachineLaws.{Goes, good, some_piece}
-use Rattle.line_text.proofs.ReadingLaws.{wrong_line, good_line, last_line, after_end}
-use Rattle.line_text.proofs.RowLaws.{bare, text_is_lines, text-cons}
+use Rattle.line_format.specs.declared.reading.TextFault.{TextFault}
+use Rattle.line_format.specs.Reading.{Reads}
+use Rattle.line_format.specs.Forms.{cuts}
+use Rattle.line_format.specs.Machine.{Machine, Wrong, At, After, read_pieces, text_of_lines}
+use Rattle.line_format.proofs.MachineLaws.{Goes, good, some_piece}
+use Rattle.line_format.proofs.ReadingLaws.{wrong_line, good_line, last_line, after_end}
+use Rattle.line_format.proofs.RowLaws.{bare, text_is_lines, text-cons}
 use Rattle.lawful_history.specs.declared.line.Line.{Line}
 use Rattle.lawful_history.specs.Frames.{HaveFrames}
 use Rattle.scenario_text.specs.declared.faults.Cause.{Cause}

@@ -3,13 +3,13 @@ use Rattle.std.proofs.Common.{◌≡◌, ◌≢◌, ℕ, suc, List, [], ◌∷�
 use Rattle.std.specs.Prelude.{All}
 use Rattle.std.specs.List.{join_with_byte}
 use Rattle.std.proofs.lemmas.List.Splits.{join_with_byte-slice_split}
-use Rattle.line_text.specs.Forms.{Piece, numbers_of, hex_of, hex_bytes, fields_of, cuts}
-use Rattle.line_text.specs.Rows.{Row, find_form, fields_of_row, text_of}
-use Rattle.line_text.proofs.SpellLaws.{numbers_of-spell}
-use Rattle.line_text.proofs.LineLaws.{cuts-line}
-use Rattle.line_text.proofs.TableLaws.{IsTable, finds}
-use Rattle.line_text.proofs.RowLaws.{IsRow, bare, row_printable, row_cut, hex_of-spell, text-cons}
-use Rattle.line_text.proofs.StepLaws.{same_some}
+use Rattle.line_format.specs.Forms.{Piece, numbers_of, hex_of, hex_bytes, fields_of, cuts}
+use Rattle.line_format.specs.Rows.{Row, find_form, fields_of_row, text_of}
+use Rattle.line_format.proofs.SpellLaws.{numbers_of-spell}
+use Rattle.line_format.proofs.LineLaws.{cuts-line}
+use Rattle.line_format.proofs.TableLaws.{IsTable, finds}
+use Rattle.line_format.proofs.RowLaws.{IsRow, bare, row_printable, row_cut, hex_of-spell, text-cons}
+use Rattle.line_format.proofs.StepLaws.{same_some}
 
 -- a row's line tells the row
 row_same : {F : Type 0} (pieces_of : F → List Piece) (forms : List F) → IsTable pieces_of forms → (r s : Row F) → IsRow pieces_of r → IsRow pieces_of s → bare pieces_of r ≡ bare pieces_of s → r ≡ s

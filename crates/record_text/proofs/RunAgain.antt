@@ -7,9 +7,9 @@ use Rattle.std.proofs.Math.Seq.{take-append_seam, drop-append_seam}
 use Rattle.std.proofs.lemmas.List.{take-append-le}
 use Rattle.std.proofs.lemmas.List.Concat.{flat_map-cons}
 use Rattle.std.proofs.lemmas.List.Elements.{All-append, All-cons}
-use Rattle.line_text.specs.Rows.{Row, row, text_of}
-use Rattle.line_text.proofs.RowLaws.{IsRow}
-use Rattle.line_text.proofs.StepLaws.{same_some}
+use Rattle.line_format.specs.Rows.{Row, row, text_of}
+use Rattle.line_format.proofs.RowLaws.{IsRow}
+use Rattle.line_format.proofs.StepLaws.{same_some}
 use Rattle.lawful_history.specs.declared.line.Line.{Line}
 use Rattle.scenario_text.specs.declared.faults.ScenarioFault.{ScenarioFault}
 use Rattle.scenario_text.specs.Scenario.{World, IsWorld}

@@ -4,8 +4,8 @@ use Rattle.std.specs.Prelude.{if◌then◌else◌, All, codes}
 use Rattle.std.proofs.lemmas.List.{append-nil, take_more, map-append, length-map}
 use Rattle.std.proofs.lemmas.List.Concat.{flat_map-append, flat_map-cons}
 use Rattle.std.proofs.lemmas.List.Elements.{All-append}
-use Rattle.line_text.specs.Forms.{line_of}
-use Rattle.line_text.specs.Rows.{Row, row, fields_of_row, line_of_row, text_of}
+use Rattle.line_format.specs.Forms.{line_of}
+use Rattle.line_format.specs.Rows.{Row, row, fields_of_row, line_of_row, text_of}
 use Rattle.lawful_history.specs.declared.line.Line.{Line}
 use Rattle.scenario_text.specs.Spelling as scenario
 use Rattle.record_text.specs.declared.run_forms.RunForm.{RunForm}

@@ -1,8 +1,8 @@
 -- The forms of a running record's lines are a table.
 use Rattle.std.proofs.Common.{◌≡◌, ℕ, ◌+◌, ◌<◌, ◌≤◌, true, length, Some, refl, arith}
 use Rattle.std.specs.Prelude.{slice_get}
-use Rattle.line_text.specs.Forms.{is_form}
-use Rattle.line_text.proofs.TableLaws.{IsTable}
+use Rattle.line_format.specs.Forms.{is_form}
+use Rattle.line_format.proofs.TableLaws.{IsTable}
 use Rattle.record_text.specs.declared.forms.LineForm.{LineForm}
 use Rattle.record_text.specs.declared.forms.LineForm.TheVariants.{Read}
 use Rattle.record_text.specs.declared.run_forms.RunForm.{RunForm}

@@ -1,6 +1,6 @@
 -- A record's text that is put together part by part.
 use Rattle.std.specs.Prelude.{◌≡◌, ℕ, List, [], ◌∷◌, ◌++◌, length, map}
-use Rattle.line_text.specs.Rows.{row, line_of_row, text_of}
+use Rattle.line_format.specs.Rows.{row, line_of_row, text_of}
 use Rattle.lawful_history.specs.declared.line.Line.{Line}
 use Rattle.scenario_text.specs.Scenario.{World}
 use Rattle.scenario_text.specs.Spelling as scenario

@@ -1,7 +1,7 @@
 -- A line in its one spelling.
 use Rattle.std.specs.Prelude.{◌≡◌, ℕ, true, List}
-use Rattle.line_text.specs.Forms.{line_of}
-use Rattle.line_text.specs.Rows.{fields_of_row}
+use Rattle.line_format.specs.Forms.{line_of}
+use Rattle.line_format.specs.Rows.{fields_of_row}
 use Rattle.lawful_history.specs.declared.line.Line.{Line}
 use Rattle.lawful_history.specs.Frames.{has_frame}
 use Rattle.record_text.specs.Table.{pieces_of}

@@ -1,7 +1,7 @@
 -- A record's text that is read line by line.
 use Rattle.std.specs.Prelude.{◌≡◌, ℕ, Bool, true, false, List, [], ◌∷◌, ◌++◌, length, Option, Some, None, Result, Ok, Err}
-use Rattle.line_text.specs.Forms.{cuts}
-use Rattle.line_text.specs.Machine.{read_pieces}
+use Rattle.line_format.specs.Forms.{cuts}
+use Rattle.line_format.specs.Machine.{read_pieces}
 use Rattle.scenario_text.specs.Scenario.{World}
 use Rattle.lawful_history.specs.declared.line.Line.{Line}
 use Rattle.lawful_history.specs.Frames.{has_frame}

@@ -1,7 +1,7 @@
 -- Running records as texts: the scenario's text after `run 2`, then what each running peer did, and last the number of those lines.
 use Rattle.std.specs.Prelude.{◌≡◌, ℕ, ◌^◌, ◌<◌, if◌then◌else◌, All, List, [], ◌∷◌, ◌++◌, length, map, codes}
 use Rattle.std.specs.List.{flat_map}
-use Rattle.line_text.specs.Rows.{Row, row, text_of}
+use Rattle.line_format.specs.Rows.{Row, row, text_of}
 use Rattle.lawful_history.specs.declared.line.Line.{Line}
 use Rattle.scenario_text.specs.Scenario.{World, IsWorld}
 use Rattle.scenario_text.specs.Spelling as scenario

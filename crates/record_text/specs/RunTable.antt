@@ -1,6 +1,6 @@
 -- The forms of the lines after a running record's scenario, by words and numbers (profile).
 use Rattle.std.specs.Prelude.{List, [], ◌∷◌, map, codes}
-use Rattle.line_text.specs.Forms.{Piece, Word}
+use Rattle.line_format.specs.Forms.{Piece, Word}
 use Rattle.record_text.specs.declared.forms.LineForm.{LineForm}
 use Rattle.record_text.specs.declared.run_forms.RunForm.{RunForm}
 use Rattle.record_text.specs.declared.run_forms.RunForm.TheVariants.{Own, Peer, Turns, Finished, Spent}

@@ -1,7 +1,7 @@
 -- Records as texts: the scenario's text between `record V` and the history, and last the number of history lines.
 use Rattle.std.specs.Prelude.{◌≡◌, ℕ, ◌^◌, ◌<◌, true, All, List, [], ◌∷◌, ◌++◌, length, map}
-use Rattle.line_text.specs.Forms.{Fit, FitBytes}
-use Rattle.line_text.specs.Rows.{Row, row, text_of}
+use Rattle.line_format.specs.Forms.{Fit, FitBytes}
+use Rattle.line_format.specs.Rows.{Row, row, text_of}
 use Rattle.lawful_history.specs.declared.line.Line.{Line}
 use Rattle.scenario_text.specs.Scenario.{World, IsWorld}
 use Rattle.scenario_text.specs.Spelling as scenario

@@ -9,7 +9,7 @@ use crate::forms::LineForm;
 use crate::printing::put_history_line;
 use crate::versions::first_line;
 use lawful_history::Line;
-use line_text::put_line;
+use line_format::put_line;
 use scenario_text::{Scenario, put_scenario};
 use std::alloc::AllocError;
 
@@ -35,7 +35,7 @@ pub fn put_lines(out: &mut Vec<u8>, lines: &[Line]) -> Result<(), AllocError>
 }
 
 /// Puts the line that says how many lines a history has last.
-#[tactic(auto, unfolding(line_text::specs::Rows::line_of_row))]
+#[tactic(auto, unfolding(line_format::specs::Rows::line_of_row))]
 pub fn put_count(out: &mut Vec<u8>, count: u64) -> Result<(), AllocError>
     ensures { OnOk result (out.new.items ≡ out.old.items ++ count_text count) }
 {

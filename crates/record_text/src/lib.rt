@@ -1,5 +1,5 @@
 //! Records as values and as text, in version 1 or 2: a scenario with a history of it, lawful or not. It stands on `scenario_text` for the
-//! scenario's text, on `lawful_history` for the lines of a history, and on `line_text` for lines and forms. Its contracts
+//! scenario's text, on `lawful_history` for the lines of a history, and on `line_format` for lines and forms. Its contracts
 //! promise that a record has one spelling, that parsing answers exactly where the bytes are one, and that each fault
 //! is the first in the order of the format (docs/FORMATS.md).
 //!

@@ -1,6 +1,6 @@
 //! Writing a record's text.
 ghost use Rattle.std.specs.Prelude.{◌≡◌, ℕ, [], ◌∷◌, ◌++◌, ◌<◌, ◌^◌, OnOk, IfOk, Ok, map, length, slice_index};
-ghost use Rattle.line_text.specs.Rows.{row, line_of_row, text_of};
+ghost use Rattle.line_format.specs.Rows.{row, line_of_row, text_of};
 ghost use Rattle.record_text.specs.Table.{pieces_of};
 ghost use Rattle.record_text.specs.LineRows.{row_of_line};
 ghost use Rattle.record_text.specs.Spelling.{Fits, AllFit, record_of, spelling};
@@ -12,13 +12,13 @@ use crate::trace::Trace;
 use crate::versions::first_line;
 use ivs_base::{Frame, NoMemory};
 use lawful_history::Line;
-use line_text::{put_four, put_line, put_named, put_one, put_three, put_two, put_with_bytes};
+use line_format::{put_four, put_line, put_named, put_one, put_three, put_two, put_with_bytes};
 use scenario_text::put_scenario;
 use split_ring::{FieldName, Refused};
 use std::alloc::{AllocError, Global};
 
 /// Puts the line of a form without a frame last.
-#[tactic(auto, unfolding(line_text::specs::Rows::line_of_row))]
+#[tactic(auto, unfolding(line_format::specs::Rows::line_of_row))]
 fn put(out: &mut Vec<u8>, form: LineForm, numbers: &[u64]) -> Result<(), AllocError>
     ensures { OnOk result (out.new.items ≡ out.old.items ++ line_of_row pieces_of (row form numbers.now [])) }
 {
@@ -26,7 +26,7 @@ fn put(out: &mut Vec<u8>, form: LineForm, numbers: &[u64]) -> Result<(), AllocEr
 }
 
 /// Puts the line of a refusal last.
-#[tactic(auto, unfolding(line_text::specs::Rows::line_of_row))]
+#[tactic(auto, unfolding(line_format::specs::Rows::line_of_row))]
 fn put_refusal(out: &mut Vec<u8>, peer: u32, refused: &Refused) -> Result<(), AllocError>
     ensures { OnOk result (out.new.items ≡ out.old.items ++ line_of_row pieces_of (row_of_line (Line.Refuse peer refused.now))) }
 {
@@ -60,7 +60,7 @@ fn value_of(refused: &Refused) -> u64
 }
 
 /// Puts a history line last.
-#[tactic(auto, unfolding(line_text::specs::Rows::line_of_row))]
+#[tactic(auto, unfolding(line_format::specs::Rows::line_of_row))]
 pub fn put_history_line(out: &mut Vec<u8>, line: &Line) -> Result<(), AllocError>
     ensures put { OnOk result (out.new.items ≡ out.old.items ++ line_of_row pieces_of (row_of_line line.now)) }
     ensures fits { Fits line.now }

@@ -1,7 +1,7 @@
 //! Lines in their common spelling: a word and numbers of 32 bits, each read once from left to right, without the table of forms. What isn't
 //! found here is read by the table.
 ghost use Rattle.std.specs.Prelude.{◌≡◌, ◌<◌, ◌^◌, ◌∷◌, ◌++◌, [], IfSome, decimal};
-ghost use Rattle.line_text.specs.Forms.{line_of};
+ghost use Rattle.line_format.specs.Forms.{line_of};
 ghost use Rattle.record_text.specs.Quick.{IsLineOf};
 
 use lawful_history::Line;

@@ -4,10 +4,10 @@ ghost use Rattle.std.specs.Prelude.{◌≡◌, ◌++◌, ◌+◌, ◌≤◌, ◌
 use crate::drafts::{RecordDraft, RecordPosition};
 use crate::faults::RecordFault;
 use crate::growing::put_lines;
-use crate::taking::{Told, read_line};
+use crate::taking::{LineContent, read_line};
 use ivs_base::NoMemory;
 use lawful_history::Line;
-use line_text::{LineFault, TakeLines, cut};
+use line_format::{LineFault, TakeLines, cut};
 use scenario_text::Scenario;
 use std::alloc::Global;
 
@@ -94,13 +94,13 @@ impl<'a> Reader<'a> {
         match read_line(alloc, line) {
             Err(LineFault::NoMemory) => Err(RecordFault::NoMemory),
             Err(LineFault::Wrong(cause)) => Err(cause.at(self.number + 1)),
-            Ok(Told::Line(found)) => {
+            Ok(LineContent::Line(found)) => {
                 self.rest = more;
                 self.number += 1;
                 self.count += 1;
                 Ok(Some(found))
             }
-            Ok(Told::Count(kept)) => {
+            Ok(LineContent::Count(kept)) => {
                 let found = self.count;
                 if kept != found {
                     return Err(RecordFault::BadCount { kept, found });

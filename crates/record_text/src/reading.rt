@@ -13,7 +13,7 @@ use crate::drafts::{RecordDraft, RecordPosition};
 use crate::faults::RecordFault;
 use crate::trace::Trace;
 use lawful_history::Lines;
-use line_text::read_text;
+use line_format::read_text;
 use scenario_text::Draft;
 use std::alloc::Global;
 

@@ -1,10 +1,10 @@
 //! The forms of a running record's lines, as a table.
 ghost use Rattle.std.specs.Prelude.{◌≡◌};
-ghost use Rattle.line_text.specs.Forms.{pieces};
+ghost use Rattle.line_format.specs.Forms.{pieces};
 ghost use Rattle.record_text.specs.RunTable.{run_pieces_of};
 
 use crate::forms::LineForm;
-use line_text::Slot;
+use line_format::FieldKind;
 
 /// A form of the lines after a running record's scenario.
 #[derive(Clone, Copy, Debug)]
@@ -23,15 +23,18 @@ pub enum RunForm {
 
 impl RunForm {
     /// What stands in the fields of the form.
-    pub fn slots(self) -> &'static [Slot]
+    pub fn slots(self) -> &'static [FieldKind]
         ensures { pieces result.now ≡ run_pieces_of self }
     {
         match self {
             RunForm::Own(form) => form.slots(),
-            RunForm::Peer => &[Slot::Word(b"peer"), Slot::Number(0, u32::MAX as u64)],
-            RunForm::Turns => &[Slot::Word(b"turns"), Slot::Number(0, u64::MAX)],
-            RunForm::Finished => &[Slot::Word(b"finished")],
-            RunForm::Spent => &[Slot::Word(b"spent")],
+            RunForm::Peer => &[
+                FieldKind::Word(b"peer"),
+                FieldKind::Number(0, u32::MAX as u64),
+            ],
+            RunForm::Turns => &[FieldKind::Word(b"turns"), FieldKind::Number(0, u64::MAX)],
+            RunForm::Finished => &[FieldKind::Word(b"finished")],
+            RunForm::Spent => &[FieldKind::Word(b"spent")],
         }
     }
 }

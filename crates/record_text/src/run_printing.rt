@@ -1,6 +1,6 @@
 //! Writing a running record's text.
 ghost use Rattle.std.specs.Prelude.{◌≡◌, ◌++◌, ◌+◌, ◌≤◌, ◌<◌, ◌^◌, OnOk, IfOk, All, map, length, []};
-ghost use Rattle.line_text.specs.Rows.{row, line_of_row, text_of};
+ghost use Rattle.line_format.specs.Rows.{row, line_of_row, text_of};
 ghost use Rattle.record_text.specs.OwnParts.{part_of};
 ghost use Rattle.record_text.specs.RunTable.{run_pieces_of};
 ghost use Rattle.record_text.specs.RunSpelling.{IsPart, RunRecord, IsRunRecord, run_of, own_row, rows_of_part, rows_of_parts, run_spelling, IsRunSpelling};
@@ -13,12 +13,12 @@ use crate::run_forms::RunForm;
 use crate::run_trace::RunTrace;
 use ivs_base::NoMemory;
 use lawful_history::Line;
-use line_text::put_line;
+use line_format::put_line;
 use scenario_text::put_scenario;
 use std::alloc::{AllocError, Global};
 
 /// Puts the line of a form last.
-#[tactic(auto, unfolding(line_text::specs::Rows::line_of_row))]
+#[tactic(auto, unfolding(line_format::specs::Rows::line_of_row))]
 fn put(out: &mut Vec<u8>, form: RunForm, numbers: &[u64]) -> Result<(), AllocError>
     ensures { OnOk result (out.new.items ≡ out.old.items ++ line_of_row run_pieces_of (row form numbers.now [])) }
 {

@@ -6,39 +6,39 @@ use Rattle.std.specs.List.{flat_map}
 use Rattle.split_ring.specs.declared.steps.Note.{Note}
 use Rattle.split_ring.specs.declared.steps.Note.TheVariants as note
 use Rattle.call_grammar.specs.Ends.{End}
-use Rattle.call_grammar.specs.Ticks.{Who}
+use Rattle.call_grammar.specs.Ticks.{EndConfig}
 use Rattle.call_grammar.specs.Words.{word_bytes, words_for, frame_in}
 use Rattle.call_grammar.specs.Places as laws
 use Rattle.rx_engine.specs.Receiver.{Receiver, words_read}
-use Rattle.rx_engine.specs.Stands.{StandsAt, TakesAt, place_seen}
-use Rattle.rx_engine.specs.declared.place.Place.TheVariants.{AtWord, GivingId}
+use Rattle.rx_engine.specs.Refinement.{RefinesAt, TakesAt, place_seen}
+use Rattle.rx_engine.specs.declared.place.Place.TheVariants.{ReadingFrameWord, WritingUsedId}
 use Rattle.rx_engine.proofs.Gathering.{words_more, frame_more}
 
 -- the last word of a frame is read
-pub word_delivers : (old new : Receiver) (notes : List Note) (who : Who) (end : End) (place : laws.Place) (more entry address bytes at value : ℕ) →
-    old.place ≡ AtWord more entry address bytes at →
-    new ≡ record old { place = GivingId more entry; frame = new.frame; gathered = [] } →
+pub word_delivers : (old new : Receiver) (notes : List Note) (config : EndConfig) (end : End) (place : laws.Place) (more entry address bytes at value : ℕ) →
+    old.place ≡ ReadingFrameWord more entry address bytes at →
+    new ≡ record old { place = WritingUsedId more entry; frame = new.frame; gathered = [] } →
     new.frame ≡ old.gathered ++ take (bytes - 4 * at) (word_bytes value) →
     notes ≡ note.Deliver ∷ [] → 4 * at < bytes → bytes - 4 * at ≤ 4 →
-    StandsAt old who end place → TakesAt old value notes new who end place
-word_delivers old new notes who end place more entry address bytes at value at_word new_is frame_is notes_is some last stands =
-    let count : length stands.read ≡ at = stands.read_count ∙ ap words_read at_word in
-    let at_place : place ≡ laws.AtWord end.returned more entry address bytes stands.read (words_for bytes - (at + 1)) = stands.place_is ∙ ap (place_seen end.returned stands.read) at_word in
+    RefinesAt old config end place → TakesAt old value notes new config end place
+word_delivers old new notes config end place more entry address bytes at value at_word new_is frame_is notes_is some last refines =
+    let count : length refines.read ≡ at = refines.read_count ∙ ap words_read at_word in
+    let at_place : place ≡ laws.ReadingFrameWord end.returned more entry address bytes refines.read (words_for bytes - (at + 1)) = refines.place_is ∙ ap (place_seen end.returned refines.read) at_word in
     let none : words_for bytes - (at + 1) ≡ 0 = omega arith in
-    let whole : new.frame ≡ frame_in bytes (stands.read ++ value ∷ []) = frame_is ∙ ap (λ g. g ++ take (bytes - 4 * at) (word_bytes value)) stands.gathered ∙ frame_more bytes at value stands.read count (omega arith) in
+    let whole : new.frame ≡ frame_in bytes (refines.read ++ value ∷ []) = frame_is ∙ ap (λ g. g ++ take (bytes - 4 * at) (word_bytes value)) refines.gathered ∙ frame_more bytes at value refines.read count (omega arith) in
     grind (arith, common_steps)
 
 -- a word before the last is read
-pub word_goes : (old new : Receiver) (notes : List Note) (who : Who) (end : End) (place : laws.Place) (more entry address bytes at value : ℕ) →
-    old.place ≡ AtWord more entry address bytes at →
-    new ≡ record old { place = AtWord more entry address bytes (at + 1); gathered = new.gathered } →
+pub word_goes : (old new : Receiver) (notes : List Note) (config : EndConfig) (end : End) (place : laws.Place) (more entry address bytes at value : ℕ) →
+    old.place ≡ ReadingFrameWord more entry address bytes at →
+    new ≡ record old { place = ReadingFrameWord more entry address bytes (at + 1); gathered = new.gathered } →
     new.gathered ≡ old.gathered ++ take (bytes - 4 * at) (word_bytes value) →
     notes ≡ [] → 4 < bytes - 4 * at →
-    StandsAt old who end place → TakesAt old value notes new who end place
-word_goes old new notes who end place more entry address bytes at value at_word new_is gathered_is notes_is some stands =
-    let count : length stands.read ≡ at = stands.read_count ∙ ap words_read at_word in
-    let at_place : place ≡ laws.AtWord end.returned more entry address bytes stands.read (words_for bytes - (at + 1)) = stands.place_is ∙ ap (place_seen end.returned stands.read) at_word in
+    RefinesAt old config end place → TakesAt old value notes new config end place
+word_goes old new notes config end place more entry address bytes at value at_word new_is gathered_is notes_is some refines =
+    let count : length refines.read ≡ at = refines.read_count ∙ ap words_read at_word in
+    let at_place : place ≡ laws.ReadingFrameWord end.returned more entry address bytes refines.read (words_for bytes - (at + 1)) = refines.place_is ∙ ap (place_seen end.returned refines.read) at_word in
     let one_more : words_for bytes - (at + 1) ≡ suc (words_for bytes - (at + 1 + 1)) = omega arith in
     let whole : take (bytes - 4 * at) (word_bytes value) ≡ word_bytes value = take_all _ _ (omega arith) in
-    let gathered : new.gathered ≡ flat_map word_bytes (stands.read ++ value ∷ []) = gathered_is ∙ ap (λ b. old.gathered ++ b) whole ∙ ap (λ g. g ++ word_bytes value) stands.gathered ∙ sym (words_more stands.read value) in
+    let gathered : new.gathered ≡ flat_map word_bytes (refines.read ++ value ∷ []) = gathered_is ∙ ap (λ b. old.gathered ++ b) whole ∙ ap (λ g. g ++ word_bytes value) refines.gathered ∙ sym (words_more refines.read value) in
     grind (arith, common_steps)

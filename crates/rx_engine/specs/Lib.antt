@@ -1,3 +1,3 @@
 pub mod Receiver
-pub mod Stands
-pub mod Kept
+pub mod Refinement
+pub mod Representation

@@ -4,7 +4,7 @@ use Rattle.split_ring.specs.Layout.{Sizes, has_events}
 use Rattle.split_ring.specs.Ranges.{IsAvailEntry, IsDescAddress, IsDescLength}
 use Rattle.call_grammar.specs.Words.{words_for}
 use Rattle.rx_engine.specs.declared.place.Place.{Place}
-use Rattle.rx_engine.specs.declared.place.Place.TheVariants.{Closed, AtLow, AtHigh, AtLength, AtFlags, AtWord, GivingId, GivingLength, GivingIndex}
+use Rattle.rx_engine.specs.declared.place.Place.TheVariants.{Closed, ReadingDescAddressLow, ReadingDescAddressHigh, ReadingDescLength, ReadingDescFlags, ReadingFrameWord, WritingUsedId, WritingUsedLength, WritingUsedIndex}
 
 -- the sizes of the queue, the first words of the own section and of the other's, the peer and the vector of the doorbell; how many frames of the session were
 -- returned, modulo 65,536, and whether the last look of the session found no new frame; the place in the open poll; the frame delivered last, or nothing before the first; and the bytes that were read so far of a frame
@@ -58,42 +58,42 @@ is_busy rx = is_open_at rx.place
 
 -- how many words of a frame that isn't delivered yet were read
 abbrev pub words_read : Place → ℕ
-words_read (AtWord more entry address bytes at) = at
+words_read (ReadingFrameWord more entry address bytes at) = at
 words_read _ = 0
 
 -- how many of the coming accesses read the words that are left of a frame
 abbrev pub reads_ahead : Place → ℕ
-reads_ahead (AtWord more entry address bytes at) = words_for bytes - at
+reads_ahead (ReadingFrameWord more entry address bytes at) = words_for bytes - at
 reads_ahead _ = 0
 
 -- the bytes of a frame whose first word is read next
 abbrev pub frame_ahead : Place → Option ℕ
-frame_ahead (AtWord more entry address bytes zero) = Some bytes
+frame_ahead (ReadingFrameWord more entry address bytes zero) = Some bytes
 frame_ahead _ = None
 
 -- how many of the coming accesses write the two words of a used element
 abbrev pub writes_ahead : Place → ℕ
-writes_ahead (GivingId more entry) = 2
+writes_ahead (WritingUsedId more entry) = 2
 writes_ahead _ = 0
 
 -- the place after 1 or 2 of these writes
 abbrev pub given : (more count : ℕ) → Place
-given more count = if count == 1 then GivingLength more else GivingIndex more
+given more count = if count == 1 then WritingUsedLength more else WritingUsedIndex more
 
 -- 1 where the frame delivered last isn't returned yet, else 0
 abbrev pub unreturned : Place → ℕ
-unreturned (GivingId more entry) = 1
-unreturned (GivingLength more) = 1
-unreturned (GivingIndex more) = 1
+unreturned (WritingUsedId more entry) = 1
+unreturned (WritingUsedLength more) = 1
+unreturned (WritingUsedIndex more) = 1
 unreturned _ = 0
 
 -- the values read so far passed their checks
 abbrev pub IsReached : Sizes → Place → Type 0
-IsReached q (AtLow more entry) = IsAvailEntry q entry
-IsReached q (AtHigh more entry low) = IsAvailEntry q entry
-IsReached q (AtLength more entry address) = IsAvailEntry q entry × IsDescAddress q address
-IsReached q (AtFlags more entry address bytes) = IsAvailEntry q entry × IsDescAddress q address × IsDescLength q address bytes
-IsReached q (AtWord more entry address bytes at) = IsDescAddress q address × IsDescLength q address bytes × (4 * at < bytes)
+IsReached q (ReadingDescAddressLow more entry) = IsAvailEntry q entry
+IsReached q (ReadingDescAddressHigh more entry low) = IsAvailEntry q entry
+IsReached q (ReadingDescLength more entry address) = IsAvailEntry q entry × IsDescAddress q address
+IsReached q (ReadingDescFlags more entry address bytes) = IsAvailEntry q entry × IsDescAddress q address × IsDescLength q address bytes
+IsReached q (ReadingFrameWord more entry address bytes at) = IsDescAddress q address × IsDescLength q address bytes × (4 * at < bytes)
 IsReached q _ = Unit {0}
 
 -- the numbers that were handed in stay

@@ -13,4 +13,4 @@
 mod place;
 mod receiver;
 
-pub use receiver::{Rx, closed_stays};
+pub use receiver::{Rx, idle_engine_outlives_steps};

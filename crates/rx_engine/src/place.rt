@@ -7,41 +7,41 @@ pub(crate) enum Place {
     /// No poll is open.
     Closed,
     /// The read of the available index. It is the last look of its poll where it finds nothing, or the event is written after it.
-    AtAvailIndex {
+    ReadingAvailIndex {
         last: bool,
     },
     /// The write of the own event.
-    Arming,
+    WritingAvailEvent,
     /// The read of the item's entry in the available ring.
-    AtEntry {
+    ReadingAvailEntry {
         more: u32,
     },
     /// The read of the low word of the descriptor's address.
-    AtLow {
+    ReadingDescAddressLow {
         more: u32,
         entry: u32,
     },
     /// The read of the high word of the address.
-    AtHigh {
+    ReadingDescAddressHigh {
         more: u32,
         entry: u32,
         low: u32,
     },
     /// The read of the length.
-    AtLength {
+    ReadingDescLength {
         more: u32,
         entry: u32,
         address: u32,
     },
     /// The read of the flags.
-    AtFlags {
+    ReadingDescFlags {
         more: u32,
         entry: u32,
         address: u32,
         bytes: u32,
     },
     /// The read of a word of the frame.
-    AtWord {
+    ReadingFrameWord {
         more: u32,
         entry: u32,
         address: u32,
@@ -49,16 +49,16 @@ pub(crate) enum Place {
         at: u32,
     },
     /// The write of the used element's id.
-    GivingId {
+    WritingUsedId {
         more: u32,
         entry: u32,
     },
     /// The write of the used element's length.
-    GivingLength {
+    WritingUsedLength {
         more: u32,
     },
     /// The write of the used index.
-    GivingIndex {
+    WritingUsedIndex {
         more: u32,
     },
     /// The doorbell, after the last item.

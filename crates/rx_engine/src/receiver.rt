@@ -3,15 +3,15 @@ ghost use Rattle.std.specs.Prelude.{ℕ, ◌≡◌, ◌+◌, ◌-◌, ◌*◌, �
 ghost use Rattle.link_handshake.specs.declared.Phase.TheVariants.{Run};
 ghost use Rattle.split_ring.specs.Spelling.{entry_half};
 ghost use Rattle.call_grammar.specs.Ends.{End};
-ghost use Rattle.call_grammar.specs.Ticks.{Who};
+ghost use Rattle.call_grammar.specs.Ticks.{EndConfig};
 ghost use Rattle.call_grammar.specs.Calls.{Poll};
 ghost use Rattle.call_grammar.specs.Words.{word_bytes, words_for};
-ghost use Rattle.call_grammar.specs.Stretches.{Each, ReadsOn, WritesOn};
+ghost use Rattle.call_grammar.specs.Bursts.{StepsThrough, ReadsBurst, WritesBurst};
 ghost use Rattle.call_grammar.specs.Orders.{word_kind};
 ghost use Rattle.call_grammar.specs.Places as laws;
-ghost use Rattle.call_grammar.specs.Reach.{HasSections, InReach};
+ghost use Rattle.call_grammar.specs.Reach.{HasSections, IsPermittedAccess};
 ghost use Rattle.rx_engine.specs.Receiver.{fresh_receiver, renewed, is_last, is_armed, is_busy, reads_ahead, frame_ahead, writes_ahead, given, words_read, IsReached, KeepsNumbers};
-ghost use Rattle.rx_engine.specs.Stands.{IsMadeFor, IsFreshSession, StandsAt, Takes, TakesOn, ClosedStays};
+ghost use Rattle.rx_engine.specs.Refinement.{IsMadeFor, IsFreshSession, RefinesAt, TakesStep, StaysOpen, IdleEngineOutlivesSteps};
 
 use crate::place::Place;
 use ivs_base::NoMemory;
@@ -51,11 +51,11 @@ impl Model for Rx {
 
     ghost Value = { Receiver };
 
-    ghost use Rattle.rx_engine.specs.Kept.{seen, IsKept};
+    ghost use Rattle.rx_engine.specs.Representation.{seen, IsWellFormed};
 
     ghost view = { seen };
 
-    ghost invariant = { IsKept };
+    ghost invariant = { IsWellFormed };
 }
 
 /// Entry `k` of the available ring, in its word.
@@ -94,13 +94,13 @@ fn put_element(into: &mut [u8], entry: u32)
 }
 
 /// The place after 1 or 2 writes of a used element's words.
-fn giving(more: u32, count: u32) -> Place
+fn used_element_place(more: u32, count: u32) -> Place
     ensures { result ≡ given more count }
 {
     if count == 1 {
-        Place::GivingLength { more }
+        Place::WritingUsedLength { more }
     } else {
-        Place::GivingIndex { more }
+        Place::WritingUsedIndex { more }
     }
 }
 
@@ -118,7 +118,7 @@ impl Rx {
         requires own { 4 * own + queue.now.out ≤ 2 ^ 24 }
         requires theirs { 4 * theirs + queue.now.out ≤ 2 ^ 24 }
         ensures value { IfOk result (λ rx. rx ≡ fresh_receiver queue.now own theirs target vector) }
-        ensures stands { IfOk result (λ rx. (who : Who) (end : End) → IsMadeFor rx who → IsFreshSession end → StandsAt rx who end laws.Closed) }
+        ensures refines { IfOk result (λ rx. (config : EndConfig) (end : End) → IsMadeFor rx config → IsFreshSession end → RefinesAt rx config end laws.Closed) }
     {
         let longest = LONGEST.min(queue.out() - queue.payload());
         let buffer = vec![in alloc; 0u8; longest as usize]?;
@@ -141,7 +141,7 @@ impl Rx {
     /// Is a poll open?
     pub fn busy(&self) -> bool
         ensures value { result ≡ is_busy self.now }
-        ensures open { (who : Who) (end : End) (place : laws.Place) → StandsAt self.now who end place → result ≡ laws.is_open place }
+        ensures open { (config : EndConfig) (end : End) (place : laws.Place) → RefinesAt self.now config end place → result ≡ laws.is_open place }
     {
         !matches!(self.place, Place::Closed)
     }
@@ -157,35 +157,45 @@ impl Rx {
     /// Opens a poll, of an end in RUN.
     pub fn begin(&mut self)
         requires { is_busy self.old ≡ false }
-        ensures stands { (who : Who) (end : End) → StandsAt self.old who end laws.Closed → end.handshake.phase ≡ Run →
-            StandsAt self.new who end (laws.first_place who end Poll) }
-        ensures value { self.new ≡ record self.old { place = Place.AtAvailIndex (is_last self.old) } }
+        ensures refines { (config : EndConfig) (end : End) → RefinesAt self.old config end laws.Closed → end.handshake.phase ≡ Run →
+            RefinesAt self.new config end (laws.first_place config end Poll) }
+        ensures value { self.new ≡ record self.old { place = Place.ReadingAvailIndex (is_last self.old) } }
     {
         let last = !self.queue.has_events() || self.found_none;
-        self.place = Place::AtAvailIndex { last };
+        self.place = Place::ReadingAvailIndex { last };
     }
 
     /// The next access of the open poll.
     #[tactic(auto, using(crate::proofs::Numbers::ring_place))]
     pub fn next(&self) -> Access
         requires { is_busy self.now ≡ true }
-        ensures access { (who : Who) (end : End) (place : laws.Place) → StandsAt self.now who end place → result ≡ laws.access_at who place }
-        ensures reach { (who : Who) (end : End) (place : laws.Place) → HasSections who → StandsAt self.now who end place → InReach who result }
+        ensures access { (config : EndConfig) (end : End) (place : laws.Place) → RefinesAt self.now config end place → result ≡ laws.access_at config place }
+        ensures reach { (config : EndConfig) (end : End) (place : laws.Place) → HasSections config → RefinesAt self.now config end place → IsPermittedAccess config result }
     {
         let (queue, own, theirs) = (&self.queue, self.own, self.theirs);
         let number = u32::from(self.returned);
         match self.place {
-            Place::AtAvailIndex { .. } => Access::Read(theirs + queue.avail_word()),
-            Place::Arming => Access::Write(own + queue.avail_event_word(), number),
-            Place::AtEntry { .. } => Access::Read(theirs + queue.entry_word(number)),
-            Place::AtLow { entry, .. } => Access::Read(theirs + queue.descriptor(entry)),
-            Place::AtHigh { entry, .. } => Access::Read(theirs + queue.descriptor(entry) + 1),
-            Place::AtLength { entry, .. } => Access::Read(theirs + queue.descriptor(entry) + 2),
-            Place::AtFlags { entry, .. } => Access::Read(theirs + queue.descriptor(entry) + 3),
-            Place::AtWord { address, at, .. } => Access::Read(theirs + (address / 4 + at)),
-            Place::GivingId { entry, .. } => Access::Write(own + queue.used_id(number), entry),
-            Place::GivingLength { .. } => Access::Write(own + queue.used_id(number) + 1, 1),
-            Place::GivingIndex { .. } => {
+            Place::ReadingAvailIndex { .. } => Access::Read(theirs + queue.avail_word()),
+            Place::WritingAvailEvent => Access::Write(own + queue.avail_event_word(), number),
+            Place::ReadingAvailEntry { .. } => Access::Read(theirs + queue.entry_word(number)),
+            Place::ReadingDescAddressLow { entry, .. } => Access::Read(
+                theirs + queue.descriptor(entry),
+            ),
+            Place::ReadingDescAddressHigh { entry, .. } => Access::Read(
+                theirs + queue.descriptor(entry) + 1,
+            ),
+            Place::ReadingDescLength { entry, .. } => Access::Read(
+                theirs + queue.descriptor(entry) + 2,
+            ),
+            Place::ReadingDescFlags { entry, .. } => Access::Read(
+                theirs + queue.descriptor(entry) + 3,
+            ),
+            Place::ReadingFrameWord { address, at, .. } => Access::Read(
+                theirs + (address / 4 + at),
+            ),
+            Place::WritingUsedId { entry, .. } => Access::Write(own + queue.used_id(number), entry),
+            Place::WritingUsedLength { .. } => Access::Write(own + queue.used_id(number) + 1, 1),
+            Place::WritingUsedIndex { .. } => {
                 let index = self.returned.wrapping_add(1);
                 Access::Write(own + queue.used_word(), u32::from(index) << 16)
             }
@@ -203,7 +213,7 @@ impl Rx {
     /// A value outside its field's range is refused: the step notes Refuse alone, and the State step comes next.
     pub fn took(&mut self, value: u32) -> Notes
         requires { is_busy self.old ≡ true }
-        ensures steps { Takes self.old value result.items self.new }
+        ensures steps { TakesStep self.old value result.items self.new }
         ensures kept { KeepsNumbers self.old self.new }
     {
         let mut notes = Notes::new();
@@ -215,34 +225,38 @@ impl Rx {
     pub fn took_into(&mut self, value: u32, notes: &mut Notes)
         requires open { is_busy self.old ≡ true }
         requires empty { notes.old.items ≡ [] }
-        ensures steps { Takes self.old value notes.new.items self.new }
+        ensures steps { TakesStep self.old value notes.new.items self.new }
         ensures kept { KeepsNumbers self.old self.new }
     {
         match self.place {
-            Place::AtAvailIndex { last } => self.took_index(last, value, notes),
-            Place::Arming => self.go_on(Place::AtAvailIndex { last: true }),
-            Place::AtEntry { more } => self.took_entry(more, value, notes),
-            Place::AtLow { more, entry } => self.go_on(Place::AtHigh {
-                more,
-                entry,
-                low: value,
-            }),
-            Place::AtHigh { more, entry, low } => self.took_high(more, entry, low, value, notes),
-            Place::AtLength {
+            Place::ReadingAvailIndex { last } => self.took_index(last, value, notes),
+            Place::WritingAvailEvent => self.go_on(Place::ReadingAvailIndex { last: true }),
+            Place::ReadingAvailEntry { more } => self.took_entry(more, value, notes),
+            Place::ReadingDescAddressLow { more, entry } => self.go_on(
+                Place::ReadingDescAddressHigh {
+                    more,
+                    entry,
+                    low: value,
+                },
+            ),
+            Place::ReadingDescAddressHigh { more, entry, low } => self.took_high(
+                more, entry, low, value, notes,
+            ),
+            Place::ReadingDescLength {
                 more,
                 entry,
                 address,
             } => self.took_length(more, entry, address, value, notes),
-            Place::AtFlags {
+            Place::ReadingDescFlags {
                 more,
                 entry,
                 address,
                 bytes,
             } => self.took_flags(more, entry, address, bytes, value, notes),
-            Place::AtWord { .. } => self.took_words_into(&value.to_le_bytes(), notes),
-            Place::GivingId { more, .. } => self.go_on(Place::GivingLength { more }),
-            Place::GivingLength { more } => self.go_on(Place::GivingIndex { more }),
-            Place::GivingIndex { more } => self.gave_index(more, notes),
+            Place::ReadingFrameWord { .. } => self.took_reads_into(&value.to_le_bytes(), notes),
+            Place::WritingUsedId { more, .. } => self.go_on(Place::WritingUsedLength { more }),
+            Place::WritingUsedLength { more } => self.go_on(Place::WritingUsedIndex { more }),
+            Place::WritingUsedIndex { more } => self.wrote_index(more, notes),
             Place::Ringing => self.end(Note::Done, notes),
             Place::Refusing => self.end(Note::Over, notes),
             Place::Closed => unreachable!(),
@@ -251,12 +265,12 @@ impl Rx {
 
     /// What the word of the next access is to the order of memory.
     pub fn word_kind(&self) -> WordKind
-        ensures { (who : Who) (end : End) (place : laws.Place) → StandsAt self.now who end place → result ≡ word_kind place }
+        ensures { (config : EndConfig) (end : End) (place : laws.Place) → RefinesAt self.now config end place → result ≡ word_kind place }
     {
         match self.place {
-            Place::AtAvailIndex { .. } => WordKind::IndexRead,
-            Place::Arming => WordKind::EventWrite,
-            Place::GivingIndex { .. } => WordKind::IndexWrite,
+            Place::ReadingAvailIndex { .. } => WordKind::IndexRead,
+            Place::WritingAvailEvent => WordKind::EventWrite,
+            Place::WritingUsedIndex { .. } => WordKind::IndexWrite,
             _ => WordKind::Plain,
         }
     }
@@ -264,11 +278,11 @@ impl Rx {
     /// How many of the coming accesses read the words of a frame, each the next word, with no note before the last of the frame; else 0.
     pub fn reads_ahead(&self) -> u32
         ensures value { result ≡ reads_ahead self.now.place }
-        ensures reads { (who : Who) (end : End) (place : laws.Place) (word : ℕ) → StandsAt self.now who end place →
-            laws.access_at who place ≡ Access.Read word → ReadsOn who place word result }
+        ensures reads { (config : EndConfig) (end : End) (place : laws.Place) (word : ℕ) → RefinesAt self.now config end place →
+            laws.access_at config place ≡ Access.Read word → ReadsBurst config place word result }
     {
         match self.place {
-            Place::AtWord { bytes, at, .. } => bytes.div_ceil(4) - at,
+            Place::ReadingFrameWord { bytes, at, .. } => bytes.div_ceil(4) - at,
             _ => 0,
         }
     }
@@ -277,33 +291,33 @@ impl Rx {
     ///
     /// It is the same as `took` for each of these words in turn. Where these are all the words of a frame, the frame delivered is their first
     /// bytes.
-    pub fn took_words(&mut self, words: &[u8]) -> Notes
+    pub fn took_reads(&mut self, words: &[u8]) -> Notes
         requires some { 0 < length words.now }
         requires whole { length words.now % 4 ≡ 0 }
         requires within { length words.now ≤ 4 * reads_ahead self.old.place }
-        ensures steps { (values : List ℕ) → words.now ≡ flat_map word_bytes values → Each TakesOn self.old values result.items self.new }
+        ensures steps { (values : List ℕ) → words.now ≡ flat_map word_bytes values → StepsThrough StaysOpen self.old values result.items self.new }
         ensures frame { IfSome (frame_ahead self.old.place) (λ bytes. length words.now ≡ 4 * reads_ahead self.old.place → self.new.frame ≡ take bytes words.now) }
         ensures notes { (result.items ≡ []) ⊎ (result.items ≡ Note.Deliver ∷ []) }
         ensures kept { KeepsNumbers self.old self.new }
     {
         let mut notes = Notes::new();
-        self.took_words_into(words, &mut notes);
+        self.took_reads_into(words, &mut notes);
         notes
     }
 
-    /// The same as `took_words`, with the notes put into a list that the caller has.
-    pub fn took_words_into(&mut self, words: &[u8], notes: &mut Notes)
+    /// The same as `took_reads`, with the notes put into a list that the caller has.
+    pub fn took_reads_into(&mut self, words: &[u8], notes: &mut Notes)
         requires some { 0 < length words.now }
         requires whole { length words.now % 4 ≡ 0 }
         requires within { length words.now ≤ 4 * reads_ahead self.old.place }
         requires empty { notes.old.items ≡ [] }
-        ensures steps { (values : List ℕ) → words.now ≡ flat_map word_bytes values → Each TakesOn self.old values notes.new.items self.new }
+        ensures steps { (values : List ℕ) → words.now ≡ flat_map word_bytes values → StepsThrough StaysOpen self.old values notes.new.items self.new }
         ensures frame { IfSome (frame_ahead self.old.place) (λ bytes. length words.now ≡ 4 * reads_ahead self.old.place → self.new.frame ≡ take bytes words.now) }
         ensures notes { (notes.new.items ≡ []) ⊎ (notes.new.items ≡ Note.Deliver ∷ []) }
         ensures kept { KeepsNumbers self.old self.new }
     {
         match self.place {
-            Place::AtWord {
+            Place::ReadingFrameWord {
                 more,
                 entry,
                 address,
@@ -319,7 +333,7 @@ impl Rx {
         ensures { result ≡ writes_ahead self.now.place }
     {
         match self.place {
-            Place::GivingId { .. } => 2,
+            Place::WritingUsedId { .. } => 2,
             _ => 0,
         }
     }
@@ -328,26 +342,26 @@ impl Rx {
     pub fn words(&self, into: &mut [u8])
         requires whole { length into.old % 4 ≡ 0 }
         requires within { length into.old ≤ 4 * writes_ahead self.now.place }
-        ensures writes { (who : Who) (end : End) (place : laws.Place) (word value : ℕ) → StandsAt self.now who end place →
-            laws.access_at who place ≡ Access.Write word value → WritesOn who place word into.new }
+        ensures writes { (config : EndConfig) (end : End) (place : laws.Place) (word value : ℕ) → RefinesAt self.now config end place →
+            laws.access_at config place ≡ Access.Write word value → WritesBurst config place word into.new }
         ensures sized { length into.new ≡ length into.old }
     {
         match self.place {
-            Place::GivingId { entry, .. } => put_element(into, entry),
+            Place::WritingUsedId { entry, .. } => put_element(into, entry),
             _ => {}
         }
     }
 
     /// Takes the steps of so many of the writes that `writes_ahead` tells at once. It is the same as `took` so many times.
-    pub fn took_written(&mut self, count: u32)
+    pub fn took_writes(&mut self, count: u32)
         requires some { 0 < count }
         requires within { count ≤ writes_ahead self.old.place }
-        ensures steps { (values : List ℕ) → length values ≡ count → Each TakesOn self.old values [] self.new }
+        ensures steps { (values : List ℕ) → length values ≡ count → StepsThrough StaysOpen self.old values [] self.new }
         ensures kept { KeepsNumbers self.old self.new }
     {
         match self.place {
-            Place::GivingId { more, .. } => {
-                self.place = giving(more, count);
+            Place::WritingUsedId { more, .. } => {
+                self.place = used_element_place(more, count);
             }
             _ => unreachable!(),
         }
@@ -364,7 +378,7 @@ impl Rx {
     /// Begins a new session: no poll is open, and no frame was returned. The frame delivered last stays.
     pub fn reset(&mut self)
         ensures value { self.new ≡ renewed self.old }
-        ensures stands { (who : Who) (end : End) → IsMadeFor self.old who → IsFreshSession end → StandsAt self.new who end laws.Closed }
+        ensures refines { (config : EndConfig) (end : End) → IsMadeFor self.old config → IsFreshSession end → RefinesAt self.new config end laws.Closed }
     {
         self.returned = 0;
         self.found_none = false;
@@ -405,9 +419,9 @@ impl Rx {
 
     /// The read of the available index. Where it finds nothing and isn't the last look, the event is written next.
     fn took_index(&mut self, last: bool, value: u32, notes: &mut Notes)
-        requires place { self.old.place ≡ Place.AtAvailIndex last }
+        requires place { self.old.place ≡ Place.ReadingAvailIndex last }
         requires empty { notes.old.items ≡ [] }
-        ensures steps { Takes self.old value notes.new.items self.new }
+        ensures steps { TakesStep self.old value notes.new.items self.new }
         ensures kept { KeepsNumbers self.old self.new }
     {
         let index = (value >> 16) as u16;
@@ -420,41 +434,41 @@ impl Rx {
                     notes.push(Note::Done);
                     self.go_on(Place::Closed);
                 } else {
-                    self.go_on(Place::Arming);
+                    self.go_on(Place::WritingAvailEvent);
                 }
             }
             Ok(found) => {
                 self.found_none = false;
                 notes.push(Note::Look(found));
-                self.go_on(Place::AtEntry { more: found - 1 });
+                self.go_on(Place::ReadingAvailEntry { more: found - 1 });
             }
         }
     }
 
     /// The read of an item's entry.
     fn took_entry(&mut self, more: u32, value: u32, notes: &mut Notes)
-        requires place { self.old.place ≡ Place.AtEntry more }
+        requires place { self.old.place ≡ Place.ReadingAvailEntry more }
         requires empty { notes.old.items ≡ [] }
-        ensures steps { Takes self.old value notes.new.items self.new }
+        ensures steps { TakesStep self.old value notes.new.items self.new }
         ensures kept { KeepsNumbers self.old self.new }
     {
         match self.queue.check_entry(entry_half(self.returned, value)) {
             Err(refused) => self.refuse(refused, notes),
-            Ok(entry) => self.go_on(Place::AtLow { more, entry }),
+            Ok(entry) => self.go_on(Place::ReadingDescAddressLow { more, entry }),
         }
     }
 
     /// The read of an address's high word: the whole address is checked.
     fn took_high(&mut self, more: u32, entry: u32, low: u32, value: u32, notes: &mut Notes)
-        requires place { self.old.place ≡ Place.AtHigh more entry low }
+        requires place { self.old.place ≡ Place.ReadingDescAddressHigh more entry low }
         requires empty { notes.old.items ≡ [] }
-        ensures steps { Takes self.old value notes.new.items self.new }
+        ensures steps { TakesStep self.old value notes.new.items self.new }
         ensures kept { KeepsNumbers self.old self.new }
     {
         let address = u64::from(low) + (u64::from(value) << 32);
         match self.queue.check_address(address) {
             Err(refused) => self.refuse(refused, notes),
-            Ok(address) => self.go_on(Place::AtLength {
+            Ok(address) => self.go_on(Place::ReadingDescLength {
                 more,
                 entry,
                 address,
@@ -464,14 +478,14 @@ impl Rx {
 
     /// The read of a descriptor's length, which is read once.
     fn took_length(&mut self, more: u32, entry: u32, address: u32, value: u32, notes: &mut Notes)
-        requires place { self.old.place ≡ Place.AtLength more entry address }
+        requires place { self.old.place ≡ Place.ReadingDescLength more entry address }
         requires empty { notes.old.items ≡ [] }
-        ensures steps { Takes self.old value notes.new.items self.new }
+        ensures steps { TakesStep self.old value notes.new.items self.new }
         ensures kept { KeepsNumbers self.old self.new }
     {
         match self.queue.check_length(address, value) {
             Err(refused) => self.refuse(refused, notes),
-            Ok(bytes) => self.go_on(Place::AtFlags {
+            Ok(bytes) => self.go_on(Place::ReadingDescFlags {
                 more,
                 entry,
                 address,
@@ -490,14 +504,14 @@ impl Rx {
         value: u32,
         notes: &mut Notes,
     )
-        requires place { self.old.place ≡ Place.AtFlags more entry address bytes }
+        requires place { self.old.place ≡ Place.ReadingDescFlags more entry address bytes }
         requires empty { notes.old.items ≡ [] }
-        ensures steps { Takes self.old value notes.new.items self.new }
+        ensures steps { TakesStep self.old value notes.new.items self.new }
         ensures kept { KeepsNumbers self.old self.new }
     {
         match self.queue.check_flags((value & 0xffff) as u16) {
             Err(refused) => self.refuse(refused, notes),
-            Ok(()) => self.go_on(Place::AtWord {
+            Ok(()) => self.go_on(Place::ReadingFrameWord {
                 more,
                 entry,
                 address,
@@ -518,12 +532,12 @@ impl Rx {
         words: &[u8],
         notes: &mut Notes,
     )
-        requires place { self.old.place ≡ Place.AtWord more entry address bytes at }
+        requires place { self.old.place ≡ Place.ReadingFrameWord more entry address bytes at }
         requires some { 0 < length words.now }
         requires whole { length words.now % 4 ≡ 0 }
         requires within { length words.now ≤ 4 * (words_for bytes - at) }
         requires empty { notes.old.items ≡ [] }
-        ensures steps { (values : List ℕ) → words.now ≡ flat_map word_bytes values → Each TakesOn self.old values notes.new.items self.new }
+        ensures steps { (values : List ℕ) → words.now ≡ flat_map word_bytes values → StepsThrough StaysOpen self.old values notes.new.items self.new }
         ensures frame { at ≡ 0 → length words.now ≡ 4 * words_for bytes → self.new.frame ≡ take bytes words.now }
         ensures notes { (notes.new.items ≡ []) ⊎ (notes.new.items ≡ Note.Deliver ∷ []) }
         ensures kept { KeepsNumbers self.old self.new }
@@ -534,10 +548,10 @@ impl Rx {
         if last {
             swap(&mut self.buffer, &mut self.last);
             self.delivered = bytes as usize;
-            self.place = Place::GivingId { more, entry };
+            self.place = Place::WritingUsedId { more, entry };
             notes.push(Note::Deliver);
         } else {
-            self.place = Place::AtWord {
+            self.place = Place::ReadingFrameWord {
                 more,
                 entry,
                 address,
@@ -548,10 +562,10 @@ impl Rx {
     }
 
     /// The write of the used index, with which the item is returned.
-    fn gave_index(&mut self, more: u32, notes: &mut Notes)
-        requires place { self.old.place ≡ Place.GivingIndex more }
+    fn wrote_index(&mut self, more: u32, notes: &mut Notes)
+        requires place { self.old.place ≡ Place.WritingUsedIndex more }
         requires empty { notes.old.items ≡ [] }
-        ensures steps { (value : ℕ) → Takes self.old value notes.new.items self.new }
+        ensures steps { (value : ℕ) → TakesStep self.old value notes.new.items self.new }
         ensures kept { KeepsNumbers self.old self.new }
     {
         self.returned = self.returned.wrapping_add(1);
@@ -559,12 +573,12 @@ impl Rx {
         self.place = if more == 0 {
             Place::Ringing
         } else {
-            Place::AtEntry { more: more - 1 }
+            Place::ReadingAvailEntry { more: more - 1 }
         };
     }
 }
 
 /// Law: a closed receiver stands for an end as long as its session goes on: a Tick, a Stop and an Offer change nothing of it.
-pub fn closed_stays()
-    ensures { ClosedStays }
+pub fn idle_engine_outlives_steps()
+    ensures { IdleEngineOutlivesSteps }
 {}

@@ -13,7 +13,7 @@ use Rattle.sampling_port.specs.declared.place.Place.TheVariants as place
 use Rattle.sampling_port.specs.Layout.{length_place, data_place}
 use Rattle.sampling_port.specs.Marks.{PortMark}
 use Rattle.sampling_port.specs.Views.{PortView, IsPlace, writing_place}
-use Rattle.sampling_port.specs.Told.{Line, Wrote, Marked}
+use Rattle.sampling_port.specs.EventRecords.{Line, Wrote, Marked}
 use Rattle.sampling_port.specs.Memory.{last_write}
 use Rattle.sampling_port.proofs.Bytes.{IsByte}
 use Rattle.sampling_port.proofs.Reaching.{length_place_least, length_place_most}

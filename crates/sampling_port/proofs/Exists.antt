@@ -20,12 +20,12 @@ use Rattle.sampling_port.specs.Marks.{PortMark, marked}
 use Rattle.sampling_port.specs.Trees.{PortTree, Ended, Does, Reads, PortStep, port_step, Goes}
 use Rattle.sampling_port.specs.Views.{PortView, IsPort, IsPlace, is_open, is_busy, access_at, note_at, from_at, port_after, closed, got, left, left_at}
 use Rattle.sampling_port.specs.Laws.{PortsFollowCalls, step_of_port}
-use Rattle.sampling_port.specs.Schedule.{PortCall, Publish, Sample, Event, Asked, Turned, Poked, event_peer, schedule}
-use Rattle.sampling_port.specs.Told.{Line, Entry, event_of, mark_lines, step_lines, lines_by, lines_of, own_entries}
+use Rattle.sampling_port.specs.Schedule.{PortCall, Publish, Sample, Event, CallQueued, TurnTaken, Poked, event_peer, schedule}
+use Rattle.sampling_port.specs.EventRecords.{Line, EventRecord, event_of, mark_lines, step_lines, lines_by, lines_of, own_entries}
 use Rattle.sampling_port.specs.Memory.{MemoryLaw}
-use Rattle.sampling_port.specs.Order.{asked_for, mark_of_step, published_with, published_in, last_with, last_got, Progress, outset, tree_of, begins_by, begins, Moves, Acts, noted, Serves}
-use Rattle.sampling_port.specs.History.{Seat, Moment, opening, met, opened, opened_by, met_by, may_write, step_in, seat_in, entry_of, happens, run, beginning, HistoryIsLawful}
-use Rattle.sampling_port.specs.Stage.{IsThere, IsGiven}
+use Rattle.sampling_port.specs.Order.{asked_for, mark_of_step, published_with, published_in, last_with, last_got, Progress, initial_progress, tree_of, begins_by, begins, CallStep, EventStep, noted, IsCallSequence}
+use Rattle.sampling_port.specs.History.{PeerState, HistoryState, opening, met, opened, opened_by, met_by, may_write, step_in, seat_in, entry_of, after_event, run, initial_state, HistoryIsLawful}
+use Rattle.sampling_port.specs.Simulator.{IsPermittedEvent, IsPermittedCall}
 use Rattle.sampling_port.proofs.Telling.{may_of, may_true}
 use Rattle.sampling_port.proofs.Runs.{Kept, opened_kept, kept_on, fresh_kept, there_below, all_there, few_events}
 use Rattle.sampling_port.proofs.Reaching.{length_place_most}
@@ -33,12 +33,12 @@ use Rattle.sampling_port.proofs.Reaching.{length_place_most}
 -- What a step does to the numbers of a port
 
 -- a port's numbers are those that its own entries tell
-pub record Keeps (world : World) (me : ℕ) (seat : Seat) (peer : Progress) : Type 0 where
-  pub left_is : peer.left ≡ left seat.port
-  pub waiting : seat.waiting ≡ drop peer.begun (asked_for peer.past)
+pub record Keeps (world : World) (me : ℕ) (peer_state : PeerState) (peer : Progress) : Type 0 where
+  pub left_is : peer.left ≡ left peer_state.port
+  pub waiting : peer_state.waiting ≡ drop peer.begun (asked_for peer.past)
   pub begun : peer.begun ≤ length (asked_for peer.past)
-  pub published : seat.port.published ≡ published_in peer.past
-  pub lasts : (from : ℕ) → from < 8 → slice_index seat.port.lasts from ≡ last_got from peer.past
+  pub published : peer_state.port.published ≡ published_in peer.past
+  pub lasts : (from : ℕ) → from < 8 → slice_index peer_state.port.lasts from ≡ last_got from peer.past
 
 -- what a mark tells of the numbers
 pub record Numbers (old new : PortView) (mark : Option PortMark) : Type 0 where
@@ -113,74 +113,74 @@ one_left (x ∷ xs) ys y (suc n) is = let t = one_left xs ys y n is in (t.0, sub
     more n = omega arith
 
 -- the tree of a call that is opened
-opens_tree : (world : World) (me : ℕ) (port : PortView) (past : List Entry) (call : PortCall) → PortsFollowCalls → port.shape ≡ world.geometry → port.me ≡ me → port.most ≡ world.most → world.geometry.peers ≤ 8 → IsGiven world call →
+opens_tree : (world : World) (me : ℕ) (port : PortView) (past : List EventRecord) (call : PortCall) → PortsFollowCalls → port.shape ≡ world.geometry → port.me ≡ me → port.most ≡ world.most → world.geometry.peers ≤ 8 → IsPermittedCall world call →
     port.published ≡ published_in past → ((from : ℕ) → from < 8 → slice_index port.lasts from ≡ last_got from past) → tree_of world me past call ≡ left (opening port call)
 opens_tree world me port past (Publish message) follow shape me_is most few given published lasts = sym (follow.publishes port message ∙ (rw (shape, me_is, most, published) refl))
 opens_tree world me port past (Sample from) follow shape me_is most few given published lasts = sym (follow.samples port from ∙ (rw (shape, most, lasts from (omega (arith, given))) refl))
 
-begun_keeps : PortsFollowCalls → (world : World) (me n : ℕ) (seat : Seat) (peer : Progress) (b : Bool) (waiting : List PortCall) → world.geometry.peers ≤ 8 → is_busy seat.port ≡ b → seat.waiting ≡ waiting → Kept world me n seat →
-    Keeps world me seat peer → Keeps world me (opened_by seat b waiting) (begins world me peer)
-begun_keeps follow world me n seat peer true waiting eight busy all kept keeps =
-    let same : begins world me peer ≡ peer = ap (λ (t : PortTree). begins_by world me peer t) keeps.left_is ∙ busy_begins world me peer seat.port seat.port.place busy in
-    subst (λ (x : Progress). Keeps world me seat x) (sym same) keeps
-begun_keeps follow world me n seat peer false [] eight busy all kept keeps =
-    let ended : peer.left ≡ Ended = keeps.left_is ∙ closed_left seat.port seat.port.place busy in
+begun_keeps : PortsFollowCalls → (world : World) (me n : ℕ) (peer_state : PeerState) (peer : Progress) (b : Bool) (waiting : List PortCall) → world.geometry.peers ≤ 8 → is_busy peer_state.port ≡ b → peer_state.waiting ≡ waiting → Kept world me n peer_state →
+    Keeps world me peer_state peer → Keeps world me (opened_by peer_state b waiting) (begins world me peer)
+begun_keeps follow world me n peer_state peer true waiting eight busy all kept keeps =
+    let same : begins world me peer ≡ peer = ap (λ (t : PortTree). begins_by world me peer t) keeps.left_is ∙ busy_begins world me peer peer_state.port peer_state.port.place busy in
+    subst (λ (x : Progress). Keeps world me peer_state x) (sym same) keeps
+begun_keeps follow world me n peer_state peer false [] eight busy all kept keeps =
+    let ended : peer.left ≡ Ended = keeps.left_is ∙ closed_left peer_state.port peer_state.port.place busy in
     let none : slice_get (asked_for peer.past) peer.begun ≡ None = none_left (asked_for peer.past) peer.begun (sym all ∙ keeps.waiting) in
     let same : begins world me peer ≡ peer = rw (ended, none) refl in
-    subst (λ (x : Progress). Keeps world me seat x) (sym same) keeps
-begun_keeps follow world me n seat peer false (call ∷ waiting) eight busy all kept keeps =
-    let ended : peer.left ≡ Ended = keeps.left_is ∙ closed_left seat.port seat.port.place busy in
+    subst (λ (x : Progress). Keeps world me peer_state x) (sym same) keeps
+begun_keeps follow world me n peer_state peer false (call ∷ waiting) eight busy all kept keeps =
+    let ended : peer.left ≡ Ended = keeps.left_is ∙ closed_left peer_state.port peer_state.port.place busy in
     let next = one_left (asked_for peer.past) waiting call peer.begun (sym all ∙ keeps.waiting) in
-    let given : AllByRecursion (IsGiven world) (call ∷ waiting) = subst (λ (cs : List PortCall). AllByRecursion (IsGiven world) cs) all kept.waiting in
+    let given : AllByRecursion (IsPermittedCall world) (call ∷ waiting) = subst (λ (cs : List PortCall). AllByRecursion (IsPermittedCall world) cs) all kept.waiting in
     let begun : Progress = record peer { left = tree_of world me peer.past call; begun = peer.begun + 1 } in
     let same : begins world me peer ≡ begun = rw (ended, next.0) refl in
-    subst (λ (x : Progress). Keeps world me (record { port = opening seat.port call; waiting = waiting }) x) (sym same) (record {
-      left_is = opens_tree world me seat.port peer.past call follow kept.shape kept.me_is kept.most eight given.0 keeps.published keeps.lasts;
+    subst (λ (x : Progress). Keeps world me (record { port = opening peer_state.port call; waiting = waiting }) x) (sym same) (record {
+      left_is = opens_tree world me peer_state.port peer.past call follow kept.shape kept.me_is kept.most eight given.0 keeps.published keeps.lasts;
       waiting = next.1;
       begun = omega (arith, next.2);
       published = published_open call;
       lasts = λ from few. lasts_open from call ∙ keeps.lasts from few;
     })
   where
-    published_open : (call : PortCall) → (opening seat.port call).published ≡ published_in peer.past
+    published_open : (call : PortCall) → (opening peer_state.port call).published ≡ published_in peer.past
     published_open (Publish message) = keeps.published
     published_open (Sample from) = keeps.published
 
-    lasts_open : (from : ℕ) (call : PortCall) → slice_index (opening seat.port call).lasts from ≡ slice_index seat.port.lasts from
+    lasts_open : (from : ℕ) (call : PortCall) → slice_index (opening peer_state.port call).lasts from ≡ slice_index peer_state.port.lasts from
     lasts_open from (Publish message) = refl
     lasts_open from (Sample q) = refl
 
 -- A turn
 
-moves_of : (peer : Progress) (tree : PortTree) (step : PortStep) (new : PortTree) → Goes tree step new → Moves peer tree (Some step) (record peer { left = new })
+moves_of : (peer : Progress) (tree : PortTree) (step : PortStep) (new : PortTree) → Goes tree step new → CallStep peer tree (Some step) (record peer { left = new })
 moves_of peer Ended step new goes = absurd goes
 moves_of peer (Does a mark rest) step new goes = (step, new, refl, goes, refl)
 moves_of peer (Reads word mark rest) step new goes = (step, new, refl, goes, refl)
 
 -- the step of the open call, or none
-turn_moves : PortsFollowCalls → (world : World) (me n : ℕ) (seat : Seat) (peer : Progress) (past : List Line) (b : Bool) → is_busy seat.port ≡ b → Kept world me n seat → Keeps world me seat peer →
-    (mid : Progress) × Moves peer peer.left (if b then Some (step_of_port seat.port (met_by past seat.port)) else None) mid
-    × Keeps world me (record { port = if b then port_after seat.port seat.port.place (met_by past seat.port) else seat.port; waiting = seat.waiting })
-    (noted mid (record { event = Turned me; went = if b then Some (step_of_port seat.port (met_by past seat.port)) else None }))
-turn_moves follow world me n seat peer past true busy kept keeps =
-    let value = met_by past seat.port in
-    let goes = follow.comes seat.port value busy in
-    let new = left (port_after seat.port seat.port.place value) in
-    let numbers = numbers_after seat.port seat.port.place value kept.port kept.port.place in (
+turn_moves : PortsFollowCalls → (world : World) (me n : ℕ) (peer_state : PeerState) (peer : Progress) (past : List Line) (b : Bool) → is_busy peer_state.port ≡ b → Kept world me n peer_state → Keeps world me peer_state peer →
+    (mid : Progress) × CallStep peer peer.left (if b then Some (step_of_port peer_state.port (met_by past peer_state.port)) else None) mid
+    × Keeps world me (record { port = if b then port_after peer_state.port peer_state.port.place (met_by past peer_state.port) else peer_state.port; waiting = peer_state.waiting })
+    (noted mid (record { event = TurnTaken me; went = if b then Some (step_of_port peer_state.port (met_by past peer_state.port)) else None }))
+turn_moves follow world me n peer_state peer past true busy kept keeps =
+    let value = met_by past peer_state.port in
+    let goes = follow.comes peer_state.port value busy in
+    let new = left (port_after peer_state.port peer_state.port.place value) in
+    let numbers = numbers_after peer_state.port peer_state.port.place value kept.port kept.port.place in (
       record peer { left = new },
-      moves_of peer peer.left (step_of_port seat.port value) new (subst (λ (t : PortTree). Goes t (step_of_port seat.port value) new) (sym keeps.left_is) goes),
+      moves_of peer peer.left (step_of_port peer_state.port value) new (subst (λ (t : PortTree). Goes t (step_of_port peer_state.port value) new) (sym keeps.left_is) goes),
       record {
         left_is = refl;
         waiting = keeps.waiting;
         begun = keeps.begun;
-        published = numbers.published ∙ ap (λ k. published_with (step_of_port seat.port value).mark k) keeps.published;
-        lasts = λ from few. numbers.lasts from few ∙ ap (λ k. last_with from (step_of_port seat.port value).mark k) (keeps.lasts from few);
+        published = numbers.published ∙ ap (λ k. published_with (step_of_port peer_state.port value).mark k) keeps.published;
+        lasts = λ from few. numbers.lasts from few ∙ ap (λ k. last_with from (step_of_port peer_state.port value).mark k) (keeps.lasts from few);
       },
     )
-turn_moves follow world me n seat peer past false busy kept keeps =
-    let ended : peer.left ≡ Ended = keeps.left_is ∙ closed_left seat.port seat.port.place busy in (
+turn_moves follow world me n peer_state peer past false busy kept keeps =
+    let ended : peer.left ≡ Ended = keeps.left_is ∙ closed_left peer_state.port peer_state.port.place busy in (
       peer,
-      subst (λ (t : PortTree). Moves peer t None peer) (sym ended) (refl, refl),
+      subst (λ (t : PortTree). CallStep peer t None peer) (sym ended) (refl, refl),
       record { left_is = keeps.left_is; waiting = keeps.waiting; begun = keeps.begun; published = keeps.published; lasts = keeps.lasts },
     )
 
@@ -199,12 +199,12 @@ poked_quiet : (word value : ℕ) (b : Bool) → mark_of_step (if b then Some (po
 poked_quiet word value true = refl
 poked_quiet word value false = refl
 
--- an event of a peer's own is in order, and its seat keeps it
-pub event_keeps : PortsFollowCalls → (world : World) (n : ℕ) (seat : Seat) (peer : Progress) (past : List Line) (event : Event) → world.geometry.peers ≤ 8 → n < 4000001 → Kept world (event_peer event) n seat →
-    Keeps world (event_peer event) seat peer →
-    (mid : Progress) × Acts world (event_peer event) peer event (step_in world.geometry seat past event) mid
-    × Keeps world (event_peer event) (seat_in seat past event) (noted mid (record { event = event; went = step_in world.geometry seat past event }))
-event_keeps follow world n seat peer past (Asked p call) eight small kept keeps = (
+-- an event of a peer's own is in order, and its peer state keeps it
+pub event_keeps : PortsFollowCalls → (world : World) (n : ℕ) (peer_state : PeerState) (peer : Progress) (past : List Line) (event : Event) → world.geometry.peers ≤ 8 → n < 4000001 → Kept world (event_peer event) n peer_state →
+    Keeps world (event_peer event) peer_state peer →
+    (mid : Progress) × EventStep world (event_peer event) peer event (step_in world.geometry peer_state past event) mid
+    × Keeps world (event_peer event) (seat_in peer_state past event) (noted mid (record { event = event; went = step_in world.geometry peer_state past event }))
+event_keeps follow world n peer_state peer past (CallQueued p call) eight small kept keeps = (
   peer,
   (refl, refl),
   record {
@@ -215,9 +215,9 @@ event_keeps follow world n seat peer past (Asked p call) eight small kept keeps 
     lasts = keeps.lasts;
   },
 )
-event_keeps follow world n seat peer past (Turned p) eight small kept keeps =
-    turn_moves follow world p n (opened seat) (begins world p peer) past _ refl (opened_kept world p n seat _ _ refl refl small kept) (begun_keeps follow world p n seat peer _ _ eight refl refl kept keeps)
-event_keeps follow world n seat peer past (Poked p word value) eight small kept keeps =
+event_keeps follow world n peer_state peer past (TurnTaken p) eight small kept keeps =
+    turn_moves follow world p n (opened peer_state) (begins world p peer) past _ refl (opened_kept world p n peer_state _ _ refl refl small kept) (begun_keeps follow world p n peer_state peer _ _ eight refl refl kept keeps)
+event_keeps follow world n peer_state peer past (Poked p word value) eight small kept keeps =
     let quiet = poked_quiet word value (may_write world.geometry p word) in (
       peer,
       (poked_made word value (may_write world.geometry p word), refl),
@@ -279,12 +279,12 @@ fine_at port (place.AtLength from sequence) is there = tt
 fine_at port (place.AtWord from sequence bytes at more) is there = tt
 fine_at port (place.AtSecond from sequence) is there = tt
 
-turn_law : (world : World) (me n : ℕ) (seat : Seat) (past : List Line) (b : Bool) → is_busy seat.port ≡ b → Kept world me n seat → MemoryLaw world.geometry past →
-    MemoryLaw world.geometry (reverse (lines_by (Turned me) (if b then Some (step_of_port seat.port (met_by past seat.port)) else None)) ++ past)
-turn_law world me n seat past true busy kept law =
-    let fine = fine_at seat.port seat.port.place kept.port kept.port.place in
-    step_law world.geometry me (access_at seat.port seat.port.place) _ past (subst (λ (g : Shape). Fine g me (access_at seat.port seat.port.place)) kept.shape (subst (λ (m : ℕ). Fine seat.port.shape m (access_at seat.port seat.port.place)) kept.me_is fine)) law
-turn_law world me n seat past false busy kept law = (tt, law)
+turn_law : (world : World) (me n : ℕ) (peer_state : PeerState) (past : List Line) (b : Bool) → is_busy peer_state.port ≡ b → Kept world me n peer_state → MemoryLaw world.geometry past →
+    MemoryLaw world.geometry (reverse (lines_by (TurnTaken me) (if b then Some (step_of_port peer_state.port (met_by past peer_state.port)) else None)) ++ past)
+turn_law world me n peer_state past true busy kept law =
+    let fine = fine_at peer_state.port peer_state.port.place kept.port kept.port.place in
+    step_law world.geometry me (access_at peer_state.port peer_state.port.place) _ past (subst (λ (g : Shape). Fine g me (access_at peer_state.port peer_state.port.place)) kept.shape (subst (λ (m : ℕ). Fine peer_state.port.shape m (access_at peer_state.port peer_state.port.place)) kept.me_is fine)) law
+turn_law world me n peer_state past false busy kept law = (tt, law)
 
 poke_law : (g : Shape) (peer word value : ℕ) (past : List Line) (b : Bool) → may_write g peer word ≡ b → MemoryLaw g past → MemoryLaw g (reverse (lines_by (Poked peer word value) (if b then Some (port_step (access.Write word value) 0 None) else None)) ++ past)
 poke_law g peer word value past true is law = (may_of g peer word is, law)
@@ -293,25 +293,25 @@ poke_law g peer word value past false is law = ((λ may. never (sym is ∙ may_t
     never : false ≡ true → ⊥
     never e = cc
 
-pub event_law : (world : World) (n : ℕ) (seat : Seat) (past : List Line) (event : Event) → n < 4000001 → Kept world (event_peer event) n seat → MemoryLaw world.geometry past →
-    MemoryLaw world.geometry (reverse (lines_by event (step_in world.geometry seat past event)) ++ past)
-event_law world n seat past (Asked p call) small kept law = law
-event_law world n seat past (Turned p) small kept law = turn_law world p n (opened seat) past _ refl (opened_kept world p n seat _ _ refl refl small kept) law
-event_law world n seat past (Poked p word value) small kept law = poke_law world.geometry p word value past _ refl law
+pub event_law : (world : World) (n : ℕ) (peer_state : PeerState) (past : List Line) (event : Event) → n < 4000001 → Kept world (event_peer event) n peer_state → MemoryLaw world.geometry past →
+    MemoryLaw world.geometry (reverse (lines_by event (step_in world.geometry peer_state past event)) ++ past)
+event_law world n peer_state past (CallQueued p call) small kept law = law
+event_law world n peer_state past (TurnTaken p) small kept law = turn_law world p n (opened peer_state) past _ refl (opened_kept world p n peer_state _ _ refl refl small kept) law
+event_law world n peer_state past (Poked p word value) small kept law = poke_law world.geometry p word value past _ refl law
 
 -- The whole history
 
-abbrev pub entries_of : World → List Event → Moment → List Entry
+abbrev pub entries_of : World → List Event → HistoryState → List EventRecord
 entries_of world [] moment = []
-entries_of world (event ∷ events) moment = entry_of world.geometry moment event ∷ entries_of world events (happens world.geometry moment event)
+entries_of world (event ∷ events) moment = entry_of world.geometry moment event ∷ entries_of world events (after_event world.geometry moment event)
 
-abbrev pub AreKept : World → ℕ → Moment → Type 0
-AreKept world n moment = (p : ℕ) → p < world.geometry.peers → Kept world p n (moment.seats p)
+abbrev pub AreKept : World → ℕ → HistoryState → Type 0
+AreKept world n moment = (p : ℕ) → p < world.geometry.peers → Kept world p n (moment.peer_states p)
 
-pub kept_one : (world : World) (n : ℕ) (moment : Moment) (event : Event) → n < 4000000 → IsThere world event → AreKept world n moment → AreKept world (n + 1) (happens world.geometry moment event)
+pub kept_one : (world : World) (n : ℕ) (moment : HistoryState) (event : Event) → n < 4000000 → IsPermittedEvent world event → AreKept world n moment → AreKept world (n + 1) (after_event world.geometry moment event)
 kept_one world n moment event small there kept = λ p below. kept_on world world.geometry (event ∷ []) n moment (omega arith) (there, tt) kept p below
 
-record Found (world : World) (events : List Event) (moment : Moment) : Type 0 where
+record Found (world : World) (events : List Event) (moment : HistoryState) : Type 0 where
   scheduled : map event_of (entries_of world events moment) ≡ events
   lines : reverse (flat_map lines_of (entries_of world events moment)) ++ moment.past ≡ (run world.geometry events moment).past
   law : MemoryLaw world.geometry (run world.geometry events moment).past
@@ -319,41 +319,41 @@ record Found (world : World) (events : List Event) (moment : Moment) : Type 0 wh
 lines_go : (s new : List Line) (past all : List Line) → reverse new ++ (reverse s ++ past) ≡ all → reverse (s ++ new) ++ past ≡ all
 lines_go s new past all is = ap (λ r. r ++ past) (reverse-append s new) ∙ append_assoc (reverse new) (reverse s) past ∙ is
 
-found : (world : World) (events : List Event) (n : ℕ) (moment : Moment) → n + length events ≤ 4000000 → AllByRecursion (IsThere world) events → AreKept world n moment → MemoryLaw world.geometry moment.past → Found world events moment
+found : (world : World) (events : List Event) (n : ℕ) (moment : HistoryState) → n + length events ≤ 4000000 → AllByRecursion (IsPermittedEvent world) events → AreKept world n moment → MemoryLaw world.geometry moment.past → Found world events moment
 found world [] n moment few there kept law = record { scheduled = refl; lines = refl; law = law }
 found world (event ∷ events) n moment few there kept law =
-    let now = event_law world n (moment.seats (event_peer event)) moment.past event (omega arith) (kept (event_peer event) (there_below world event there.0)) law in
-    let rest = found world events (n + 1) (happens world.geometry moment event) (omega arith) there.1 (kept_one world n moment event (omega arith) there.0 kept) now in
+    let now = event_law world n (moment.peer_states (event_peer event)) moment.past event (omega arith) (kept (event_peer event) (there_below world event there.0)) law in
+    let rest = found world events (n + 1) (after_event world.geometry moment event) (omega arith) there.1 (kept_one world n moment event (omega arith) there.0 kept) now in
     record {
       scheduled = ap (λ es. event ∷ es) rest.scheduled;
-      lines = ap (λ (ls : List Line). reverse ls ++ moment.past) (flat_map-cons lines_of (entry_of world.geometry moment event) (entries_of world events (happens world.geometry moment event)))
-          ∙ lines_go (lines_of (entry_of world.geometry moment event)) (flat_map lines_of (entries_of world events (happens world.geometry moment event))) moment.past _ rest.lines;
+      lines = ap (λ (ls : List Line). reverse ls ++ moment.past) (flat_map-cons lines_of (entry_of world.geometry moment event) (entries_of world events (after_event world.geometry moment event)))
+          ∙ lines_go (lines_of (entry_of world.geometry moment event)) (flat_map lines_of (entries_of world events (after_event world.geometry moment event))) moment.past _ rest.lines;
       law = rest.law;
     }
 
 -- the entry of an event and those after it, for a peer
-serves_from : PortsFollowCalls → (world : World) (n : ℕ) (moment : Moment) (event : Event) (others : List Entry) (q : ℕ) (peer : Progress) → world.geometry.peers ≤ 8 → n < 4000000 → IsThere world event → AreKept world n moment → Keeps world q (moment.seats q) peer →
-    ((next : Progress) → Keeps world q ((happens world.geometry moment event).seats q) next → (end : Progress) × Serves world q next (own_entries q others) end) → (b : Bool) → (event_peer event == q) ≡ b →
-    (end : Progress) × Serves world q peer (if b then entry_of world.geometry moment event ∷ own_entries q others else own_entries q others) end
+serves_from : PortsFollowCalls → (world : World) (n : ℕ) (moment : HistoryState) (event : Event) (others : List EventRecord) (q : ℕ) (peer : Progress) → world.geometry.peers ≤ 8 → n < 4000000 → IsPermittedEvent world event → AreKept world n moment → Keeps world q (moment.peer_states q) peer →
+    ((next : Progress) → Keeps world q ((after_event world.geometry moment event).peer_states q) next → (end : Progress) × IsCallSequence world q next (own_entries q others) end) → (b : Bool) → (event_peer event == q) ≡ b →
+    (end : Progress) × IsCallSequence world q peer (if b then entry_of world.geometry moment event ∷ own_entries q others else own_entries q others) end
 serves_from follow world n moment event others q peer eight small there kept keeps rest true is =
     let p = event_peer event in
     let same : p ≡ q = eqb-true p q is in
-    let mine : Keeps world p (moment.seats p) peer = subst (λ (k : ℕ). Keeps world k (moment.seats k) peer) (sym same) keeps in
-    let on = event_keeps follow world n (moment.seats p) peer moment.past event eight (omega arith) (kept p (there_below world event there)) mine in
-    let here : Keeps world q (seat_in (moment.seats p) moment.past event) (noted on.0 (entry_of world.geometry moment event)) = subst (λ (k : ℕ). Keeps world k (seat_in (moment.seats p) moment.past event) (noted on.0 (entry_of world.geometry moment event))) same on.2 in
-    let then_ : Keeps world q ((happens world.geometry moment event).seats q) (noted on.0 (entry_of world.geometry moment event)) = rw is here in
+    let mine : Keeps world p (moment.peer_states p) peer = subst (λ (k : ℕ). Keeps world k (moment.peer_states k) peer) (sym same) keeps in
+    let on = event_keeps follow world n (moment.peer_states p) peer moment.past event eight (omega arith) (kept p (there_below world event there)) mine in
+    let here : Keeps world q (seat_in (moment.peer_states p) moment.past event) (noted on.0 (entry_of world.geometry moment event)) = subst (λ (k : ℕ). Keeps world k (seat_in (moment.peer_states p) moment.past event) (noted on.0 (entry_of world.geometry moment event))) same on.2 in
+    let then_ : Keeps world q ((after_event world.geometry moment event).peer_states q) (noted on.0 (entry_of world.geometry moment event)) = rw is here in
     let others_served = rest (noted on.0 (entry_of world.geometry moment event)) then_ in
-    (others_served.0, (on.0, subst (λ (k : ℕ). Acts world k peer event (step_in world.geometry (moment.seats p) moment.past event) on.0) same on.1, others_served.1))
+    (others_served.0, (on.0, subst (λ (k : ℕ). EventStep world k peer event (step_in world.geometry (moment.peer_states p) moment.past event) on.0) same on.1, others_served.1))
 serves_from follow world n moment event others q peer eight small there kept keeps rest false is = rest peer (rw is keeps)
 
-served : PortsFollowCalls → (world : World) (events : List Event) (n : ℕ) (moment : Moment) (q : ℕ) (peer : Progress) → world.geometry.peers ≤ 8 → n + length events ≤ 4000000 → AllByRecursion (IsThere world) events → AreKept world n moment →
-    Keeps world q (moment.seats q) peer → (end : Progress) × Serves world q peer (own_entries q (entries_of world events moment)) end
+served : PortsFollowCalls → (world : World) (events : List Event) (n : ℕ) (moment : HistoryState) (q : ℕ) (peer : Progress) → world.geometry.peers ≤ 8 → n + length events ≤ 4000000 → AllByRecursion (IsPermittedEvent world) events → AreKept world n moment →
+    Keeps world q (moment.peer_states q) peer → (end : Progress) × IsCallSequence world q peer (own_entries q (entries_of world events moment)) end
 served follow world [] n moment q peer eight few there kept keeps = (peer, refl)
 served follow world (event ∷ events) n moment q peer eight few there kept keeps =
-    serves_from follow world n moment event (entries_of world events (happens world.geometry moment event)) q peer eight (omega arith) there.0 kept keeps
-    (λ next on. served follow world events (n + 1) (happens world.geometry moment event) q next eight (omega arith) there.1 (kept_one world n moment event (omega arith) there.0 kept) on) (event_peer event == q) refl
+    serves_from follow world n moment event (entries_of world events (after_event world.geometry moment event)) q peer eight (omega arith) there.0 kept keeps
+    (λ next on. served follow world events (n + 1) (after_event world.geometry moment event) q next eight (omega arith) there.1 (kept_one world n moment event (omega arith) there.0 kept) on) (event_peer event == q) refl
 
-fresh_keeps : (world : World) (p : ℕ) → Keeps world p ((beginning world).seats p) outset
+fresh_keeps : (world : World) (p : ℕ) → Keeps world p ((initial_state world).peer_states p) initial_progress
 fresh_keeps world p = record { left_is = refl; waiting = refl; begun = omega arith; published = refl; lasts = λ from few. none from }
   where
     none : (from : ℕ) → slice_index (replicate 8 0) from ≡ 0
@@ -362,7 +362,7 @@ fresh_keeps world p = record { left_is = refl; waiting = refl; begun = omega ari
 pub history_lem : PortsFollowCalls → HistoryIsLawful
 history_lem follow world is =
     let events = schedule world.acts in
-    let moment = beginning world in
+    let moment = initial_state world in
     let few : 0 + length events ≤ 4000000 = few_events world is in
     let there = all_there world is in
     let kept : AreKept world 0 moment = λ p below. fresh_kept world p is below in
@@ -373,6 +373,6 @@ history_lem follow world is =
         events = f.scheduled;
         told = sym (reverse-reverse (flat_map lines_of entries)) ∙ ap reverse (sym (append-nil (reverse (flat_map lines_of entries))) ∙ f.lines);
         memory = rw reverse-reverse f.law;
-        calls = λ p. served follow world events 0 moment p outset is.few few there kept (fresh_keeps world p);
+        calls = λ p. served follow world events 0 moment p initial_progress is.few few there kept (fresh_keeps world p);
       },
     )

@@ -19,14 +19,14 @@ use Rattle.sampling_port.specs.Marks.{PortMark, Publish, Got, Nothing, Again, Re
 use Rattle.sampling_port.specs.Trees.{port_step}
 use Rattle.sampling_port.specs.Views.{PortView, IsPlace, is_busy, access_at, note_at, from_at, port_after, closed, got, reading_place, writing_place}
 use Rattle.sampling_port.specs.Laws.{step_of_port}
-use Rattle.sampling_port.specs.Schedule.{PortCall, Event, Asked, Turned, Poked, event_peer, schedule}
+use Rattle.sampling_port.specs.Schedule.{PortCall, Event, CallQueued, TurnTaken, Poked, event_peer, schedule}
 use Rattle.sampling_port.specs.Schedule as call
-use Rattle.sampling_port.specs.Told.{Line, Read, Wrote, Denied, Idle, Marked, access_lines, mark_lines, step_lines, lines_by}
+use Rattle.sampling_port.specs.EventRecords.{Line, Read, Wrote, Denied, Idle, Marked, access_lines, mark_lines, step_lines, lines_by}
 use Rattle.sampling_port.specs.Order.{last_with}
 use Rattle.sampling_port.specs.Lawful.{IsLawful, HasOneHistory}
-use Rattle.sampling_port.specs.History.{Seat, Moment, opened, opened_by, met_by, may_write, seat_in, happens, run, beginning, moment_of, history, HistoryIsLawful}
+use Rattle.sampling_port.specs.History.{PeerState, HistoryState, opened, opened_by, met_by, may_write, seat_in, after_event, run, initial_state, moment_of, history, HistoryIsLawful}
 use Rattle.sampling_port.specs.HistoryLaws.{NumbersNeverFall}
-use Rattle.sampling_port.specs.Stage.{IsThere}
+use Rattle.sampling_port.specs.Simulator.{IsPermittedEvent}
 use Rattle.sampling_port.proofs.Exists.{AreKept, numbers_after, kept_one}
 use Rattle.sampling_port.proofs.Runs.{Kept, opened_kept, fresh_kept, all_there, few_events}
 
@@ -212,16 +212,16 @@ mark_highest reader writer me (Some mark) past b is = rw is refl
 
 -- Events
 
-record Calm (world : World) (n : ℕ) (moment : Moment) : Type 0 where
+record Calm (world : World) (n : ℕ) (moment : HistoryState) : Type 0 where
   all : NeverFallen moment.past
   kept : AreKept world n moment
-  lasts : (p : ℕ) → p < world.geometry.peers → Lasts p (moment.seats p).port moment.past
+  lasts : (p : ℕ) → p < world.geometry.peers → Lasts p (moment.peer_states p).port moment.past
 
-opened_lasts : (p : ℕ) (seat : Seat) (past : List Line) (b : Bool) (waiting : List PortCall) → Lasts p seat.port past → Lasts p (opened_by seat b waiting).port past
-opened_lasts p seat past true waiting lasts = lasts
-opened_lasts p seat past false [] lasts = lasts
-opened_lasts p seat past false (call.Publish message ∷ waiting) lasts = record { lasts = lasts.lasts; place = tt }
-opened_lasts p seat past false (call.Sample from ∷ waiting) lasts = record { lasts = lasts.lasts; place = tt }
+opened_lasts : (p : ℕ) (peer_state : PeerState) (past : List Line) (b : Bool) (waiting : List PortCall) → Lasts p peer_state.port past → Lasts p (opened_by peer_state b waiting).port past
+opened_lasts p peer_state past true waiting lasts = lasts
+opened_lasts p peer_state past false [] lasts = lasts
+opened_lasts p peer_state past false (call.Publish message ∷ waiting) lasts = record { lasts = lasts.lasts; place = tt }
+opened_lasts p peer_state past false (call.Sample from ∷ waiting) lasts = record { lasts = lasts.lasts; place = tt }
 
 -- what a turn tells, and where the others are
 record Turn (me : ℕ) (past new : List Line) (port : PortView) : Type 0 where
@@ -229,10 +229,10 @@ record Turn (me : ℕ) (past new : List Line) (port : PortView) : Type 0 where
   mine : Lasts me port new
   others : (p writer : ℕ) → (me == p) ≡ false → highest p writer new ≡ highest p writer past
 
-turn_calm : (world : World) (me n : ℕ) (seat : Seat) (past : List Line) (b : Bool) → is_busy seat.port ≡ b → Kept world me n seat → Lasts me seat.port past → NeverFallen past →
-    Turn me past (reverse (lines_by (Turned me) (if b then Some (step_of_port seat.port (met_by past seat.port)) else None)) ++ past) (if b then port_after seat.port seat.port.place (met_by past seat.port) else seat.port)
-turn_calm world me n seat past true busy kept lasts all =
-    let port = seat.port in
+turn_calm : (world : World) (me n : ℕ) (peer_state : PeerState) (past : List Line) (b : Bool) → is_busy peer_state.port ≡ b → Kept world me n peer_state → Lasts me peer_state.port past → NeverFallen past →
+    Turn me past (reverse (lines_by (TurnTaken me) (if b then Some (step_of_port peer_state.port (met_by past peer_state.port)) else None)) ++ past) (if b then port_after peer_state.port peer_state.port.place (met_by past peer_state.port) else peer_state.port)
+turn_calm world me n peer_state past true busy kept lasts all =
+    let port = peer_state.port in
     let value = met_by past port in
     let a = access_at port port.place in
     let mark = marked (from_at port.place) port.hand (note_at port port.place value) in
@@ -248,31 +248,31 @@ turn_calm world me n seat past true busy kept lasts all =
       };
       others = λ p writer other. mark_highest p writer me mark quiet false other ∙ quiet_highest p writer me a value past;
     })
-turn_calm world me n seat past false busy kept lasts all = record { all = (tt, all); mine = record { lasts = lasts.lasts; place = lasts.place }; others = λ p writer other. refl }
+turn_calm world me n peer_state past false busy kept lasts all = record { all = (tt, all); mine = record { lasts = lasts.lasts; place = lasts.place }; others = λ p writer other. refl }
 
-turned : (world : World) (n me : ℕ) (moment : Moment) → n < 4000000 → me < world.geometry.peers → Calm world n moment → Calm world (n + 1) (happens world.geometry moment (Turned me))
+turned : (world : World) (n me : ℕ) (moment : HistoryState) → n < 4000000 → me < world.geometry.peers → Calm world n moment → Calm world (n + 1) (after_event world.geometry moment (TurnTaken me))
 turned world n me moment small there calm =
-    let seat = moment.seats me in
-    let t = turn_calm world me n (opened seat) moment.past _ refl (opened_kept world me n seat _ _ refl refl (omega arith) (calm.kept me there)) (opened_lasts me seat moment.past _ _ (calm.lasts me there)) calm.all in
+    let peer_state = moment.peer_states me in
+    let t = turn_calm world me n (opened peer_state) moment.past _ refl (opened_kept world me n peer_state _ _ refl refl (omega arith) (calm.kept me there)) (opened_lasts me peer_state moment.past _ _ (calm.lasts me there)) calm.all in
     record {
       all = t.all;
-      kept = kept_one world n moment (Turned me) small there calm.kept;
+      kept = kept_one world n moment (TurnTaken me) small there calm.kept;
       lasts = λ p below. each t p below _ refl;
     }
   where
-    each : Turn me moment.past (happens world.geometry moment (Turned me)).past (seat_in (moment.seats me) moment.past (Turned me)).port → (p : ℕ) → p < world.geometry.peers → (b : Bool) → (me == p) ≡ b →
-        Lasts p (if b then seat_in (moment.seats me) moment.past (Turned me) else moment.seats p).port (happens world.geometry moment (Turned me)).past
-    each t p below true is = subst (λ (k : ℕ). Lasts k (seat_in (moment.seats me) moment.past (Turned me)).port (happens world.geometry moment (Turned me)).past) (eqb-true me p is) t.mine
+    each : Turn me moment.past (after_event world.geometry moment (TurnTaken me)).past (seat_in (moment.peer_states me) moment.past (TurnTaken me)).port → (p : ℕ) → p < world.geometry.peers → (b : Bool) → (me == p) ≡ b →
+        Lasts p (if b then seat_in (moment.peer_states me) moment.past (TurnTaken me) else moment.peer_states p).port (after_event world.geometry moment (TurnTaken me)).past
+    each t p below true is = subst (λ (k : ℕ). Lasts k (seat_in (moment.peer_states me) moment.past (TurnTaken me)).port (after_event world.geometry moment (TurnTaken me)).past) (eqb-true me p is) t.mine
     each t p below false is = let old = calm.lasts p below in record { lasts = λ writer few. old.lasts writer few ∙ sym (t.others p writer is); place = old.place }
 
-asked_seat : (me p : ℕ) (seat other : Seat) (call : PortCall) (past : List Line) (b : Bool) → (me == p) ≡ b → Lasts p other.port past → (b ≡ true → Lasts p seat.port past) →
-    Lasts p (if b then record seat { waiting = seat.waiting ++ call ∷ [] } else other).port past
-asked_seat me p seat other call past true is lasts mine = let m = mine refl in record { lasts = m.lasts; place = m.place }
-asked_seat me p seat other call past false is lasts mine = lasts
+asked_seat : (me p : ℕ) (peer_state other : PeerState) (call : PortCall) (past : List Line) (b : Bool) → (me == p) ≡ b → Lasts p other.port past → (b ≡ true → Lasts p peer_state.port past) →
+    Lasts p (if b then record peer_state { waiting = peer_state.waiting ++ call ∷ [] } else other).port past
+asked_seat me p peer_state other call past true is lasts mine = let m = mine refl in record { lasts = m.lasts; place = m.place }
+asked_seat me p peer_state other call past false is lasts mine = lasts
 
-poked_seat : (me p : ℕ) (seat other : Seat) (past : List Line) (b : Bool) → (b ≡ true → Lasts p seat.port past) → Lasts p other.port past → Lasts p (if b then seat else other).port past
-poked_seat me p seat other past true mine theirs = mine refl
-poked_seat me p seat other past false mine theirs = theirs
+poked_seat : (me p : ℕ) (peer_state other : PeerState) (past : List Line) (b : Bool) → (b ≡ true → Lasts p peer_state.port past) → Lasts p other.port past → Lasts p (if b then peer_state else other).port past
+poked_seat me p peer_state other past true mine theirs = mine refl
+poked_seat me p peer_state other past false mine theirs = theirs
 
 poked_all : (me word value : ℕ) (past : List Line) (b : Bool) → NeverFallen past → NeverFallen (reverse (lines_by (Poked me word value) (if b then Some (port_step (access.Write word value) 0 None) else None)) ++ past)
 poked_all me word value past true all = (tt, all)
@@ -282,13 +282,13 @@ poked_highest : (p writer me word value : ℕ) (past : List Line) (b : Bool) →
 poked_highest p writer me word value past true = refl
 poked_highest p writer me word value past false = refl
 
-calm_on : (world : World) (n : ℕ) (moment : Moment) (event : Event) → n < 4000000 → IsThere world event → Calm world n moment → Calm world (n + 1) (happens world.geometry moment event)
-calm_on world n moment (Asked me call) small there calm = record {
+calm_on : (world : World) (n : ℕ) (moment : HistoryState) (event : Event) → n < 4000000 → IsPermittedEvent world event → Calm world n moment → Calm world (n + 1) (after_event world.geometry moment event)
+calm_on world n moment (CallQueued me call) small there calm = record {
   all = calm.all;
-  kept = kept_one world n moment (Asked me call) small there calm.kept;
-  lasts = λ p below. asked_seat me p (moment.seats me) (moment.seats p) call moment.past _ refl (calm.lasts p below) (λ is. subst (λ (k : ℕ). Lasts p (moment.seats k).port moment.past) (sym (eqb-true me p is)) (calm.lasts p below));
+  kept = kept_one world n moment (CallQueued me call) small there calm.kept;
+  lasts = λ p below. asked_seat me p (moment.peer_states me) (moment.peer_states p) call moment.past _ refl (calm.lasts p below) (λ is. subst (λ (k : ℕ). Lasts p (moment.peer_states k).port moment.past) (sym (eqb-true me p is)) (calm.lasts p below));
 }
-calm_on world n moment (Turned me) small there calm = turned world n me moment small there calm
+calm_on world n moment (TurnTaken me) small there calm = turned world n me moment small there calm
 calm_on world n moment (Poked me word value) small there calm =
     let b = may_write world.geometry me word in
     record {
@@ -296,17 +296,17 @@ calm_on world n moment (Poked me word value) small there calm =
       kept = kept_one world n moment (Poked me word value) small there calm.kept;
       lasts = λ p below.
           let old = calm.lasts p below in
-          let new : Lasts p (moment.seats p).port (happens world.geometry moment (Poked me word value)).past = record { lasts = λ writer few. old.lasts writer few ∙ sym (poked_highest p writer me word value moment.past b); place = old.place } in
-          poked_seat me p (moment.seats me) (moment.seats p) _ _ (λ is. subst (λ (k : ℕ). Lasts p (moment.seats k).port (happens world.geometry moment (Poked me word value)).past) (sym (eqb-true me p is)) new) new;
+          let new : Lasts p (moment.peer_states p).port (after_event world.geometry moment (Poked me word value)).past = record { lasts = λ writer few. old.lasts writer few ∙ sym (poked_highest p writer me word value moment.past b); place = old.place } in
+          poked_seat me p (moment.peer_states me) (moment.peer_states p) _ _ (λ is. subst (λ (k : ℕ). Lasts p (moment.peer_states k).port (after_event world.geometry moment (Poked me word value)).past) (sym (eqb-true me p is)) new) new;
     }
 
-calm_run : (world : World) (events : List Event) (n : ℕ) (moment : Moment) → n + length events ≤ 4000000 → AllByRecursion (IsThere world) events → Calm world n moment → Calm world (n + length events) (run world.geometry events moment)
+calm_run : (world : World) (events : List Event) (n : ℕ) (moment : HistoryState) → n + length events ≤ 4000000 → AllByRecursion (IsPermittedEvent world) events → Calm world n moment → Calm world (n + length events) (run world.geometry events moment)
 calm_run world [] n moment few there calm = subst (λ (k : ℕ). Calm world k moment) (omega arith) calm
 calm_run world (event ∷ events) n moment few there calm =
-    subst (λ (k : ℕ). Calm world k (run world.geometry events (happens world.geometry moment event))) (omega arith)
-    (calm_run world events (n + 1) (happens world.geometry moment event) (omega arith) there.1 (calm_on world n moment event (omega arith) there.0 calm))
+    subst (λ (k : ℕ). Calm world k (run world.geometry events (after_event world.geometry moment event))) (omega arith)
+    (calm_run world events (n + 1) (after_event world.geometry moment event) (omega arith) there.1 (calm_on world n moment event (omega arith) there.0 calm))
 
-calm_at_first : (world : World) → IsWorld world → Calm world 0 (beginning world)
+calm_at_first : (world : World) → IsWorld world → Calm world 0 (initial_state world)
 calm_at_first world is = record {
   all = tt;
   kept = λ p below. fresh_kept world p is below;
@@ -317,7 +317,7 @@ calm_at_first world is = record {
     none writer = grind (arith, common_steps)
 
 never_fallen : (world : World) → IsWorld world → NeverFallen (moment_of world (schedule world.acts)).past
-never_fallen world is = (calm_run world (schedule world.acts) 0 (beginning world) (few_events world is) (all_there world is) (calm_at_first world is)).all
+never_fallen world is = (calm_run world (schedule world.acts) 0 (initial_state world) (few_events world is) (all_there world is) (calm_at_first world is)).all
 
 -- the computed past is the lawful lines, the newest first
 pub past_is : HasOneHistory → HistoryIsLawful → (world : World) (lines : List Line) → IsWorld world → IsLawful world lines → (moment_of world (schedule world.acts)).past ≡ reverse lines

@@ -15,7 +15,7 @@ use Rattle.sampling_port.specs.declared.place.Place.TheVariants as place
 use Rattle.sampling_port.specs.Marks.{PortMark, Publish, Got, Nothing, Again, Refuse, marked}
 use Rattle.sampling_port.specs.Calls.{is_length}
 use Rattle.sampling_port.specs.Views.{PortView, closed, got, reading_place}
-use Rattle.sampling_port.specs.Told.{Line, Read, Wrote, Denied, Idle, Marked, mark_lines}
+use Rattle.sampling_port.specs.EventRecords.{Line, Read, Wrote, Denied, Idle, Marked, mark_lines}
 use Rattle.sampling_port.specs.Memory.{last_write}
 use Rattle.sampling_port.specs.HistoryLaws.{is_of, is_read_of, lines_by_peer, reads_by_peer, publishes, published_by}
 use Rattle.sampling_port.proofs.Bytes.{one_word}

@@ -23,13 +23,13 @@ use Rattle.sampling_port.specs.Marks.{Publish, Got, Nothing, Again, Refuse, mark
 use Rattle.sampling_port.specs.Trees.{port_step}
 use Rattle.sampling_port.specs.Views.{PortView, IsPlace, is_open, is_busy, from_at, access_at, note_at, port_after, own, theirs, writing_place}
 use Rattle.sampling_port.specs.Laws.{step_of_port}
-use Rattle.sampling_port.specs.Schedule.{PortCall, Event, Asked, Turned, Poked, event_peer, events_of, schedule}
+use Rattle.sampling_port.specs.Schedule.{PortCall, Event, CallQueued, TurnTaken, Poked, event_peer, events_of, schedule}
 use Rattle.sampling_port.specs.Schedule as call
-use Rattle.sampling_port.specs.Told.{Line, Read, Wrote, Denied, Idle, Marked, access_lines, mark_lines, lines_by}
+use Rattle.sampling_port.specs.EventRecords.{Line, Read, Wrote, Denied, Idle, Marked, access_lines, mark_lines, lines_by}
 use Rattle.sampling_port.specs.Lawful.{IsLawful, HasOneHistory}
-use Rattle.sampling_port.specs.History.{Seat, Moment, met, met_by, opened, opened_by, may_write, seat_in, happens, run, beginning, moment_of, HistoryIsLawful}
+use Rattle.sampling_port.specs.History.{PeerState, HistoryState, met, met_by, opened, opened_by, may_write, seat_in, after_event, run, initial_state, moment_of, HistoryIsLawful}
 use Rattle.sampling_port.specs.HistoryLaws.{message_in, messages_of, is_of, is_read_of, publishes, published_by, GotIsPublished, LooksCountPublishes, ZeroIsNothing, NothingIsUnpublished, AgainIsLater, HonestIsNotRefused}
-use Rattle.sampling_port.specs.Stage.{IsThere}
+use Rattle.sampling_port.specs.Simulator.{IsPermittedEvent}
 use Rattle.sampling_port.proofs.Telling.{may_of}
 use Rattle.sampling_port.proofs.Bytes.{IsByte}
 use Rattle.sampling_port.proofs.Buffers.{head_of, length_at, data_at, IsMessage, Opened, Writer, Same, length_in, data_in, same_beside, opened_same, writer_same, wrote_length, wrote_word}
@@ -44,37 +44,37 @@ use Rattle.sampling_port.proofs.Falling.{step_is, past_is, split_past}
 step_at : (world : World) (q me : ℕ) (messages : List (List ℕ)) (past : List Line) (port : PortView) (done : List (List ℕ)) (p : Place) → IsWorld world → q < world.geometry.peers → Before world q messages past done → Stands world q me port past done →
     port.place ≡ p → is_open p ≡ true → IsPlace port p →
     Stepped world q me messages past (mark_lines me (marked (from_at p) port.hand (note_at port p (met past (access_at port p)))) ++ (access_lines me (access_at port p) (met past (access_at port p)) ++ past)) port (port_after port p (met past (access_at port p))) done
-step_at world q me messages past port done place.Closed is there before stands at opens place_is = absurd cc
-step_at world q me messages past port done place.WritingLength is there before stands at opens place_is =
+step_at world q me messages past port done place.Closed is there before refines at opens place_is = absurd cc
+step_at world q me messages past port done place.WritingLength is there before refines at opens place_is =
     let word = own port + length_place port.most (port.published + 1) in
-    let word_is : word ≡ length_at world me (port.published + 1) = rw (stands.shape, stands.me_is, stands.most) refl in
-    write_stepped world q me messages past port done word (length port.hand) 0 (words_for (length port.hand)) is before stands (rw word_is (length_in world me (port.published + 1) is)) (ap (hand_at port) at)
+    let word_is : word ≡ length_at world me (port.published + 1) = rw (refines.shape, refines.me_is, refines.most) refl in
+    write_stepped world q me messages past port done word (length port.hand) 0 (words_for (length port.hand)) is before refines (rw word_is (length_in world me (port.published + 1) is)) (ap (hand_at port) at)
     (λ same. subst (λ (w : ℕ). Writer world q (Wrote me w (length port.hand) ∷ past) (record port { place = writing_place 0 (words_for (length port.hand)) }) done) (sym word_is)
     (subst (λ (k : ℕ). Writer world q (Wrote k (length_at world k (port.published + 1)) (length port.hand) ∷ past) (record port { place = writing_place 0 (words_for (length port.hand)) }) done) (sym same)
-    (wrote_length world q past port done is (place_is.0, subst (λ (m : ℕ). length port.hand ≤ m) stands.most stands.port_is.hand) (stands.writer same))))
-step_at world q me messages past port done (place.WritingWord k more) is there before stands at opens place_is =
+    (wrote_length world q past port done is (place_is.0, subst (λ (m : ℕ). length port.hand ≤ m) refines.most refines.port_is.hand) (refines.writer same))))
+step_at world q me messages past port done (place.WritingWord k more) is there before refines at opens place_is =
     let word = own port + data_place port.most (port.published + 1) + k in
-    let word_is : word ≡ data_at world me (port.published + 1) k = rw (stands.shape, stands.me_is, stands.most) refl in
-    let fits : length port.hand ≤ world.most = subst (λ (m : ℕ). length port.hand ≤ m) stands.most stands.port_is.hand in
-    write_stepped world q me messages past port done word (frame_word port.hand k) (k + 1) more is before stands (rw word_is (data_in world me (port.published + 1) k is (few k more (length port.hand) world.most place_is.0 fits is.size.0))) (ap (hand_at port) at)
+    let word_is : word ≡ data_at world me (port.published + 1) k = rw (refines.shape, refines.me_is, refines.most) refl in
+    let fits : length port.hand ≤ world.most = subst (λ (m : ℕ). length port.hand ≤ m) refines.most refines.port_is.hand in
+    write_stepped world q me messages past port done word (frame_word port.hand k) (k + 1) more is before refines (rw word_is (data_in world me (port.published + 1) k is (few k more (length port.hand) world.most place_is.0 fits is.size.0))) (ap (hand_at port) at)
     (λ same. subst (λ (w : ℕ). Writer world q (Wrote me w (frame_word port.hand k) ∷ past) (record port { place = writing_place (k + 1) more }) done) (sym word_is)
     (subst (λ (i : ℕ). Writer world q (Wrote i (data_at world i (port.published + 1) k) (frame_word port.hand k) ∷ past) (record port { place = writing_place (k + 1) more }) done) (sym same)
-    (wrote_word world q k more past port done is fits at place_is.0 (stands.writer same))))
+    (wrote_word world q k more past port done is fits at place_is.0 (refines.writer same))))
   where
     few : (k more bytes m : ℕ) → k + more + 1 ≡ words_for bytes → bytes ≤ m → m % 4 ≡ 0 → k < m / 4
     few k more bytes m all fits four = omega arith
-step_at world q me messages past port done place.WritingSequence is there before stands at opens place_is =
-    let word_is : own port ≡ head_of world me = rw (stands.shape, stands.me_is) refl in
+step_at world q me messages past port done place.WritingSequence is there before refines at opens place_is =
+    let word_is : own port ≡ head_of world me = rw (refines.shape, refines.me_is) refl in
     subst (λ (w : ℕ). Stepped world q me messages past (Marked me (Publish (port.published + 1)) ∷ Wrote me w (port.published + 1) ∷ past) port (port_after port place.WritingSequence 0) done) (sym word_is)
-    (sequence_stepped world q me messages past port done is before stands at _ refl)
-step_at world q me messages past port done (place.AtSequence from) is there before stands at opens place_is =
-    sample_stepped world q me messages past port done (place.AtSequence from) (theirs port from) _ is there before stands at place_is refl refl
-step_at world q me messages past port done (place.AtLength from sequence) is there before stands at opens place_is =
-    sample_stepped world q me messages past port done (place.AtLength from sequence) (theirs port from + length_place port.most sequence) _ is there before stands at place_is refl refl
-step_at world q me messages past port done (place.AtWord from sequence bytes k more) is there before stands at opens place_is =
-    sample_stepped world q me messages past port done (place.AtWord from sequence bytes k more) (theirs port from + data_place port.most sequence + k) _ is there before stands at place_is refl refl
-step_at world q me messages past port done (place.AtSecond from sequence) is there before stands at opens place_is =
-    sample_stepped world q me messages past port done (place.AtSecond from sequence) (theirs port from) _ is there before stands at place_is refl refl
+    (sequence_stepped world q me messages past port done is before refines at _ refl)
+step_at world q me messages past port done (place.AtSequence from) is there before refines at opens place_is =
+    sample_stepped world q me messages past port done (place.AtSequence from) (theirs port from) _ is there before refines at place_is refl refl
+step_at world q me messages past port done (place.AtLength from sequence) is there before refines at opens place_is =
+    sample_stepped world q me messages past port done (place.AtLength from sequence) (theirs port from + length_place port.most sequence) _ is there before refines at place_is refl refl
+step_at world q me messages past port done (place.AtWord from sequence bytes k more) is there before refines at opens place_is =
+    sample_stepped world q me messages past port done (place.AtWord from sequence bytes k more) (theirs port from + data_place port.most sequence + k) _ is there before refines at place_is refl refl
+step_at world q me messages past port done (place.AtSecond from sequence) is there before refines at opens place_is =
+    sample_stepped world q me messages past port done (place.AtSecond from sequence) (theirs port from) _ is there before refines at place_is refl refl
 
 -- A turn without a step
 
@@ -119,13 +119,13 @@ no_count q line past none = let s = sum_by-cons (publishes q) line past in omega
 
 idle_stepped : (world : World) (q me : ℕ) (messages : List (List ℕ)) (past : List Line) (port : PortView) (done : List (List ℕ)) → IsWorld world → Before world q messages past done → Stands world q me port past done → is_busy port ≡ false →
     Stepped world q me messages past (Idle me ∷ past) port port done
-idle_stepped world q me messages past port done is before stands busy = record {
+idle_stepped world q me messages past port done is before refines busy = record {
   then_done = done;
   facts = (tt, facts_before world q messages _ past before.facts);
   counted = no_count q (Idle me) past refl ∙ before.counted;
-  reader = record { last = stands.reader.last; at = at_quiet world q me _ port done port.place busy };
+  reader = record { last = refines.reader.last; at = at_quiet world q me _ port done port.place busy };
   others = λ o other_port other r. reader_past world q o past other_port done (Idle me) (not_idle o me other) refl r;
-  mine = λ same. (writer_same world q past (Idle me ∷ past) port port done is (λ w inside. refl) (stands.writer same) refl (opened_quiet world q (Idle me ∷ past) port port.place busy), refl);
+  mine = λ same. (writer_same world q past (Idle me ∷ past) port port done is (λ w inside. refl) (refines.writer same) refl (opened_quiet world q (Idle me ∷ past) port port.place busy), refl);
   beside = λ other. ((λ w inside. refl), refl);
 }
 
@@ -137,23 +137,23 @@ waiting_messages (call.Publish message ∷ calls) = message ∷ waiting_messages
 waiting_messages (call.Sample from ∷ calls) = waiting_messages calls
 
 abbrev pub asked_message : ℕ → Event → List (List ℕ)
-asked_message q (Asked peer (call.Publish message)) = if peer == q then message ∷ [] else []
-asked_message q (Asked peer (call.Sample from)) = []
-asked_message q (Turned peer) = []
+asked_message q (CallQueued peer (call.Publish message)) = if peer == q then message ∷ [] else []
+asked_message q (CallQueued peer (call.Sample from)) = []
+asked_message q (TurnTaken peer) = []
 asked_message q (Poked peer word value) = []
 
 abbrev pub asked : ℕ → List Event → List (List ℕ)
 asked q [] = []
 asked q (event ∷ events) = asked_message q event ++ asked q events
 
-abbrev pub pending : Seat → List (List ℕ)
-pending seat = hand_messages seat.port ++ waiting_messages seat.waiting
+abbrev pub pending : PeerState → List (List ℕ)
+pending peer_state = hand_messages peer_state.port ++ waiting_messages peer_state.waiting
 
-pending_opened : (seat : Seat) (b : Bool) (waiting : List PortCall) → is_busy seat.port ≡ b → seat.waiting ≡ waiting → pending (opened_by seat b waiting) ≡ pending seat
-pending_opened seat true waiting busy all = refl
-pending_opened seat false [] busy all = refl
-pending_opened seat false (call.Publish message ∷ waiting) busy all = rw (hand_quiet seat.port seat.port.place busy, all) refl
-pending_opened seat false (call.Sample from ∷ waiting) busy all = rw (hand_quiet seat.port seat.port.place busy, all) refl
+pending_opened : (peer_state : PeerState) (b : Bool) (waiting : List PortCall) → is_busy peer_state.port ≡ b → peer_state.waiting ≡ waiting → pending (opened_by peer_state b waiting) ≡ pending peer_state
+pending_opened peer_state true waiting busy all = refl
+pending_opened peer_state false [] busy all = refl
+pending_opened peer_state false (call.Publish message ∷ waiting) busy all = rw (hand_quiet peer_state.port peer_state.port.place busy, all) refl
+pending_opened peer_state false (call.Sample from ∷ waiting) busy all = rw (hand_quiet peer_state.port peer_state.port.place busy, all) refl
 
 waiting-append : (xs ys : List PortCall) → waiting_messages (xs ++ ys) ≡ waiting_messages xs ++ waiting_messages ys
 waiting-append [] ys = refl
@@ -163,18 +163,18 @@ waiting-append (call.Sample from ∷ xs) ys = waiting-append xs ys
 -- What holds along the history
 
 abbrev pub FairEvent : World → Event → Type 0
-FairEvent world (Asked peer call) = is_honest world peer ≡ true
-FairEvent world (Turned peer) = Unit {0}
+FairEvent world (CallQueued peer call) = is_honest world peer ≡ true
+FairEvent world (TurnTaken peer) = Unit {0}
 FairEvent world (Poked peer word value) = is_honest world peer ≡ false
 
-pub record Good (world : World) (q : ℕ) (messages : List (List ℕ)) (events : List Event) (n : ℕ) (moment : Moment) (done : List (List ℕ)) : Type 0 where
+pub record Good (world : World) (q : ℕ) (messages : List (List ℕ)) (events : List Event) (n : ℕ) (moment : HistoryState) (done : List (List ℕ)) : Type 0 where
   pub kept : AreKept world n moment
-  pub writer : Writer world q moment.past (moment.seats q).port done
+  pub writer : Writer world q moment.past (moment.peer_states q).port done
   pub counted : published_by q moment.past ≡ length done
   pub facts : Facts world q messages None moment.past
-  pub order : messages ≡ reverse done ++ (pending (moment.seats q) ++ asked q events)
-  pub readers : (p : ℕ) → p < world.geometry.peers → Reader world q p moment.past (moment.seats p).port done
-  pub quiet : (p : ℕ) → is_honest world p ≡ false → (is_busy (moment.seats p).port ≡ false) × ((moment.seats p).waiting ≡ [])
+  pub order : messages ≡ reverse done ++ (pending (moment.peer_states q) ++ asked q events)
+  pub readers : (p : ℕ) → p < world.geometry.peers → Reader world q p moment.past (moment.peer_states p).port done
+  pub quiet : (p : ℕ) → is_honest world p ≡ false → (is_busy (moment.peer_states p).port ≡ false) × ((moment.peer_states p).waiting ≡ [])
 
 all_right : {A : Type 0} (P : A → Type 0) (xs ys : List A) → AllByRecursion P (xs ++ ys) → AllByRecursion P ys
 all_right P [] ys all = all
@@ -193,7 +193,7 @@ newest_is messages done rest is m older here =
     let whole : messages ≡ reverse older ++ m ∷ rest = is ∙ ap (λ ds. reverse ds ++ rest) here ∙ ap (λ r. r ++ rest) (reverse-append (m ∷ []) older) ∙ append_assoc (reverse older) (m ∷ []) rest in
     ap (λ ms. slice_get ms (length older)) whole ∙ ap (λ k. slice_get (reverse older ++ m ∷ rest) k) (sym (length-reverse older)) ∙ get_at (reverse older) rest m
 
-before_of : (world : World) (q n : ℕ) (messages : List (List ℕ)) (events : List Event) (moment : Moment) (done : List (List ℕ)) → Good world q messages events n moment done → Before world q messages moment.past done
+before_of : (world : World) (q n : ℕ) (messages : List (List ℕ)) (events : List Event) (moment : HistoryState) (done : List (List ℕ)) → Good world q messages events n moment done → Before world q messages moment.past done
 before_of world q n messages events moment done good = record {
   sequence = good.writer.sequence;
   latest = good.writer.latest;
@@ -206,64 +206,64 @@ before_of world q n messages events moment done good = record {
 
 -- A turn
 
-reader_opened : (world : World) (q p : ℕ) (past : List Line) (seat : Seat) (done : List (List ℕ)) (b : Bool) (waiting : List PortCall) → Reader world q p past seat.port done → Reader world q p past (opened_by seat b waiting).port done
-reader_opened world q p past seat done true waiting r = r
-reader_opened world q p past seat done false [] r = r
-reader_opened world q p past seat done false (call.Publish message ∷ waiting) r = record { last = r.last; at = tt }
-reader_opened world q p past seat done false (call.Sample from ∷ waiting) r = record { last = r.last; at = tt }
+reader_opened : (world : World) (q p : ℕ) (past : List Line) (peer_state : PeerState) (done : List (List ℕ)) (b : Bool) (waiting : List PortCall) → Reader world q p past peer_state.port done → Reader world q p past (opened_by peer_state b waiting).port done
+reader_opened world q p past peer_state done true waiting r = r
+reader_opened world q p past peer_state done false [] r = r
+reader_opened world q p past peer_state done false (call.Publish message ∷ waiting) r = record { last = r.last; at = tt }
+reader_opened world q p past peer_state done false (call.Sample from ∷ waiting) r = record { last = r.last; at = tt }
 
-writer_opened : (world : World) (q : ℕ) (past : List Line) (seat : Seat) (done : List (List ℕ)) (b : Bool) (waiting : List PortCall) → IsWorld world → Writer world q past seat.port done → Writer world q past (opened_by seat b waiting).port done
-writer_opened world q past seat done true waiting is w = w
-writer_opened world q past seat done false [] is w = w
-writer_opened world q past seat done false (call.Publish message ∷ waiting) is w = writer_same world q past past seat.port _ done is (λ word inside. refl) w refl tt
-writer_opened world q past seat done false (call.Sample from ∷ waiting) is w = writer_same world q past past seat.port _ done is (λ word inside. refl) w refl tt
+writer_opened : (world : World) (q : ℕ) (past : List Line) (peer_state : PeerState) (done : List (List ℕ)) (b : Bool) (waiting : List PortCall) → IsWorld world → Writer world q past peer_state.port done → Writer world q past (opened_by peer_state b waiting).port done
+writer_opened world q past peer_state done true waiting is w = w
+writer_opened world q past peer_state done false [] is w = w
+writer_opened world q past peer_state done false (call.Publish message ∷ waiting) is w = writer_same world q past past peer_state.port _ done is (λ word inside. refl) w refl tt
+writer_opened world q past peer_state done false (call.Sample from ∷ waiting) is w = writer_same world q past past peer_state.port _ done is (λ word inside. refl) w refl tt
 
 turn_stepped : (world : World) (q me : ℕ) (messages : List (List ℕ)) (past : List Line) (port : PortView) (done : List (List ℕ)) (b : Bool) → IsWorld world → q < world.geometry.peers → Before world q messages past done → Stands world q me port past done → is_busy port ≡ b →
-    Stepped world q me messages past (reverse (lines_by (Turned me) (if b then Some (step_of_port port (met_by past port)) else None)) ++ past) port (if b then port_after port port.place (met_by past port) else port) done
-turn_stepped world q me messages past port done true is there before stands busy =
+    Stepped world q me messages past (reverse (lines_by (TurnTaken me) (if b then Some (step_of_port port (met_by past port)) else None)) ++ past) port (if b then port_after port port.place (met_by past port) else port) done
+turn_stepped world q me messages past port done true is there before refines busy =
     let a = access_at port port.place in
     let value = met_by past port in
     subst (λ (ls : List Line). Stepped world q me messages past ls port (port_after port port.place value) done) (sym (step_is me a value (marked (from_at port.place) port.hand (note_at port port.place value)) past))
-    (step_at world q me messages past port done port.place is there before stands refl busy stands.port_is.place)
-turn_stepped world q me messages past port done false is there before stands busy = idle_stepped world q me messages past port done is before stands busy
+    (step_at world q me messages past port done port.place is there before refines refl busy refines.port_is.place)
+turn_stepped world q me messages past port done false is there before refines busy = idle_stepped world q me messages past port done is before refines busy
 
 hand_message : (world : World) (port : PortView) (p : Place) (m : List ℕ) → AllByRecursion (IsMessage world) (hand_messages port) → port.place ≡ p → hand_at port p ≡ m ∷ [] → IsMessage world m
 hand_message world port p m all at is = (subst (λ (ms : List (List ℕ)). AllByRecursion (IsMessage world) ms) (ap (hand_at port) at ∙ is) all).0
 
-stands_opened : (world : World) (q me n : ℕ) (messages : List (List ℕ)) (events : List Event) (moment : Moment) (done : List (List ℕ)) → IsWorld world → me < world.geometry.peers → n < 4000000 → AllByRecursion (IsMessage world) messages → Good world q messages events n moment done →
-    Stands world q me (opened (moment.seats me)).port moment.past done
+stands_opened : (world : World) (q me n : ℕ) (messages : List (List ℕ)) (events : List Event) (moment : HistoryState) (done : List (List ℕ)) → IsWorld world → me < world.geometry.peers → n < 4000000 → AllByRecursion (IsMessage world) messages → Good world q messages events n moment done →
+    Stands world q me (opened (moment.peer_states me)).port moment.past done
 stands_opened world q me n messages events moment done is below small all good =
-    let seat = moment.seats me in
-    let kept = opened_kept world me n seat _ _ refl refl (omega arith) (good.kept me below) in
+    let peer_state = moment.peer_states me in
+    let kept = opened_kept world me n peer_state _ _ refl refl (omega arith) (good.kept me below) in
     record {
       port_is = kept.port;
       shape = kept.shape;
       me_is = kept.me_is;
       most = kept.most;
-      reader = reader_opened world q me moment.past seat done _ _ (good.readers me below);
-      writer = λ same. writer_opened world q moment.past seat done _ _ is (subst (λ (k : ℕ). Writer world q moment.past (moment.seats k).port done) (sym same) good.writer);
+      reader = reader_opened world q me moment.past peer_state done _ _ (good.readers me below);
+      writer = λ same. writer_opened world q moment.past peer_state done _ _ is (subst (λ (k : ℕ). Writer world q moment.past (moment.peer_states k).port done) (sym same) good.writer);
       message = λ same p at m hand.
-          let mine : messages ≡ reverse done ++ (pending (moment.seats me) ++ asked q events) = subst (λ (k : ℕ). messages ≡ reverse done ++ (pending (moment.seats k) ++ asked q events)) (sym same) good.order in
-          let whole : messages ≡ reverse done ++ (pending (opened seat) ++ asked q events) = mine ∙ ap (λ ms. reverse done ++ (ms ++ asked q events)) (sym (pending_opened seat _ _ refl refl)) in
-          let here = all_left (IsMessage world) (pending (opened seat)) (asked q events) (all_right (IsMessage world) (reverse done) _ (subst (λ (ms : List (List ℕ)). AllByRecursion (IsMessage world) ms) whole all)) in
-          hand_message world (opened seat).port p m (all_left (IsMessage world) (hand_messages (opened seat).port) _ here) at hand;
+          let mine : messages ≡ reverse done ++ (pending (moment.peer_states me) ++ asked q events) = subst (λ (k : ℕ). messages ≡ reverse done ++ (pending (moment.peer_states k) ++ asked q events)) (sym same) good.order in
+          let whole : messages ≡ reverse done ++ (pending (opened peer_state) ++ asked q events) = mine ∙ ap (λ ms. reverse done ++ (ms ++ asked q events)) (sym (pending_opened peer_state _ _ refl refl)) in
+          let here = all_left (IsMessage world) (pending (opened peer_state)) (asked q events) (all_right (IsMessage world) (reverse done) _ (subst (λ (ms : List (List ℕ)). AllByRecursion (IsMessage world) ms) whole all)) in
+          hand_message world (opened peer_state).port p m (all_left (IsMessage world) (hand_messages (opened peer_state).port) _ here) at hand;
     }
 
 regroup : (a b c d : List (List ℕ)) → a ++ ((b ++ c) ++ d) ≡ (a ++ b) ++ (c ++ d)
 regroup a b c d = ap (λ r. a ++ r) (append_assoc b c d) ∙ sym (append_assoc a b (c ++ d))
 
-still_quiet : (seat : Seat) (past : List Line) → is_busy seat.port ≡ false → seat.waiting ≡ [] → seat_in seat past (Turned 0) ≡ seat
-still_quiet seat past busy none = let o : opened seat ≡ seat = rw (busy, none) refl in rw (o, busy) refl
+still_quiet : (peer_state : PeerState) (past : List Line) → is_busy peer_state.port ≡ false → peer_state.waiting ≡ [] → seat_in peer_state past (TurnTaken 0) ≡ peer_state
+still_quiet peer_state past busy none = let o : opened peer_state ≡ peer_state = rw (busy, none) refl in rw (o, busy) refl
 
-pub turn_good : (world : World) (q me n : ℕ) (messages : List (List ℕ)) (events : List Event) (moment : Moment) (done : List (List ℕ)) → IsWorld world → q < world.geometry.peers → me < world.geometry.peers → n < 4000000 → AllByRecursion (IsMessage world) messages →
-    Good world q messages (Turned me ∷ events) n moment done → (more : List (List ℕ)) × Good world q messages events (n + 1) (happens world.geometry moment (Turned me)) more
+pub turn_good : (world : World) (q me n : ℕ) (messages : List (List ℕ)) (events : List Event) (moment : HistoryState) (done : List (List ℕ)) → IsWorld world → q < world.geometry.peers → me < world.geometry.peers → n < 4000000 → AllByRecursion (IsMessage world) messages →
+    Good world q messages (TurnTaken me ∷ events) n moment done → (more : List (List ℕ)) × Good world q messages events (n + 1) (after_event world.geometry moment (TurnTaken me)) more
 turn_good world q me n messages events moment done is there below small all good =
-    let stands = stands_opened world q me n messages (Turned me ∷ events) moment done is below small all good in
-    let before = before_of world q n messages (Turned me ∷ events) moment done good in
-    let stepped = turn_stepped world q me messages moment.past (opened (moment.seats me)).port done _ is there before stands refl in (
+    let refines = stands_opened world q me n messages (TurnTaken me ∷ events) moment done is below small all good in
+    let before = before_of world q n messages (TurnTaken me ∷ events) moment done good in
+    let stepped = turn_stepped world q me messages moment.past (opened (moment.peer_states me)).port done _ is there before refines refl in (
       stepped.then_done,
       record {
-        kept = kept_one world n moment (Turned me) small below good.kept;
+        kept = kept_one world n moment (TurnTaken me) small below good.kept;
         writer = writer stepped _ refl;
         counted = stepped.counted;
         facts = stepped.facts;
@@ -273,78 +273,78 @@ turn_good world q me n messages events moment done is there below small all good
       },
     )
   where
-    S : Seat
-    S = opened (moment.seats me)
+    S : PeerState
+    S = opened (moment.peer_states me)
 
     new : PortView
-    new = (seat_in (moment.seats me) moment.past (Turned me)).port
+    new = (seat_in (moment.peer_states me) moment.past (TurnTaken me)).port
 
     next : List Line
-    next = (happens world.geometry moment (Turned me)).past
+    next = (after_event world.geometry moment (TurnTaken me)).past
 
     T : Type 0
     T = Stepped world q me messages moment.past next S.port new done
 
-    writer : (t : T) (b : Bool) → (me == q) ≡ b → Writer world q next (if b then seat_in (moment.seats me) moment.past (Turned me) else moment.seats q).port t.then_done
+    writer : (t : T) (b : Bool) → (me == q) ≡ b → Writer world q next (if b then seat_in (moment.peer_states me) moment.past (TurnTaken me) else moment.peer_states q).port t.then_done
     writer t true e = (t.mine (eqb-true _ _ e)).0
     writer t false e =
         let beside = t.beside (eqb-false _ _ e) in
         let kept = good.kept q there in
-        let port = (moment.seats q).port in
+        let port = (moment.peer_states q).port in
         subst (λ (ds : List (List ℕ)). Writer world q next port ds) (sym beside.1)
         (writer_same world q moment.past next port port done is beside.0 good.writer refl (opened_same world q moment.past next port port.place is kept.most kept.port.hand kept.port.place beside.0 good.writer.writing))
 
-    order : (t : T) (b : Bool) → (me == q) ≡ b → messages ≡ reverse t.then_done ++ (pending (if b then seat_in (moment.seats me) moment.past (Turned me) else moment.seats q) ++ asked q events)
+    order : (t : T) (b : Bool) → (me == q) ≡ b → messages ≡ reverse t.then_done ++ (pending (if b then seat_in (moment.peer_states me) moment.past (TurnTaken me) else moment.peer_states q) ++ asked q events)
     order t true e =
         let same : me ≡ q = eqb-true _ _ e in
-        let mine : messages ≡ reverse done ++ (pending (moment.seats me) ++ asked q events) = subst (λ (k : ℕ). messages ≡ reverse done ++ (pending (moment.seats k) ++ asked q events)) (sym same) good.order in
-        let whole : messages ≡ reverse done ++ (pending S ++ asked q events) = mine ∙ ap (λ ms. reverse done ++ (ms ++ asked q events)) (sym (pending_opened (moment.seats me) _ _ refl refl)) in
+        let mine : messages ≡ reverse done ++ (pending (moment.peer_states me) ++ asked q events) = subst (λ (k : ℕ). messages ≡ reverse done ++ (pending (moment.peer_states k) ++ asked q events)) (sym same) good.order in
+        let whole : messages ≡ reverse done ++ (pending S ++ asked q events) = mine ∙ ap (λ ms. reverse done ++ (ms ++ asked q events)) (sym (pending_opened (moment.peer_states me) _ _ refl refl)) in
         whole ∙ regroup (reverse done) (hand_messages S.port) (waiting_messages S.waiting) (asked q events) ∙ ap (λ ms. ms ++ (waiting_messages S.waiting ++ asked q events)) (sym (t.mine same).1)
         ∙ sym (regroup (reverse t.then_done) (hand_messages new) (waiting_messages S.waiting) (asked q events))
-    order t false e = let beside = t.beside (eqb-false _ _ e) in good.order ∙ ap (λ ds. reverse ds ++ (pending (moment.seats q) ++ asked q events)) (sym beside.1)
+    order t false e = let beside = t.beside (eqb-false _ _ e) in good.order ∙ ap (λ ds. reverse ds ++ (pending (moment.peer_states q) ++ asked q events)) (sym beside.1)
 
-    reader : (t : T) (p : ℕ) → p < world.geometry.peers → (b : Bool) → (me == p) ≡ b → Reader world q p next (if b then seat_in (moment.seats me) moment.past (Turned me) else moment.seats p).port t.then_done
+    reader : (t : T) (p : ℕ) → p < world.geometry.peers → (b : Bool) → (me == p) ≡ b → Reader world q p next (if b then seat_in (moment.peer_states me) moment.past (TurnTaken me) else moment.peer_states p).port t.then_done
     reader t p inside true e = subst (λ (k : ℕ). Reader world q k next new t.then_done) (eqb-true _ _ e) t.reader
-    reader t p inside false e = t.others p (moment.seats p).port (λ same. eqb-false _ _ e (sym same)) (good.readers p inside)
+    reader t p inside false e = t.others p (moment.peer_states p).port (λ same. eqb-false _ _ e (sym same)) (good.readers p inside)
 
     quiet : (p : ℕ) → is_honest world p ≡ false → (b : Bool) → (me == p) ≡ b →
-        (is_busy (if b then seat_in (moment.seats me) moment.past (Turned me) else moment.seats p).port ≡ false) × ((if b then seat_in (moment.seats me) moment.past (Turned me) else moment.seats p).waiting ≡ [])
+        (is_busy (if b then seat_in (moment.peer_states me) moment.past (TurnTaken me) else moment.peer_states p).port ≡ false) × ((if b then seat_in (moment.peer_states me) moment.past (TurnTaken me) else moment.peer_states p).waiting ≡ [])
     quiet p hostile true e =
         let q0 = good.quiet p hostile in
         let same : me ≡ p = eqb-true _ _ e in
-        let busy : is_busy (moment.seats me).port ≡ false = subst (λ (k : ℕ). is_busy (moment.seats k).port ≡ false) (sym same) q0.0 in
-        let none : (moment.seats me).waiting ≡ [] = subst (λ (k : ℕ). (moment.seats k).waiting ≡ []) (sym same) q0.1 in
-        let still : seat_in (moment.seats me) moment.past (Turned me) ≡ moment.seats me = still_quiet (moment.seats me) moment.past busy none in
-        (ap (λ (s : Seat). is_busy s.port) still ∙ busy, ap (λ (s : Seat). s.waiting) still ∙ none)
+        let busy : is_busy (moment.peer_states me).port ≡ false = subst (λ (k : ℕ). is_busy (moment.peer_states k).port ≡ false) (sym same) q0.0 in
+        let none : (moment.peer_states me).waiting ≡ [] = subst (λ (k : ℕ). (moment.peer_states k).waiting ≡ []) (sym same) q0.1 in
+        let still : seat_in (moment.peer_states me) moment.past (TurnTaken me) ≡ moment.peer_states me = still_quiet (moment.peer_states me) moment.past busy none in
+        (ap (λ (s : PeerState). is_busy s.port) still ∙ busy, ap (λ (s : PeerState). s.waiting) still ∙ none)
     quiet p hostile false e = good.quiet p hostile
 
 -- A peer is told to make a call
 
-asked_port : (me p : ℕ) (moment : Moment) (c : PortCall) (b : Bool) → (me == p) ≡ b → (moment.seats p).port ≡ (if b then record (moment.seats me) { waiting = (moment.seats me).waiting ++ c ∷ [] } else moment.seats p).port
-asked_port me p moment c true e = ap (λ k. (moment.seats k).port) (sym (eqb-true me p e))
+asked_port : (me p : ℕ) (moment : HistoryState) (c : PortCall) (b : Bool) → (me == p) ≡ b → (moment.peer_states p).port ≡ (if b then record (moment.peer_states me) { waiting = (moment.peer_states me).waiting ++ c ∷ [] } else moment.peer_states p).port
+asked_port me p moment c true e = ap (λ k. (moment.peer_states k).port) (sym (eqb-true me p e))
 asked_port me p moment c false e = refl
 
-asked_order : (q me : ℕ) (messages : List (List ℕ)) (events : List Event) (moment : Moment) (done : List (List ℕ)) (c : PortCall) (b : Bool) → (me == q) ≡ b → messages ≡ reverse done ++ (pending (moment.seats q) ++ (asked_message q (Asked me c) ++ asked q events)) →
-    messages ≡ reverse done ++ (pending (if b then record (moment.seats me) { waiting = (moment.seats me).waiting ++ c ∷ [] } else moment.seats q) ++ asked q events)
+asked_order : (q me : ℕ) (messages : List (List ℕ)) (events : List Event) (moment : HistoryState) (done : List (List ℕ)) (c : PortCall) (b : Bool) → (me == q) ≡ b → messages ≡ reverse done ++ (pending (moment.peer_states q) ++ (asked_message q (CallQueued me c) ++ asked q events)) →
+    messages ≡ reverse done ++ (pending (if b then record (moment.peer_states me) { waiting = (moment.peer_states me).waiting ++ c ∷ [] } else moment.peer_states q) ++ asked q events)
 asked_order q me messages events moment done (call.Sample from) true e order =
     let same : me ≡ q = eqb-true _ _ e in
-    let ws = (moment.seats me).waiting in
+    let ws = (moment.peer_states me).waiting in
     let w : waiting_messages (ws ++ call.Sample from ∷ []) ≡ waiting_messages ws = waiting-append ws (call.Sample from ∷ []) ∙ append-nil (waiting_messages ws) in
-    order ∙ ap (λ k. reverse done ++ (pending (moment.seats k) ++ asked q events)) (sym same) ∙ ap (λ ms. reverse done ++ ((hand_messages (moment.seats me).port ++ ms) ++ asked q events)) (sym w)
+    order ∙ ap (λ k. reverse done ++ (pending (moment.peer_states k) ++ asked q events)) (sym same) ∙ ap (λ ms. reverse done ++ ((hand_messages (moment.peer_states me).port ++ ms) ++ asked q events)) (sym w)
 asked_order q me messages events moment done (call.Sample from) false e order = order
 asked_order q me messages events moment done (call.Publish m) true e order =
     let same : me ≡ q = eqb-true _ _ e in
-    let ws = (moment.seats me).waiting in
-    let hs = hand_messages (moment.seats me).port in
+    let ws = (moment.peer_states me).waiting in
+    let hs = hand_messages (moment.peer_states me).port in
     let w : waiting_messages (ws ++ call.Publish m ∷ []) ≡ waiting_messages ws ++ m ∷ [] = waiting-append ws (call.Publish m ∷ []) in
-    let mine : messages ≡ reverse done ++ ((hs ++ waiting_messages ws) ++ (m ∷ [] ++ asked q events)) = (rw e at order) ∙ ap (λ k. reverse done ++ (pending (moment.seats k) ++ (m ∷ [] ++ asked q events))) (sym same) in
+    let mine : messages ≡ reverse done ++ ((hs ++ waiting_messages ws) ++ (m ∷ [] ++ asked q events)) = (rw e at order) ∙ ap (λ k. reverse done ++ (pending (moment.peer_states k) ++ (m ∷ [] ++ asked q events))) (sym same) in
     mine ∙ ap (λ r. reverse done ++ r) (sym (append_assoc (hs ++ waiting_messages ws) (m ∷ []) (asked q events)) ∙ ap (λ r. r ++ asked q events) (append_assoc hs (waiting_messages ws) (m ∷ []) ∙ ap (λ r. hs ++ r) (sym w)))
 asked_order q me messages events moment done (call.Publish m) false e order = rw e at order
 
-pub asked_good : (world : World) (q me n : ℕ) (c : PortCall) (messages : List (List ℕ)) (events : List Event) (moment : Moment) (done : List (List ℕ)) → IsThere world (Asked me c) → n < 4000000 → is_honest world me ≡ true →
-    Good world q messages (Asked me c ∷ events) n moment done → Good world q messages events (n + 1) (happens world.geometry moment (Asked me c)) done
+pub asked_good : (world : World) (q me n : ℕ) (c : PortCall) (messages : List (List ℕ)) (events : List Event) (moment : HistoryState) (done : List (List ℕ)) → IsPermittedEvent world (CallQueued me c) → n < 4000000 → is_honest world me ≡ true →
+    Good world q messages (CallQueued me c ∷ events) n moment done → Good world q messages events (n + 1) (after_event world.geometry moment (CallQueued me c)) done
 asked_good world q me n c messages events moment done there small honest good = record {
-  kept = kept_one world n moment (Asked me c) small there good.kept;
+  kept = kept_one world n moment (CallQueued me c) small there good.kept;
   writer = subst (λ (port : PortView). Writer world q moment.past port done) (asked_port me q moment c _ refl) good.writer;
   counted = good.counted;
   facts = good.facts;
@@ -357,14 +357,14 @@ asked_good world q me n c messages events moment done there small honest good = 
     never same hostile = let h : true ≡ false = sym honest ∙ ap (is_honest world) same ∙ hostile in cc
 
     quiet : (p : ℕ) → is_honest world p ≡ false → (b : Bool) → (me == p) ≡ b →
-        (is_busy (if b then record (moment.seats me) { waiting = (moment.seats me).waiting ++ c ∷ [] } else moment.seats p).port ≡ false) × ((if b then record (moment.seats me) { waiting = (moment.seats me).waiting ++ c ∷ [] } else moment.seats p).waiting ≡ [])
+        (is_busy (if b then record (moment.peer_states me) { waiting = (moment.peer_states me).waiting ++ c ∷ [] } else moment.peer_states p).port ≡ false) × ((if b then record (moment.peer_states me) { waiting = (moment.peer_states me).waiting ++ c ∷ [] } else moment.peer_states p).waiting ≡ [])
     quiet p hostile true e = absurd (never (eqb-true _ _ e) hostile)
     quiet p hostile false e = good.quiet p hostile
 
 -- A hostile peer writes a word
 
-poked_seat : (me p : ℕ) (moment : Moment) (b : Bool) → (me == p) ≡ b → moment.seats p ≡ (if b then moment.seats me else moment.seats p)
-poked_seat me p moment true e = ap moment.seats (sym (eqb-true me p e))
+poked_seat : (me p : ℕ) (moment : HistoryState) (b : Bool) → (me == p) ≡ b → moment.peer_states p ≡ (if b then moment.peer_states me else moment.peer_states p)
+poked_seat me p moment true e = ap moment.peer_states (sym (eqb-true me p e))
 poked_seat me p moment false e = refl
 
 own_section : (world : World) (me word : ℕ) → IsWorld world → MayWrite world.geometry me word → InSection world.geometry me word
@@ -393,46 +393,46 @@ poking world q me word value messages past done false is other may before = reco
   others = λ p port away r. reader_past world q p past port done (Denied me word) (not_denied p me word away) refl r;
 }
 
-pub poked_good : (world : World) (q me n word value : ℕ) (messages : List (List ℕ)) (events : List Event) (moment : Moment) (done : List (List ℕ)) → IsWorld world → q < world.geometry.peers → is_honest world q ≡ true → IsThere world (Poked me word value) → n < 4000000 → is_honest world me ≡ false →
-    Good world q messages (Poked me word value ∷ events) n moment done → Good world q messages events (n + 1) (happens world.geometry moment (Poked me word value)) done
+pub poked_good : (world : World) (q me n word value : ℕ) (messages : List (List ℕ)) (events : List Event) (moment : HistoryState) (done : List (List ℕ)) → IsWorld world → q < world.geometry.peers → is_honest world q ≡ true → IsPermittedEvent world (Poked me word value) → n < 4000000 → is_honest world me ≡ false →
+    Good world q messages (Poked me word value ∷ events) n moment done → Good world q messages events (n + 1) (after_event world.geometry moment (Poked me word value)) done
 poked_good world q me n word value messages events moment done is below honest there small hostile good =
     let before = before_of world q n messages (Poked me word value ∷ events) moment done good in
     let other : me ≢ q = λ e. never e in
     let t = poking world q me word value messages moment.past done _ is other refl before in
     let kept = good.kept q below in
-    let port = (moment.seats q).port in
+    let port = (moment.peer_states q).port in
     record {
       kept = kept_one world n moment (Poked me word value) small there good.kept;
-      writer = subst (λ (s : Seat). Writer world q next s.port done) (poked_seat me q moment _ refl)
+      writer = subst (λ (s : PeerState). Writer world q next s.port done) (poked_seat me q moment _ refl)
           (writer_same world q moment.past next port port done is t.same good.writer refl (opened_same world q moment.past next port port.place is kept.most kept.port.hand kept.port.place t.same good.writer.writing));
       counted = t.counted;
       facts = t.facts;
-      order = good.order ∙ ap (λ (s : Seat). reverse done ++ (pending s ++ asked q events)) (poked_seat me q moment _ refl);
-      readers = λ p inside. subst (λ (s : Seat). Reader world q p next s.port done) (poked_seat me p moment _ refl) (reader t p inside _ refl);
-      quiet = λ p bad. subst (λ (s : Seat). (is_busy s.port ≡ false) × (s.waiting ≡ [])) (poked_seat me p moment _ refl) (good.quiet p bad);
+      order = good.order ∙ ap (λ (s : PeerState). reverse done ++ (pending s ++ asked q events)) (poked_seat me q moment _ refl);
+      readers = λ p inside. subst (λ (s : PeerState). Reader world q p next s.port done) (poked_seat me p moment _ refl) (reader t p inside _ refl);
+      quiet = λ p bad. subst (λ (s : PeerState). (is_busy s.port ≡ false) × (s.waiting ≡ [])) (poked_seat me p moment _ refl) (good.quiet p bad);
     }
   where
     next : List Line
-    next = (happens world.geometry moment (Poked me word value)).past
+    next = (after_event world.geometry moment (Poked me word value)).past
 
     never : me ≡ q → ⊥
     never e = let h : true ≡ false = sym honest ∙ ap (is_honest world) (sym e) ∙ hostile in cc
 
-    reader : Poking world q me messages moment.past next done → (p : ℕ) → p < world.geometry.peers → (b : Bool) → (me == p) ≡ b → Reader world q p next (moment.seats p).port done
+    reader : Poking world q me messages moment.past next done → (p : ℕ) → p < world.geometry.peers → (b : Bool) → (me == p) ≡ b → Reader world q p next (moment.peer_states p).port done
     reader t p inside true e =
         let same : me ≡ p = eqb-true _ _ e in
         let busy = (good.quiet p (subst (λ (k : ℕ). is_honest world k ≡ false) same hostile)).0 in
-        record { last = (good.readers p inside).last; at = at_quiet world q p next (moment.seats p).port done (moment.seats p).port.place busy }
-    reader t p inside false e = t.others p (moment.seats p).port (λ same. eqb-false _ _ e (sym same)) (good.readers p inside)
+        record { last = (good.readers p inside).last; at = at_quiet world q p next (moment.peer_states p).port done (moment.peer_states p).port.place busy }
+    reader t p inside false e = t.others p (moment.peer_states p).port (λ same. eqb-false _ _ e (sym same)) (good.readers p inside)
 
 -- All events
 
-good_run : (world : World) (q : ℕ) (messages : List (List ℕ)) (events : List Event) (n : ℕ) (moment : Moment) (done : List (List ℕ)) → IsWorld world → q < world.geometry.peers → is_honest world q ≡ true → AllByRecursion (IsMessage world) messages → n + length events ≤ 4000000 →
-    AllByRecursion (IsThere world) events → AllByRecursion (FairEvent world) events → Good world q messages events n moment done → (k : ℕ) × (more : List (List ℕ)) × Good world q messages [] k (run world.geometry events moment) more
+good_run : (world : World) (q : ℕ) (messages : List (List ℕ)) (events : List Event) (n : ℕ) (moment : HistoryState) (done : List (List ℕ)) → IsWorld world → q < world.geometry.peers → is_honest world q ≡ true → AllByRecursion (IsMessage world) messages → n + length events ≤ 4000000 →
+    AllByRecursion (IsPermittedEvent world) events → AllByRecursion (FairEvent world) events → Good world q messages events n moment done → (k : ℕ) × (more : List (List ℕ)) × Good world q messages [] k (run world.geometry events moment) more
 good_run world q messages [] n moment done is below honest all few there fair good = (n, done, good)
-good_run world q messages (Asked me c ∷ events) n moment done is below honest all few there fair good =
+good_run world q messages (CallQueued me c ∷ events) n moment done is below honest all few there fair good =
     good_run world q messages events (n + 1) _ done is below honest all (omega arith) there.1 fair.1 (asked_good world q me n c messages events moment done there.0 (omega arith) fair.0 good)
-good_run world q messages (Turned me ∷ events) n moment done is below honest all few there fair good =
+good_run world q messages (TurnTaken me ∷ events) n moment done is below honest all few there fair good =
     let t = turn_good world q me n messages events moment done is below there.0 (omega arith) all good in
     good_run world q messages events (n + 1) _ t.0 is below honest all (omega arith) there.1 fair.1 t.1
 good_run world q messages (Poked me word value ∷ events) n moment done is below honest all few there fair good =
@@ -444,12 +444,12 @@ asked-append : (q : ℕ) (xs ys : List Event) → asked q (xs ++ ys) ≡ asked q
 asked-append q [] ys = refl
 asked-append q (x ∷ xs) ys = ap (λ r. asked_message q x ++ r) (asked-append q xs ys) ∙ sym (append_assoc (asked_message q x) (asked q xs) (asked q ys))
 
-asked_turns : (q peer k : ℕ) → asked q (replicate k (Turned peer)) ≡ []
+asked_turns : (q peer k : ℕ) → asked q (replicate k (TurnTaken peer)) ≡ []
 asked_turns q peer zero = refl
 asked_turns q peer (suc k) = asked_turns q peer k
 
 asked_act : (q : ℕ) (a : Act) → asked q (events_of a) ≡ message_in q a
-asked_act q (act.Publish peer message) = append-nil (asked_message q (Asked peer (call.Publish message)))
+asked_act q (act.Publish peer message) = append-nil (asked_message q (CallQueued peer (call.Publish message)))
 asked_act q (act.Sample peer from) = refl
 asked_act q (act.Turn peer steps) = asked_turns q peer steps
 asked_act q (act.Poke peer word value) = refl
@@ -468,7 +468,7 @@ not_false_of true true is = absurd cc
 not_false_of true false is = refl
 not_false_of false c is = absurd cc
 
-turns_fair : (world : World) (peer k : ℕ) → AllByRecursion (FairEvent world) (replicate k (Turned peer))
+turns_fair : (world : World) (peer k : ℕ) → AllByRecursion (FairEvent world) (replicate k (TurnTaken peer))
 turns_fair world peer zero = tt
 turns_fair world peer (suc k) = (tt, turns_fair world peer k)
 
@@ -511,7 +511,7 @@ zero_index q = let none = nothing q in omega arith
     nothing : (q : ℕ) → slice_index (replicate 8 0) q ≡ 0
     nothing q = grind (arith, common_steps)
 
-good_at_first : (world : World) (q : ℕ) → IsWorld world → Good world q (messages_of q world.acts) (schedule world.acts) 0 (beginning world) []
+good_at_first : (world : World) (q : ℕ) → IsWorld world → Good world q (messages_of q world.acts) (schedule world.acts) 0 (initial_state world) []
 good_at_first world q is = record {
   kept = λ p below. fresh_kept world p is below;
   writer = record { count = refl; sequence = refl; latest = tt; lengths = λ number some few. absurd (omega arith); sizes = tt; writing = tt };
@@ -528,7 +528,7 @@ below_of p n b is = grind (arith, nat_tests)
 pub facts_hold : (world : World) (q : ℕ) → IsWorld world → is_honest world q ≡ true → Facts world q (messages_of q world.acts) None (moment_of world (schedule world.acts)).past
 facts_hold world q is honest =
     let allowed = recursion_from_All (IsAllowed world) world.acts is.allowed in
-    let r = good_run world q (messages_of q world.acts) (schedule world.acts) 0 (beginning world) [] is (below_of q world.geometry.peers _ honest) honest (all_messages world q world.acts allowed) (few_events world is) (all_there world is)
+    let r = good_run world q (messages_of q world.acts) (schedule world.acts) 0 (initial_state world) [] is (below_of q world.geometry.peers _ honest) honest (all_messages world q world.acts allowed) (few_events world is) (all_there world is)
     (acts_fair world world.acts allowed) (good_at_first world q is) in
     r.2.facts
 

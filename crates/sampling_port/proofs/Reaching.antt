@@ -4,12 +4,12 @@ use Rattle.std.proofs.lemmas.Bool.Decides.{nat_tests}
 use Rattle.std.specs.Prelude.{◌==◌, nat_lt, if◌then◌else◌}
 use Rattle.section_map.specs.Geometry.{Shape, section_start}
 use Rattle.call_grammar.specs.Reach.{StaysInReach}
-use Rattle.call_grammar.specs.Ticks.{Who}
+use Rattle.call_grammar.specs.Ticks.{EndConfig}
 use Rattle.call_grammar.specs.Words.{words_for, word_bytes}
 use Rattle.sampling_port.specs.Layout.{IsMessageSize, port_words, length_place, data_place}
 use Rattle.sampling_port.specs.Trees.{PortTree, Ended, unmarked}
 use Rattle.sampling_port.specs.Calls.{publish, write_words, sample, read_length, read_words, is_length}
-use Rattle.sampling_port.specs.Laws.{who_of, CallsStayInReach}
+use Rattle.sampling_port.specs.Laws.{config_of, CallsStayInReach}
 
 -- Where the buffers are
 
@@ -37,24 +37,24 @@ length_within out most number size room = omega (arith, length_place_most most n
 -- A publish
 
 words_stay : (shape : Shape) (me from most number : ℕ) (message : List ℕ) (at count : ℕ) → IsMessageSize most → port_words most ≤ shape.out → at + count ≤ most / 4 →
-    StaysInReach (who_of shape me from) (unmarked (write_words (section_start shape me) most number message at count))
+    StaysInReach (config_of shape me from) (unmarked (write_words (section_start shape me) most number message at count))
 words_stay shape me from most number message at zero size room few = ((omega arith, omega arith), tt)
 words_stay shape me from most number message at (suc more) size room few =
     ((omega arith, omega (arith, within shape.out most number at size room (omega arith))), words_stay shape me from most number message (at + 1) more size room (omega arith))
 
 publishes_stay : (shape : Shape) (me from most number : ℕ) (message : List ℕ) → IsMessageSize most → port_words most ≤ shape.out → length message ≤ most →
-    StaysInReach (who_of shape me from) (unmarked (publish (section_start shape me) most number message))
+    StaysInReach (config_of shape me from) (unmarked (publish (section_start shape me) most number message))
 publishes_stay shape me from most number message size room fits =
     ((omega arith, omega (arith, length_within shape.out most number size room)), words_stay shape me from most number message 0 (words_for (length message)) size room (omega arith))
 
 -- A sample
 
-either_stays : (who : Who) (b : Bool) (t u : PortTree) → StaysInReach who (unmarked t) → StaysInReach who (unmarked u) → StaysInReach who (unmarked (if b then t else u))
-either_stays who true t u s s' = s
-either_stays who false t u s s' = s'
+either_stays : (config : EndConfig) (b : Bool) (t u : PortTree) → StaysInReach config (unmarked t) → StaysInReach config (unmarked u) → StaysInReach config (unmarked (if b then t else u))
+either_stays config true t u s s' = s
+either_stays config false t u s s' = s'
 
 reads_stay : (shape : Shape) (me from most number bytes : ℕ) (read : List ℕ) (at count : ℕ) → IsMessageSize most → port_words most ≤ shape.out → at + count ≤ most / 4 →
-    StaysInReach (who_of shape me from) (unmarked (read_words from (section_start shape from) most number bytes read at count))
+    StaysInReach (config_of shape me from) (unmarked (read_words from (section_start shape from) most number bytes read at count))
 reads_stay shape me from most number bytes read at zero size room few = (inr (omega arith, omega arith), λ value. tt)
 reads_stay shape me from most number bytes read at (suc more) size room few =
     (inr (omega arith, omega (arith, within shape.out most number at size room (omega arith))), λ value. reads_stay shape me from most number bytes (take bytes (read ++ word_bytes value)) (at + 1) more size room (omega arith))
@@ -63,20 +63,20 @@ fits : (most value : ℕ) → is_length most value ≡ true → value ≤ most
 fits most value is = grind (arith, nat_tests)
 
 message_stays : (shape : Shape) (me from most number value : ℕ) → IsMessageSize most → port_words most ≤ shape.out → (b : Bool) → is_length most value ≡ b →
-    StaysInReach (who_of shape me from) (unmarked (if b then read_words from (section_start shape from) most number value [] 0 (words_for value) else Ended))
+    StaysInReach (config_of shape me from) (unmarked (if b then read_words from (section_start shape from) most number value [] 0 (words_for value) else Ended))
 message_stays shape me from most number value size room true is = let few = fits most value is in reads_stay shape me from most number value [] 0 (words_for value) size room (omega arith)
 message_stays shape me from most number value size room false is = tt
 
 length_stays : (shape : Shape) (me from most number : ℕ) → IsMessageSize most → port_words most ≤ shape.out →
-    StaysInReach (who_of shape me from) (unmarked (read_length from (section_start shape from) most number))
+    StaysInReach (config_of shape me from) (unmarked (read_length from (section_start shape from) most number))
 length_stays shape me from most number size room =
     (inr (omega arith, omega (arith, length_within shape.out most number size room)), λ value. message_stays shape me from most number value size room (is_length most value) refl)
 
 samples_stay : (shape : Shape) (me from most last : ℕ) → IsMessageSize most → port_words most ≤ shape.out →
-    StaysInReach (who_of shape me from) (unmarked (sample from (section_start shape from) most last))
+    StaysInReach (config_of shape me from) (unmarked (sample from (section_start shape from) most last))
 samples_stay shape me from most last size room = (
   inr (omega arith, omega arith),
-  λ value. either_stays (who_of shape me from) (nat_lt value last) Ended _ tt (either_stays (who_of shape me from) (value == 0) Ended _ tt (length_stays shape me from most value size room)),
+  λ value. either_stays (config_of shape me from) (nat_lt value last) Ended _ tt (either_stays (config_of shape me from) (value == 0) Ended _ tt (length_stays shape me from most value size room)),
 )
 
 pub reaching : CallsStayInReach

@@ -13,31 +13,31 @@ use Rattle.port_text.specs.declared.acts.Act.{Act}
 use Rattle.port_text.specs.declared.acts.Act.TheVariants as act
 use Rattle.port_text.specs.Acts.{cost, turns_of}
 use Rattle.port_text.specs.Scenario.{World, IsWorld, IsAllowed}
-use Rattle.sampling_port.specs.declared.seat.Seat as sits
+use Rattle.sampling_port.specs.declared.peer_state.PeerState as sits
 use Rattle.sampling_port.specs.declared.place.Place.{Place}
 use Rattle.sampling_port.specs.declared.place.Place.TheVariants as place
-use Rattle.sampling_port.specs.declared.stage.Stage.{Stage}
+use Rattle.sampling_port.specs.declared.simulator.Simulator.{Simulator}
 use Rattle.sampling_port.specs.Trees.{PortStep}
 use Rattle.sampling_port.specs.Views.{PortView, IsPort, is_open, is_busy, port_after, closed, got, writing_place, reading_place}
-use Rattle.sampling_port.specs.Schedule.{PortCall, Publish, Sample, Event, Asked, Turned, Poked, event_peer, events_of, schedule}
-use Rattle.sampling_port.specs.Told.{Line, lines_by, lines_of, access_lines, mark_lines, step_lines}
-use Rattle.sampling_port.specs.History.{Seat, Moment, opening, opened_by, opened, met_by, poked_step, step_in, seat_in, entry_of, happens, run, beginning, moment_of, history}
-use Rattle.sampling_port.specs.Stage.{seat_of, SceneAfter, IsGiven, IsThere, RunsTo, Happens, AreAtStart, IsReady}
+use Rattle.sampling_port.specs.Schedule.{PortCall, Publish, Sample, Event, CallQueued, TurnTaken, Poked, event_peer, events_of, schedule}
+use Rattle.sampling_port.specs.EventRecords.{Line, lines_by, lines_of, access_lines, mark_lines, step_lines}
+use Rattle.sampling_port.specs.History.{PeerState, HistoryState, opening, opened_by, opened, met_by, poked_step, step_in, seat_in, entry_of, after_event, run, initial_state, moment_of, history}
+use Rattle.sampling_port.specs.Simulator.{seat_of, WorldStateAfter, IsPermittedCall, IsPermittedEvent, RunsTo, Happens, AreAtStart, IsReady}
 use Rattle.sampling_port.proofs.Stepping.{port_kept}
 use Rattle.section_map.specs.Geometry.{Shape}
 use Rattle.split_ring.specs.declared.steps.Access.{Access}
 use Rattle.split_ring.specs.declared.steps.Access.TheVariants as access
 use Rattle.sampling_port.specs.Marks.{PortMark}
 use Rattle.std.proofs.lemmas.List.Elements.{recursion_from_All}
-use Rattle.line_text.specs.Rows.{row, line_of_row}
+use Rattle.line_format.specs.Rows.{row, line_of_row}
 use Rattle.port_text.specs.Spelling.{spelling}
 use Rattle.sampling_port.specs.declared.lines.Form.TheVariants.{Head, End}
 use Rattle.sampling_port.specs.LineRows.{pieces_of_line}
 use Rattle.sampling_port.specs.Record.{text_of_lines, record_of}
 
-pub run-snoc : (g : Shape) (events : List Event) (event : Event) (moment : Moment) → run g (events ++ event ∷ []) moment ≡ happens g (run g events moment) event
+pub run-snoc : (g : Shape) (events : List Event) (event : Event) (moment : HistoryState) → run g (events ++ event ∷ []) moment ≡ after_event g (run g events moment) event
 run-snoc g [] event moment = refl
-run-snoc g (x ∷ events) event moment = run-snoc g events event (happens g moment x)
+run-snoc g (x ∷ events) event moment = run-snoc g events event (after_event g moment x)
 
 pub there-snoc : (P : Event → Type 0) (events : List Event) (event : Event) → AllByRecursion P events → P event → AllByRecursion P (events ++ event ∷ [])
 there-snoc P [] event all here = (here, tt)
@@ -60,51 +60,51 @@ two_lines : (peer : ℕ) (step : PortStep) → length (step_lines peer step) ≤
 two_lines peer step = let a = one_access peer step.access step.value in let m = one_mark peer step.mark in let both = length-append (access_lines peer step.access step.value) (mark_lines peer step.mark) in omega arith
 
 few_lines : (event : Event) (went : Option PortStep) → length (lines_by event went) ≤ 2
-few_lines (Asked peer call) went = omega arith
-few_lines (Turned peer) None = omega arith
-few_lines (Turned peer) (Some step) = two_lines peer step
+few_lines (CallQueued peer call) went = omega arith
+few_lines (TurnTaken peer) None = omega arith
+few_lines (TurnTaken peer) (Some step) = two_lines peer step
 few_lines (Poked peer word value) None = omega arith
 few_lines (Poked peer word value) (Some step) = two_lines peer step
 
-pub count_few : (g : Shape) (events : List Event) (moment : Moment) → length (run g events moment).past ≤ length moment.past + 2 * length events
+pub count_few : (g : Shape) (events : List Event) (moment : HistoryState) → length (run g events moment).past ≤ length moment.past + 2 * length events
 count_few g [] moment = omega arith
 count_few g (event ∷ events) moment =
     let new = lines_of (entry_of g moment event) in
     let few = few_lines event (entry_of g moment event).went in
-    let later = count_few g events (happens g moment event) in
+    let later = count_few g events (after_event g moment event) in
     let both = length-append (reverse new) moment.past in
     let same = length-reverse new in
     omega arith
 
--- What a seat keeps after so many events
+-- What a peer state keeps after so many events
 
 -- an open call counts
 abbrev pending : Bool → ℕ
 pending true = 1
 pending false = 0
 
-pub record Kept (world : World) (me n : ℕ) (seat : Seat) : Type 0 where
-  pub port : IsPort seat.port
-  pub shape : seat.port.shape ≡ world.geometry
-  pub me_is : seat.port.me ≡ me
-  pub most : seat.port.most ≡ world.most
-  pub waiting : AllByRecursion (IsGiven world) seat.waiting
-  pub few : seat.port.published + pending (is_busy seat.port) + length seat.waiting ≤ n
+pub record Kept (world : World) (me n : ℕ) (peer_state : PeerState) : Type 0 where
+  pub port : IsPort peer_state.port
+  pub shape : peer_state.port.shape ≡ world.geometry
+  pub me_is : peer_state.port.me ≡ me
+  pub most : peer_state.port.most ≡ world.most
+  pub waiting : AllByRecursion (IsPermittedCall world) peer_state.waiting
+  pub few : peer_state.port.published + pending (is_busy peer_state.port) + length peer_state.waiting ≤ n
 
-later : (world : World) (me n : ℕ) (seat : Seat) → Kept world me n seat → Kept world me (n + 1) seat
-later world me n seat kept = let few = kept.few in record { port = kept.port; shape = kept.shape; me_is = kept.me_is; most = kept.most; waiting = kept.waiting; few = omega arith }
+later : (world : World) (me n : ℕ) (peer_state : PeerState) → Kept world me n peer_state → Kept world me (n + 1) peer_state
+later world me n peer_state kept = let few = kept.few in record { port = kept.port; shape = kept.shape; me_is = kept.me_is; most = kept.most; waiting = kept.waiting; few = omega arith }
 
 given-snoc : (P : PortCall → Type 0) (calls : List PortCall) (call : PortCall) → AllByRecursion P calls → P call → AllByRecursion P (calls ++ call ∷ [])
 given-snoc P [] call all here = (here, tt)
 given-snoc P (x ∷ calls) call all here = (all.0, given-snoc P calls call all.1 here)
 
-asked_kept : (world : World) (me n : ℕ) (seat : Seat) (call : PortCall) → Kept world me n seat → IsGiven world call → Kept world me (n + 1) (record seat { waiting = seat.waiting ++ call ∷ [] })
-asked_kept world me n seat call kept given =
+asked_kept : (world : World) (me n : ℕ) (peer_state : PeerState) (call : PortCall) → Kept world me n peer_state → IsPermittedCall world call → Kept world me (n + 1) (record peer_state { waiting = peer_state.waiting ++ call ∷ [] })
+asked_kept world me n peer_state call kept given =
     let few = kept.few in
-    let more = length-append seat.waiting (call ∷ []) in
-    record { port = kept.port; shape = kept.shape; me_is = kept.me_is; most = kept.most; waiting = given-snoc (IsGiven world) seat.waiting call kept.waiting given; few = omega arith }
+    let more = length-append peer_state.waiting (call ∷ []) in
+    record { port = kept.port; shape = kept.shape; me_is = kept.me_is; most = kept.most; waiting = given-snoc (IsPermittedCall world) peer_state.waiting call kept.waiting given; few = omega arith }
 
-open_port : (world : World) (port : PortView) (call : PortCall) → IsPort port → port.shape ≡ world.geometry → port.most ≡ world.most → IsGiven world call → port.published + 1 < 2 ^ 32 → IsPort (opening port call)
+open_port : (world : World) (port : PortView) (call : PortCall) → IsPort port → port.shape ≡ world.geometry → port.most ≡ world.most → IsPermittedCall world call → port.published + 1 < 2 ^ 32 → IsPort (opening port call)
 open_port world port (Publish message) is shape most given number = record {
   shaped = is.shaped;
   few = is.few;
@@ -128,20 +128,20 @@ open_port world port (Sample from) is shape most given number = record {
   place = rw shape given;
 }
 
-pub opened_kept : (world : World) (me n : ℕ) (seat : Seat) (b : Bool) (waiting : List PortCall) → is_busy seat.port ≡ b → seat.waiting ≡ waiting → n < 4000001 → Kept world me n seat → Kept world me n (opened_by seat b waiting)
-opened_kept world me n seat true waiting busy all small kept = kept
-opened_kept world me n seat false [] busy all small kept = kept
-opened_kept world me n seat false (call ∷ waiting) busy all small kept =
-    let given : AllByRecursion (IsGiven world) (call ∷ waiting) = subst (λ (cs : List PortCall). AllByRecursion (IsGiven world) cs) all kept.waiting in
+pub opened_kept : (world : World) (me n : ℕ) (peer_state : PeerState) (b : Bool) (waiting : List PortCall) → is_busy peer_state.port ≡ b → peer_state.waiting ≡ waiting → n < 4000001 → Kept world me n peer_state → Kept world me n (opened_by peer_state b waiting)
+opened_kept world me n peer_state true waiting busy all small kept = kept
+opened_kept world me n peer_state false [] busy all small kept = kept
+opened_kept world me n peer_state false (call ∷ waiting) busy all small kept =
+    let given : AllByRecursion (IsPermittedCall world) (call ∷ waiting) = subst (λ (cs : List PortCall). AllByRecursion (IsPermittedCall world) cs) all kept.waiting in
     let few = kept.few in
-    let count : length seat.waiting ≡ suc (length waiting) = ap length all in
-    let none : pending (is_busy seat.port) ≡ 0 = ap pending busy in
+    let count : length peer_state.waiting ≡ suc (length waiting) = ap length all in
+    let none : pending (is_busy peer_state.port) ≡ 0 = ap pending busy in
     made call given few count none
   where
-    made : (call : PortCall) → AllByRecursion (IsGiven world) (call ∷ waiting) → seat.port.published + pending (is_busy seat.port) + length seat.waiting ≤ n → length seat.waiting ≡ suc (length waiting) → pending (is_busy seat.port) ≡ 0 →
-        Kept world me n (record { port = opening seat.port call; waiting = waiting })
+    made : (call : PortCall) → AllByRecursion (IsPermittedCall world) (call ∷ waiting) → peer_state.port.published + pending (is_busy peer_state.port) + length peer_state.waiting ≤ n → length peer_state.waiting ≡ suc (length waiting) → pending (is_busy peer_state.port) ≡ 0 →
+        Kept world me n (record { port = opening peer_state.port call; waiting = waiting })
     made (Publish message) given few count none = record {
-      port = open_port world seat.port (Publish message) kept.port kept.shape kept.most given.0 (omega arith);
+      port = open_port world peer_state.port (Publish message) kept.port kept.shape kept.most given.0 (omega arith);
       shape = kept.shape;
       me_is = kept.me_is;
       most = kept.most;
@@ -149,7 +149,7 @@ opened_kept world me n seat false (call ∷ waiting) busy all small kept =
       few = omega arith;
     }
     made (Sample from) given few count none = record {
-      port = open_port world seat.port (Sample from) kept.port kept.shape kept.most given.0 (omega arith);
+      port = open_port world peer_state.port (Sample from) kept.port kept.shape kept.most given.0 (omega arith);
       shape = kept.shape;
       me_is = kept.me_is;
       most = kept.most;
@@ -191,44 +191,44 @@ same_after port (place.AtLength from sequence) value opens = same_length port fr
 same_after port (place.AtWord from sequence bytes at more) value opens = record { shape = refl; me = refl; most = refl; count = omega (arith, at_most (is_open (reading_place from sequence bytes (at + 1) more))) }
 same_after port (place.AtSecond from sequence) value opens = same_second port from sequence _
 
-turn_kept : (world : World) (me n : ℕ) (seat : Seat) (past : List Line) (b : Bool) → is_busy seat.port ≡ b → Kept world me n seat →
-    Kept world me n (record { port = if b then port_after seat.port seat.port.place (met_by past seat.port) else seat.port; waiting = seat.waiting })
-turn_kept world me n seat past true busy kept =
-    let same = same_after seat.port seat.port.place (met_by past seat.port) busy in
+turn_kept : (world : World) (me n : ℕ) (peer_state : PeerState) (past : List Line) (b : Bool) → is_busy peer_state.port ≡ b → Kept world me n peer_state →
+    Kept world me n (record { port = if b then port_after peer_state.port peer_state.port.place (met_by past peer_state.port) else peer_state.port; waiting = peer_state.waiting })
+turn_kept world me n peer_state past true busy kept =
+    let same = same_after peer_state.port peer_state.port.place (met_by past peer_state.port) busy in
     let few = kept.few in
-    let one : pending (is_busy seat.port) ≡ 1 = ap pending busy in
+    let one : pending (is_busy peer_state.port) ≡ 1 = ap pending busy in
     let count = same.count in
     record {
-      port = port_kept seat.port seat.port.place (met_by past seat.port) refl kept.port kept.port.place;
+      port = port_kept peer_state.port peer_state.port.place (met_by past peer_state.port) refl kept.port kept.port.place;
       shape = same.shape ∙ kept.shape;
       me_is = same.me ∙ kept.me_is;
       most = same.most ∙ kept.most;
       waiting = kept.waiting;
       few = omega arith;
     }
-turn_kept world me n seat past false busy kept = kept
+turn_kept world me n peer_state past false busy kept = kept
 
--- one event more keeps what each seat keeps
-pub seat_kept : (world : World) (me n : ℕ) (seat : Seat) (past : List Line) (event : Event) → n < 4000001 → IsThere world event → Kept world me n seat → Kept world me (n + 1) (seat_in seat past event)
-seat_kept world me n seat past (Asked peer call) small there kept = asked_kept world me n seat call kept there.1
-seat_kept world me n seat past (Turned peer) small there kept = later world me n _ (turn_kept world me n (opened seat) past _ refl (opened_kept world me n seat _ _ refl refl small kept))
-seat_kept world me n seat past (Poked peer word value) small there kept = later world me n seat kept
+-- one event more keeps what each peer state keeps
+pub seat_kept : (world : World) (me n : ℕ) (peer_state : PeerState) (past : List Line) (event : Event) → n < 4000001 → IsPermittedEvent world event → Kept world me n peer_state → Kept world me (n + 1) (seat_in peer_state past event)
+seat_kept world me n peer_state past (CallQueued peer call) small there kept = asked_kept world me n peer_state call kept there.1
+seat_kept world me n peer_state past (TurnTaken peer) small there kept = later world me n _ (turn_kept world me n (opened peer_state) past _ refl (opened_kept world me n peer_state _ _ refl refl small kept))
+seat_kept world me n peer_state past (Poked peer word value) small there kept = later world me n peer_state kept
 
-with_kept : (world : World) (p me n : ℕ) (seat : Seat) (seats : ℕ → Seat) (b : Bool) → (me == p) ≡ b → (b ≡ true → Kept world p n seat) → (b ≡ false → Kept world p n (seats p)) → Kept world p n (if b then seat else seats p)
-with_kept world p me n seat seats true is here other = here refl
-with_kept world p me n seat seats false is here other = other refl
+with_kept : (world : World) (p me n : ℕ) (peer_state : PeerState) (peer_states : ℕ → PeerState) (b : Bool) → (me == p) ≡ b → (b ≡ true → Kept world p n peer_state) → (b ≡ false → Kept world p n (peer_states p)) → Kept world p n (if b then peer_state else peer_states p)
+with_kept world p me n peer_state peer_states true is here other = here refl
+with_kept world p me n peer_state peer_states false is here other = other refl
 
-pub kept_on : (world : World) (g : Shape) (events : List Event) (n : ℕ) (moment : Moment) → n + length events ≤ 4000000 → AllByRecursion (IsThere world) events → ((p : ℕ) → p < world.geometry.peers → Kept world p n (moment.seats p)) →
-    (p : ℕ) → p < world.geometry.peers → Kept world p (n + length events) ((run g events moment).seats p)
-kept_on world g [] n moment few there kept p below = subst (λ (k : ℕ). Kept world p k (moment.seats p)) (omega arith) (kept p below)
+pub kept_on : (world : World) (g : Shape) (events : List Event) (n : ℕ) (moment : HistoryState) → n + length events ≤ 4000000 → AllByRecursion (IsPermittedEvent world) events → ((p : ℕ) → p < world.geometry.peers → Kept world p n (moment.peer_states p)) →
+    (p : ℕ) → p < world.geometry.peers → Kept world p (n + length events) ((run g events moment).peer_states p)
+kept_on world g [] n moment few there kept p below = subst (λ (k : ℕ). Kept world p k (moment.peer_states p)) (omega arith) (kept p below)
 kept_on world g (event ∷ events) n moment few there kept p below =
-    subst (λ (k : ℕ). Kept world p k ((run g events (happens g moment event)).seats p)) (omega arith)
-    (kept_on world g events (n + 1) (happens g moment event) (omega arith) there.1
-    (λ q inside. with_kept world q (event_peer event) (n + 1) _ moment.seats _ refl
-    (λ same. let is : event_peer event ≡ q = eqb-true _ _ same in subst (λ (k : ℕ). Kept world q (n + 1) (seat_in (moment.seats k) moment.past event)) (sym is) (seat_kept world q n (moment.seats q) moment.past event (omega arith) there.0 (kept q inside)))
-    (λ other. later world q n (moment.seats q) (kept q inside))) p below)
+    subst (λ (k : ℕ). Kept world p k ((run g events (after_event g moment event)).peer_states p)) (omega arith)
+    (kept_on world g events (n + 1) (after_event g moment event) (omega arith) there.1
+    (λ q inside. with_kept world q (event_peer event) (n + 1) _ moment.peer_states _ refl
+    (λ same. let is : event_peer event ≡ q = eqb-true _ _ same in subst (λ (k : ℕ). Kept world q (n + 1) (seat_in (moment.peer_states k) moment.past event)) (sym is) (seat_kept world q n (moment.peer_states q) moment.past event (omega arith) there.0 (kept q inside)))
+    (λ other. later world q n (moment.peer_states q) (kept q inside))) p below)
 
-pub fresh_kept : (world : World) (p : ℕ) → IsWorld world → p < world.geometry.peers → Kept world p 0 ((beginning world).seats p)
+pub fresh_kept : (world : World) (p : ℕ) → IsWorld world → p < world.geometry.peers → Kept world p 0 ((initial_state world).peer_states p)
 fresh_kept world p is below = record {
   port = record {
     shaped = is.geometry;
@@ -248,20 +248,20 @@ fresh_kept world p is below = record {
   few = omega arith;
 }
 
-pub kept_at : (world : World) (events : List Event) (p : ℕ) → IsWorld world → length events ≤ 4000000 → AllByRecursion (IsThere world) events → p < world.geometry.peers → Kept world p (length events) ((moment_of world events).seats p)
-kept_at world events p is few there below = subst (λ (k : ℕ). Kept world p k ((moment_of world events).seats p)) (omega arith) (kept_on world world.geometry events 0 (beginning world) (omega arith) there (λ q inside. fresh_kept world q is inside) p below)
+pub kept_at : (world : World) (events : List Event) (p : ℕ) → IsWorld world → length events ≤ 4000000 → AllByRecursion (IsPermittedEvent world) events → p < world.geometry.peers → Kept world p (length events) ((moment_of world events).peer_states p)
+kept_at world events p is few there below = subst (λ (k : ℕ). Kept world p k ((moment_of world events).peer_states p)) (omega arith) (kept_on world world.geometry events 0 (initial_state world) (omega arith) there (λ q inside. fresh_kept world q is inside) p below)
 
-pub ready_at : (world : World) (events : List Event) (p : ℕ) (seat : Seat) → IsWorld world → length events ≤ 4000000 → AllByRecursion (IsThere world) events → p < world.geometry.peers → seat ≡ (moment_of world events).seats p → IsReady world p seat
-ready_at world events p seat is few there below same =
+pub ready_at : (world : World) (events : List Event) (p : ℕ) (peer_state : PeerState) → IsWorld world → length events ≤ 4000000 → AllByRecursion (IsPermittedEvent world) events → p < world.geometry.peers → peer_state ≡ (moment_of world events).peer_states p → IsReady world p peer_state
+ready_at world events p peer_state is few there below same =
     let kept = kept_at world events p is few there below in
     let bound = kept.few in
-    subst (λ (s : Seat). IsReady world p s) (sym same) (record { port = kept.port; shape = kept.shape; me_is = kept.me_is; most = kept.most; waiting = kept.waiting; numbers = omega arith })
+    subst (λ (s : PeerState). IsReady world p s) (sym same) (record { port = kept.port; shape = kept.shape; me_is = kept.me_is; most = kept.most; waiting = kept.waiting; numbers = omega arith })
 
 -- the record has room for more lines
-pub room_of : (world : World) (front : List ℕ) (events : List Event) (s : Stage) → RunsTo world front events s → s.scene.told.count < 2 ^ 62
-room_of world front events s runs = let count = runs.after.told.count in let few = count_few world.geometry events (beginning world) in let all = runs.few in omega arith
+pub room_of : (world : World) (front : List ℕ) (events : List Event) (s : Simulator) → RunsTo world front events s → s.world_state.told.count < 2 ^ 62
+room_of world front events s runs = let count = runs.after.told.count in let few = count_few world.geometry events (initial_state world) in let all = runs.few in omega arith
 
--- Seats
+-- Peer states
 
 -- what a list with one element set has there, and elsewhere
 set_at : {A : Type 0} (xs : List A) (p k : ℕ) (x y : A) → k ≡ p → slice_get (slice_set xs p x) k ≡ Some y → x ≡ y
@@ -278,67 +278,67 @@ set_beside (z ∷ xs) zero (suc k) x other = refl
 set_beside (z ∷ xs) (suc p) zero x other = refl
 set_beside (z ∷ xs) (suc p) (suc k) x other = set_beside xs p k x (λ e. other (ap suc e))
 
--- one event of a peer, after which its seat and the scene stand
-pub record OneMore (world : World) (front : List ℕ) (moment : Moment) (event : Event) (s s' : Stage) (seat : sits.Seat) : Type 0 where
-  pub items : s'.seats.items ≡ slice_set s.seats.items (event_peer event) seat
-  pub shape : s'.scene.region.shape ≡ s.scene.region.shape
-  pub after : SceneAfter front (happens world.geometry moment event).past s'.scene
-  pub seat_is : seat_of seat ≡ seat_in (moment.seats (event_peer event)) moment.past event
+-- one event of a peer, after which its peer state and the world state stand
+pub record OneMore (world : World) (front : List ℕ) (moment : HistoryState) (event : Event) (s s' : Simulator) (peer_state : sits.PeerState) : Type 0 where
+  pub items : s'.peer_states.items ≡ slice_set s.peer_states.items (event_peer event) peer_state
+  pub shape : s'.world_state.region.shape ≡ s.world_state.region.shape
+  pub after : WorldStateAfter front (after_event world.geometry moment event).past s'.world_state
+  pub seat_is : seat_of peer_state ≡ seat_in (moment.peer_states (event_peer event)) moment.past event
 
-seat_there : (world : World) (front : List ℕ) (events : List Event) (event : Event) (s s' : Stage) (seat : sits.Seat) → OneMore world front (moment_of world events) event s s' seat → RunsTo world front events s →
-    (k : ℕ) (found : sits.Seat) (b : Bool) → (event_peer event == k) ≡ b → slice_get (slice_set s.seats.items (event_peer event) seat) k ≡ Some found →
-    seat_of found ≡ (if b then seat_in ((moment_of world events).seats (event_peer event)) (moment_of world events).past event else (moment_of world events).seats k)
-seat_there world front events event s s' seat more runs k found true is at =
+seat_there : (world : World) (front : List ℕ) (events : List Event) (event : Event) (s s' : Simulator) (peer_state : sits.PeerState) → OneMore world front (moment_of world events) event s s' peer_state → RunsTo world front events s →
+    (k : ℕ) (found : sits.PeerState) (b : Bool) → (event_peer event == k) ≡ b → slice_get (slice_set s.peer_states.items (event_peer event) peer_state) k ≡ Some found →
+    seat_of found ≡ (if b then seat_in ((moment_of world events).peer_states (event_peer event)) (moment_of world events).past event else (moment_of world events).peer_states k)
+seat_there world front events event s s' peer_state more runs k found true is at =
     let same : event_peer event ≡ k = eqb-true _ _ is in
-    ap seat_of (sym (set_at s.seats.items (event_peer event) k seat found (sym same) at)) ∙ more.seat_is
-seat_there world front events event s s' seat more runs k found false is at =
+    ap seat_of (sym (set_at s.peer_states.items (event_peer event) k peer_state found (sym same) at)) ∙ more.seat_is
+seat_there world front events event s s' peer_state more runs k found false is at =
     let other : k ≢ event_peer event = λ e. eqb-false _ _ is (sym e) in
-    runs.seats k found (sym (set_beside s.seats.items (event_peer event) k seat other) ∙ at)
+    runs.peer_states k found (sym (set_beside s.peer_states.items (event_peer event) k peer_state other) ∙ at)
 
-pub goes_on : (world : World) (front : List ℕ) (events : List Event) (event : Event) (s s' : Stage) (seat : sits.Seat) → IsThere world event → length events < 4000000 → OneMore world front (moment_of world events) event s s' seat →
+pub goes_on : (world : World) (front : List ℕ) (events : List Event) (event : Event) (s s' : Simulator) (peer_state : sits.PeerState) → IsPermittedEvent world event → length events < 4000000 → OneMore world front (moment_of world events) event s s' peer_state →
     RunsTo world front events s → RunsTo world front (events ++ event ∷ []) s'
-goes_on world front events event s s' seat there small more runs =
-    let next : moment_of world (events ++ event ∷ []) ≡ happens world.geometry (moment_of world events) event = run-snoc world.geometry events event (beginning world) in
+goes_on world front events event s s' peer_state there small more runs =
+    let next : moment_of world (events ++ event ∷ []) ≡ after_event world.geometry (moment_of world events) event = run-snoc world.geometry events event (initial_state world) in
     let count = length-append events (event ∷ []) in
     record {
       is_world = runs.is_world;
-      there = there-snoc (IsThere world) events event runs.there there;
+      there = there-snoc (IsPermittedEvent world) events event runs.there there;
       few = omega arith;
       shape = more.shape ∙ runs.shape;
-      after = subst (λ (m : Moment). SceneAfter front m.past s'.scene) (sym next) more.after;
-      count = ap length more.items ∙ length-set s.seats.items (event_peer event) seat ∙ runs.count;
-      seats = λ k found is. seat_there world front events event s s' seat more runs k found (event_peer event == k) refl (subst (λ (xs : List sits.Seat). slice_get xs k ≡ Some found) more.items is)
-          ∙ ap (λ (m : Moment). m.seats k) (sym next);
+      after = subst (λ (m : HistoryState). WorldStateAfter front m.past s'.world_state) (sym next) more.after;
+      count = ap length more.items ∙ length-set s.peer_states.items (event_peer event) peer_state ∙ runs.count;
+      peer_states = λ k found is. seat_there world front events event s s' peer_state more runs k found (event_peer event == k) refl (subst (λ (xs : List sits.PeerState). slice_get xs k ≡ Some found) more.items is)
+          ∙ ap (λ (m : HistoryState). m.peer_states k) (sym next);
     }
 
-pub there_below : (world : World) (event : Event) → IsThere world event → event_peer event < world.geometry.peers
-there_below world (Asked peer call) there = there.0
-there_below world (Turned peer) there = there
+pub there_below : (world : World) (event : Event) → IsPermittedEvent world event → event_peer event < world.geometry.peers
+there_below world (CallQueued peer call) there = there.0
+there_below world (TurnTaken peer) there = there
 there_below world (Poked peer word value) there = there
 
--- an event of a seat and the scene
-pub happened : (event : Event) (s s' : Stage) (old seat : sits.Seat) → slice_get s.seats.items (event_peer event) ≡ Some old → s'.seats.items ≡ slice_set s.seats.items (event_peer event) seat →
-    s'.scene.region.shape ≡ s.scene.region.shape →
-    ((front : List ℕ) (past : List Line) → SceneAfter front past s.scene →
-    SceneAfter front (reverse (lines_by event (step_in s.scene.region.shape (seat_of old) past event)) ++ past) s'.scene × (seat_of seat ≡ seat_in (seat_of old) past event)) → Happens event s s'
-happened event s s' old seat at items shape after = λ world front events there small runs.
+-- an event of a peer state and the world state
+pub happened : (event : Event) (s s' : Simulator) (old peer_state : sits.PeerState) → slice_get s.peer_states.items (event_peer event) ≡ Some old → s'.peer_states.items ≡ slice_set s.peer_states.items (event_peer event) peer_state →
+    s'.world_state.region.shape ≡ s.world_state.region.shape →
+    ((front : List ℕ) (past : List Line) → WorldStateAfter front past s.world_state →
+    WorldStateAfter front (reverse (lines_by event (step_in s.world_state.region.shape (seat_of old) past event)) ++ past) s'.world_state × (seat_of peer_state ≡ seat_in (seat_of old) past event)) → Happens event s s'
+happened event s s' old peer_state at items shape after = λ world front events there small runs.
     let m = moment_of world events in
-    let here : seat_of old ≡ m.seats (event_peer event) = runs.seats (event_peer event) old at in
+    let here : seat_of old ≡ m.peer_states (event_peer event) = runs.peer_states (event_peer event) old at in
     let t = after front m.past runs.after in
-    goes_on world front events event s s' seat there small (record {
+    goes_on world front events event s s' peer_state there small (record {
       items = items;
       shape = shape;
-      after = subst (λ (g : Shape). SceneAfter front (reverse (lines_by event (step_in g (m.seats (event_peer event)) m.past event)) ++ m.past) s'.scene) runs.shape
-          (subst (λ (x : Seat). SceneAfter front (reverse (lines_by event (step_in s.scene.region.shape x m.past event)) ++ m.past) s'.scene) here t.0);
-      seat_is = t.1 ∙ ap (λ (x : Seat). seat_in x m.past event) here;
+      after = subst (λ (g : Shape). WorldStateAfter front (reverse (lines_by event (step_in g (m.peer_states (event_peer event)) m.past event)) ++ m.past) s'.world_state) runs.shape
+          (subst (λ (x : PeerState). WorldStateAfter front (reverse (lines_by event (step_in s.world_state.region.shape x m.past event)) ++ m.past) s'.world_state) here t.0);
+      seat_is = t.1 ∙ ap (λ (x : PeerState). seat_in x m.past event) here;
     }) runs
 
-pub seat_happens : {T E : Type 0} (r : Result T E) (event : Event) (s s' : Stage) (old seat : sits.Seat) → slice_get s.seats.items (event_peer event) ≡ Some old → s'.seats.items ≡ slice_set s.seats.items (event_peer event) seat →
-    s'.scene.region.shape ≡ s.scene.region.shape →
-    ((front : List ℕ) (past : List Line) → SceneAfter front past s.scene →
-    OnOk r (SceneAfter front (reverse (lines_by event (step_in s.scene.region.shape (seat_of old) past event)) ++ past) s'.scene × (seat_of seat ≡ seat_in (seat_of old) past event))) → OnOk r (Happens event s s')
-seat_happens (Ok v) event s s' old seat at items shape after = happened event s s' old seat at items shape after
-seat_happens (Err e) event s s' old seat at items shape after = tt
+pub seat_happens : {T E : Type 0} (r : Result T E) (event : Event) (s s' : Simulator) (old peer_state : sits.PeerState) → slice_get s.peer_states.items (event_peer event) ≡ Some old → s'.peer_states.items ≡ slice_set s.peer_states.items (event_peer event) peer_state →
+    s'.world_state.region.shape ≡ s.world_state.region.shape →
+    ((front : List ℕ) (past : List Line) → WorldStateAfter front past s.world_state →
+    OnOk r (WorldStateAfter front (reverse (lines_by event (step_in s.world_state.region.shape (seat_of old) past event)) ++ past) s'.world_state × (seat_of peer_state ≡ seat_in (seat_of old) past event))) → OnOk r (Happens event s s')
+seat_happens (Ok v) event s s' old peer_state at items shape after = happened event s s' old peer_state at items shape after
+seat_happens (Err e) event s s' old peer_state at items shape after = tt
 
 found_at : {A : Type 0} (xs : List A) (p : ℕ) → p < length xs → (x : A) × (slice_get xs p ≡ Some x)
 found_at [] p below = absurd (omega arith)
@@ -350,32 +350,32 @@ get_set [] p x is = absurd (cc)
 get_set (y ∷ xs) zero x is = ap (λ z. z ∷ xs) (sym (same_Some y x is))
 get_set (y ∷ xs) (suc p) x is = ap (λ zs. y ∷ zs) (get_set xs p x is)
 
--- an event of the scene alone: a write of a peer's own accord
-pub poke_happens : {T E : Type 0} (r : Result T E) (peer word value : ℕ) (s s' : Stage) → s'.seats ≡ s.seats → s'.scene.region.shape ≡ s.scene.region.shape →
-    ((front : List ℕ) (past : List Line) → SceneAfter front past s.scene → OnOk r (SceneAfter front (reverse (lines_by (Poked peer word value) (poked_step s.scene.region.shape peer word value)) ++ past) s'.scene)) →
+-- an event of the world state alone: a write of a peer's own accord
+pub poke_happens : {T E : Type 0} (r : Result T E) (peer word value : ℕ) (s s' : Simulator) → s'.peer_states ≡ s.peer_states → s'.world_state.region.shape ≡ s.world_state.region.shape →
+    ((front : List ℕ) (past : List Line) → WorldStateAfter front past s.world_state → OnOk r (WorldStateAfter front (reverse (lines_by (Poked peer word value) (poked_step s.world_state.region.shape peer word value)) ++ past) s'.world_state)) →
     OnOk r (Happens (Poked peer word value) s s')
-poke_happens (Ok v) peer word value s s' seats shape after = λ world front events there small runs.
+poke_happens (Ok v) peer word value s s' peer_states shape after = λ world front events there small runs.
     let count = runs.count in
-    let old = found_at s.seats.items peer (omega arith) in
-    happened (Poked peer word value) s s' old.0 old.0 old.1 (ap (λ v. v.items) seats ∙ sym (get_set s.seats.items peer old.0 old.1)) shape (λ f past a. (after f past a, refl)) world front events there small runs
-poke_happens (Err e) peer word value s s' seats shape after = tt
+    let old = found_at s.peer_states.items peer (omega arith) in
+    happened (Poked peer word value) s s' old.0 old.0 old.1 (ap (λ v. v.items) peer_states ∙ sym (get_set s.peer_states.items peer old.0 old.1)) shape (λ f past a. (after f past a, refl)) world front events there small runs
+poke_happens (Err e) peer word value s s' peer_states shape after = tt
 
 -- So many turns, and the acts so far
 
 one_more : {A : Type 0} (xs : List A) (n : ℕ) (x : A) → (xs ++ replicate n x) ++ x ∷ [] ≡ xs ++ replicate (n + 1) x
 one_more xs n x = append_assoc xs (replicate n x) (x ∷ []) ∙ ap (λ r. xs ++ r) (replicate-append-replicate n 1 x)
 
-pub turn_more : (world : World) (front : List ℕ) (events : List Event) (peer n : ℕ) (s s' : Stage) → IsThere world (Turned peer) → length events + n < 4000000 → Happens (Turned peer) s s' →
-    RunsTo world front (events ++ replicate n (Turned peer)) s → RunsTo world front (events ++ replicate (n + 1) (Turned peer)) s'
-turn_more world front events peer n s s' there small happens runs =
-    let count = length-append events (replicate n (Turned peer)) in
-    let turns = length-replicate n (Turned peer) in
-    subst (λ (es : List Event). RunsTo world front es s') (one_more events n (Turned peer)) (happens world front _ there (omega arith) runs)
+pub turn_more : (world : World) (front : List ℕ) (events : List Event) (peer n : ℕ) (s s' : Simulator) → IsPermittedEvent world (TurnTaken peer) → length events + n < 4000000 → Happens (TurnTaken peer) s s' →
+    RunsTo world front (events ++ replicate n (TurnTaken peer)) s → RunsTo world front (events ++ replicate (n + 1) (TurnTaken peer)) s'
+turn_more world front events peer n s s' there small after_event runs =
+    let count = length-append events (replicate n (TurnTaken peer)) in
+    let turns = length-replicate n (TurnTaken peer) in
+    subst (λ (es : List Event). RunsTo world front es s') (one_more events n (TurnTaken peer)) (after_event world front _ there (omega arith) runs)
 
 act_length : (a : Act) → length (events_of a) ≡ cost a
 act_length (act.Publish peer message) = refl
 act_length (act.Sample peer from) = refl
-act_length (act.Turn peer steps) = length-replicate steps (Turned peer)
+act_length (act.Turn peer steps) = length-replicate steps (TurnTaken peer)
 act_length (act.Poke peer word value) = refl
 
 -- the events of the acts so far, and of one more
@@ -388,7 +388,7 @@ schedule_length [] = refl
 schedule_length (a ∷ acts) =
     ap length (flat_map-cons events_of a acts) ∙ length-append (events_of a) (flat_map events_of acts) ∙ (rw (act_length a, schedule_length acts) (sym (sum_by-cons cost a acts)))
 
-pub one_act : (world : World) (front : List ℕ) (acts : List Act) (i : ℕ) (a : Act) (s : Stage) → i < length acts → a ≡ get_or acts i a → RunsTo world front (schedule (take i acts) ++ events_of a) s → RunsTo world front (schedule (take (i + 1) acts)) s
+pub one_act : (world : World) (front : List ℕ) (acts : List Act) (i : ℕ) (a : Act) (s : Simulator) → i < length acts → a ≡ get_or acts i a → RunsTo world front (schedule (take i acts) ++ events_of a) s → RunsTo world front (schedule (take (i + 1) acts)) s
 one_act world front acts i a s inside is runs = subst (λ (es : List Event). RunsTo world front es s) (sym (schedule_more acts i a inside is)) runs
 
 take_drop_turns : (acts : List Act) (i : ℕ) → turns_of (take i acts) ≤ turns_of acts
@@ -403,27 +403,27 @@ few_so_far acts i a inside is =
     let most = take_drop_turns acts (i + 1) in
     omega arith
 
--- The seats at the start
+-- The peer states at the start
 
 -- an element of a list with one more is one of the list, or the last
-last_or : (xs : List sits.Seat) (x : sits.Seat) (k : ℕ) (found : sits.Seat) → slice_get (xs ++ x ∷ []) k ≡ Some found → (P : ℕ → sits.Seat → Type 0) →
-    ((q : ℕ) (s : sits.Seat) → slice_get xs q ≡ Some s → P q s) → P (length xs) x → P k found
-last_or [] x zero found at P all here = subst (λ (s : sits.Seat). P 0 s) (same_Some x found at) here
+last_or : (xs : List sits.PeerState) (x : sits.PeerState) (k : ℕ) (found : sits.PeerState) → slice_get (xs ++ x ∷ []) k ≡ Some found → (P : ℕ → sits.PeerState → Type 0) →
+    ((q : ℕ) (s : sits.PeerState) → slice_get xs q ≡ Some s → P q s) → P (length xs) x → P k found
+last_or [] x zero found at P all here = subst (λ (s : sits.PeerState). P 0 s) (same_Some x found at) here
 last_or [] x (suc k) found at P all here = absurd (cc)
 last_or (y ∷ xs) x zero found at P all here = all 0 found at
 last_or (y ∷ xs) x (suc k) found at P all here = last_or xs x k found at (λ q s. P (suc q) s) (λ q s is. all (suc q) s is) here
 
-pub one_seat : (world : World) (count : ℕ) (seats : List sits.Seat) (seat : sits.Seat) → AreAtStart world count seats → seat_of seat ≡ (beginning world).seats count → AreAtStart world (count + 1) (seats ++ seat ∷ [])
-one_seat world count seats seat start fresh =
+pub one_seat : (world : World) (count : ℕ) (peer_states : List sits.PeerState) (peer_state : sits.PeerState) → AreAtStart world count peer_states → seat_of peer_state ≡ (initial_state world).peer_states count → AreAtStart world (count + 1) (peer_states ++ peer_state ∷ [])
+one_seat world count peer_states peer_state start fresh =
     let length_is = start.length_is in
     record {
       length_is = simp length-append (omega arith);
-      fresh = λ p found at. last_or seats seat p found at (λ q s. seat_of s ≡ (beginning world).seats q) start.fresh (rw length_is fresh);
+      fresh = λ p found at. last_or peer_states peer_state p found at (λ q s. seat_of s ≡ (initial_state world).peer_states q) start.fresh (rw length_is fresh);
     }
 
--- a stage at the start
-pub begun : (world : World) (front : List ℕ) (s : Stage) → IsWorld world → AreAtStart world world.geometry.peers s.seats.items → s.scene.region.shape ≡ world.geometry → SceneAfter front [] s.scene → RunsTo world front [] s
-begun world front s is start shape after = record { is_world = is; there = tt; few = omega arith; shape = shape; after = after; count = start.length_is; seats = start.fresh }
+-- a simulator at the start
+pub begun : (world : World) (front : List ℕ) (s : Simulator) → IsWorld world → AreAtStart world world.geometry.peers s.peer_states.items → s.world_state.region.shape ≡ world.geometry → WorldStateAfter front [] s.world_state → RunsTo world front [] s
+begun world front s is start shape after = record { is_world = is; there = tt; few = omega arith; shape = shape; after = after; count = start.length_is; peer_states = start.fresh }
 
 -- The whole record
 
@@ -440,14 +440,14 @@ allowed_nth w (x ∷ acts) (suc i) a all inside is = allowed_nth w acts i a all.
 pub act_at : (w : World) (i : ℕ) (a : Act) → IsWorld w → i < length w.acts → a ≡ get_or w.acts i a → IsAllowed w a
 act_at w i a is inside at = allowed_nth w w.acts i a (recursion_from_All (IsAllowed w) w.acts is.allowed) inside at
 
--- the record of a stage that took all acts, with its end
-pub whole_record : (world : World) (i : ℕ) (s : Stage) → length world.acts ≤ i → RunsTo world (front_of world) (schedule (take i world.acts)) s →
-    s.scene.told.text.items ++ line_of_row pieces_of_line (row End (s.scene.told.count ∷ []) []) ≡ record_of world (history world)
+-- the record of a simulator that took all acts, with its end
+pub whole_record : (world : World) (i : ℕ) (s : Simulator) → length world.acts ≤ i → RunsTo world (front_of world) (schedule (take i world.acts)) s →
+    s.world_state.told.text.items ++ line_of_row pieces_of_line (row End (s.world_state.told.count ∷ []) []) ≡ record_of world (history world)
 whole_record world i s whole runs =
     let past = (moment_of world (schedule world.acts)).past in
     let all : (moment_of world (schedule (take i world.acts))).past ≡ past = ap (λ (xs : List Act). (moment_of world (schedule xs)).past) (take_all i world.acts whole) in
-    let text : s.scene.told.text.items ≡ front_of world ++ text_of_lines (reverse past) = runs.after.told.text ∙ ap (λ (ls : List Line). front_of world ++ text_of_lines (reverse ls)) all in
-    let count : s.scene.told.count ≡ length (reverse past) = runs.after.told.count ∙ ap length all ∙ sym (length-reverse past) in
+    let text : s.world_state.told.text.items ≡ front_of world ++ text_of_lines (reverse past) = runs.after.told.text ∙ ap (λ (ls : List Line). front_of world ++ text_of_lines (reverse ls)) all in
+    let count : s.world_state.told.count ≡ length (reverse past) = runs.after.told.count ∙ ap length all ∙ sym (length-reverse past) in
     rw (text, count) refl
 
 -- The events of a world's acts
@@ -461,11 +461,11 @@ below_of p n is = grind (arith, nat_tests)
 within_of : (k most : ℕ) → (nat_le 1 k && nat_le k most) ≡ true → (1 ≤ k) × (k ≤ most)
 within_of k most is = (grind (arith, nat_tests), grind (arith, nat_tests))
 
-turns_there : (w : World) (peer k : ℕ) → peer < w.geometry.peers → AllByRecursion (IsThere w) (replicate k (Turned peer))
+turns_there : (w : World) (peer k : ℕ) → peer < w.geometry.peers → AllByRecursion (IsPermittedEvent w) (replicate k (TurnTaken peer))
 turns_there w peer zero here = tt
 turns_there w peer (suc k) here = (here, turns_there w peer k here)
 
-act_there : (w : World) (a : Act) → IsAllowed w a → AllByRecursion (IsThere w) (events_of a)
+act_there : (w : World) (a : Act) → IsAllowed w a → AllByRecursion (IsPermittedEvent w) (events_of a)
 act_there w (act.Publish peer message) is = ((first_peer peer w.geometry.peers _ is.peer, within_of _ _ is.message), tt)
 act_there w (act.Sample peer from) is = ((first_peer peer w.geometry.peers _ is.peer, below_of _ _ is.range), tt)
 act_there w (act.Turn peer steps) is = turns_there w peer steps (below_of _ _ is.peer)
@@ -475,11 +475,11 @@ both_there : (P : Event → Type 0) (xs ys : List Event) → AllByRecursion P xs
 both_there P [] ys all more = more
 both_there P (x ∷ xs) ys all more = (all.0, both_there P xs ys all.1 more)
 
-acts_there : (w : World) (acts : List Act) → AllByRecursion (IsAllowed w) acts → AllByRecursion (IsThere w) (schedule acts)
+acts_there : (w : World) (acts : List Act) → AllByRecursion (IsAllowed w) acts → AllByRecursion (IsPermittedEvent w) (schedule acts)
 acts_there w [] all = tt
-acts_there w (a ∷ acts) all = rw flat_map-cons (both_there (IsThere w) (events_of a) (schedule acts) (act_there w a all.0) (acts_there w acts all.1))
+acts_there w (a ∷ acts) all = rw flat_map-cons (both_there (IsPermittedEvent w) (events_of a) (schedule acts) (act_there w a all.0) (acts_there w acts all.1))
 
-pub all_there : (w : World) → IsWorld w → AllByRecursion (IsThere w) (schedule w.acts)
+pub all_there : (w : World) → IsWorld w → AllByRecursion (IsPermittedEvent w) (schedule w.acts)
 all_there w is = acts_there w w.acts (recursion_from_All (IsAllowed w) w.acts is.allowed)
 
 pub few_events : (w : World) → IsWorld w → 0 + length (schedule w.acts) ≤ 4000000

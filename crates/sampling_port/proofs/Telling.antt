@@ -15,19 +15,19 @@ use Rattle.sampling_port.specs.declared.notes.PortNote.{PortNote}
 use Rattle.sampling_port.specs.declared.notes.PortNote.TheVariants as note
 use Rattle.sampling_port.specs.declared.place.Place.{Place}
 use Rattle.sampling_port.specs.declared.place.Place.TheVariants as place
-use Rattle.sampling_port.specs.declared.scene.Record.{Record}
-use Rattle.sampling_port.specs.declared.scene.Scene.{Scene}
+use Rattle.sampling_port.specs.declared.world_state.Record.{Record}
+use Rattle.sampling_port.specs.declared.world_state.WorldState.{WorldState}
 use Rattle.sampling_port.specs.Marks.{PortMark, Got, mark_of}
 use Rattle.sampling_port.specs.Views.{PortView, IsPort, from_at, note_at, port_after, closed, got}
 use Rattle.sampling_port.specs.Laws.{IsInReach}
-use Rattle.sampling_port.specs.Told.{Line, Wrote, Marked, access_lines}
+use Rattle.sampling_port.specs.EventRecords.{Line, Wrote, Marked, access_lines}
 use Rattle.sampling_port.specs.Memory.{value_after, last_write}
 use Rattle.sampling_port.specs.History.{may_write}
-use Rattle.sampling_port.specs.Stage.{Holds, RecordAfter, SceneAfter, CanPerform}
+use Rattle.sampling_port.specs.Simulator.{Holds, RecordAfter, WorldStateAfter, CanPerform}
 
 -- a line that stores nothing
-pub quiet_told : {T E : Type 0} (r : Result T E) (front : List ℕ) (past : List Line) (line : Line) (s : Scene) (told : Record) → ((at before : ℕ) → value_after line at before ≡ before) → SceneAfter front past s →
-    OnOk r (RecordAfter front (line ∷ past) told) → OnOk r (SceneAfter front (line ∷ past) (record { region = s.region; told = told }))
+pub quiet_told : {T E : Type 0} (r : Result T E) (front : List ℕ) (past : List Line) (line : Line) (s : WorldState) (told : Record) → ((at before : ℕ) → value_after line at before ≡ before) → WorldStateAfter front past s →
+    OnOk r (RecordAfter front (line ∷ past) told) → OnOk r (WorldStateAfter front (line ∷ past) (record { region = s.region; told = told }))
 quiet_told (Ok v) front past line s told quiet after kept = record { words = λ word inside. after.words word inside ∙ sym (quiet word (last_write past word)); told = kept }
 quiet_told (Err e) front past line s told quiet after kept = tt
 
@@ -127,13 +127,13 @@ can port (access.Ring target vector) is reach = reach
 can port access.Nothing is reach = reach
 
 -- a word was stored
-pub stored_told : {T E : Type 0} (r : Result T E) (front : List ℕ) (past : List Line) (peer word value : ℕ) (s : Scene) (region : Words) (told : Record) → region ≡ record s.region { words = slice_set s.region.words word value } →
-    SceneAfter front past s → OnOk r (RecordAfter front (Wrote peer word value ∷ past) told) → OnOk r (SceneAfter front (Wrote peer word value ∷ past) (record { region = region; told = told }))
+pub stored_told : {T E : Type 0} (r : Result T E) (front : List ℕ) (past : List Line) (peer word value : ℕ) (s : WorldState) (region : Words) (told : Record) → region ≡ record s.region { words = slice_set s.region.words word value } →
+    WorldStateAfter front past s → OnOk r (RecordAfter front (Wrote peer word value ∷ past) told) → OnOk r (WorldStateAfter front (Wrote peer word value ∷ past) (record { region = region; told = told }))
 stored_told (Ok v) front past peer word value s region told is after kept = record { words = rw is (written s.region.words past peer word value after.words); told = kept }
 stored_told (Err e) front past peer word value s region told is after kept = tt
 
-pub wrote_told : {T E S F : Type 0} (r : Result T E) (front : List ℕ) (past : List Line) (peer word value : ℕ) (s : Scene) (region : Words) (told : Record) (w : Result S F) →
+pub wrote_told : {T E S F : Type 0} (r : Result T E) (front : List ℕ) (past : List Line) (peer word value : ℕ) (s : WorldState) (region : Words) (told : Record) (w : Result S F) →
     OnOk w (region ≡ record s.region { words = slice_set s.region.words word value }) → is_err w ≡ false →
-    SceneAfter front past s → OnOk r (RecordAfter front (Wrote peer word value ∷ past) told) → OnOk r (SceneAfter front (Wrote peer word value ∷ past) (record { region = region; told = told }))
+    WorldStateAfter front past s → OnOk r (RecordAfter front (Wrote peer word value ∷ past) told) → OnOk r (WorldStateAfter front (Wrote peer word value ∷ past) (record { region = region; told = told }))
 wrote_told r front past peer word value s region told (Ok u) is fine after kept = stored_told r front past peer word value s region told is after kept
 wrote_told r front past peer word value s region told (Err e) is fine after kept = absurd cc

@@ -20,7 +20,7 @@ use Rattle.sampling_port.specs.Layout.{length_place, data_place}
 use Rattle.sampling_port.specs.Marks.{PortMark, Publish, Got, Nothing, Again, Refuse, marked}
 use Rattle.sampling_port.specs.Calls.{is_length}
 use Rattle.sampling_port.specs.Views.{PortView, IsPort, IsPlace, from_at, note_at, port_after, closed, got, reading_place, writing_place, theirs}
-use Rattle.sampling_port.specs.Told.{Line, Read, Wrote, Marked, mark_lines}
+use Rattle.sampling_port.specs.EventRecords.{Line, Read, Wrote, Marked, mark_lines}
 use Rattle.sampling_port.specs.Memory.{last_write}
 use Rattle.sampling_port.specs.HistoryLaws.{is_of, is_read_of, publishes, published_by}
 use Rattle.sampling_port.proofs.Buffers.{head_of, length_at, data_at, IsMessage, Opened, Writer, Same, head_in, length_in, data_in, same_beside, writer_same, wrote_sequence}
@@ -326,9 +326,9 @@ no_hand port (place.AtSecond from sequence) word reads = refl
 pub sample_stepped : (world : World) (q me : ℕ) (messages : List (List ℕ)) (past : List Line) (port : PortView) (done : List (List ℕ)) (p : Place) (word value : ℕ) → IsWorld world → q < world.geometry.peers → Before world q messages past done →
     Stands world q me port past done → port.place ≡ p → IsPlace port p → ReadsFrom port p word → value ≡ last_write past word →
     Stepped world q me messages past (mark_lines me (marked (from_at p) port.hand (note_at port p value)) ++ Read me word value ∷ past) port (port_after port p value) done
-sample_stepped world q me messages past port done p word value is there before stands at place_is reads same =
+sample_stepped world q me messages past port done p word value is there before refines at place_is reads same =
     let mark = marked (from_at p) port.hand (note_at port p value) in
-    let looked = sample_step world q me messages past port done p word value is there stands.shape stands.most stands.port_is place_is at before stands.reader reads same in
+    let looked = sample_step world q me messages past port done p word value is there refines.shape refines.most refines.port_is place_is at before refines.reader reads same in
     let after = reading_after world q (mark_lines me mark ++ Read me word value ∷ past) port p value word reads in
     record {
       then_done = done;
@@ -337,7 +337,7 @@ sample_stepped world q me messages past port done p word value is there before s
       reader = looked.reader;
       others = λ o other_port other r. other_reads world q o me word value mark past other_port done other r;
       mine = λ e. (
-        writer_same world q past _ port (port_after port p value) done is (same_read world q me word value mark past) (stands.writer e) after.published after.writing,
+        writer_same world q past _ port (port_after port p value) done is (same_read world q me word value mark past) (refines.writer e) after.published after.writing,
         ap (λ hs. reverse done ++ hs) (after.none ∙ sym (rw at (no_hand port p word reads))),
       );
       beside = λ other. (same_read world q me word value mark past, refl);
@@ -363,11 +363,11 @@ hand_writing port at (suc more) = refl
 pub write_stepped : (world : World) (q me : ℕ) (messages : List (List ℕ)) (past : List Line) (port : PortView) (done : List (List ℕ)) (word written k count : ℕ) → IsWorld world → Before world q messages past done → Stands world q me port past done →
     InSection world.geometry me word → hand_messages port ≡ port.hand ∷ [] → (me ≡ q → Writer world q (Wrote me word written ∷ past) (record port { place = writing_place k count }) done) →
     Stepped world q me messages past (Wrote me word written ∷ past) port (record port { place = writing_place k count }) done
-write_stepped world q me messages past port done word written k count is before stands inside hand writer = record {
+write_stepped world q me messages past port done word written k count is before refines inside hand writer = record {
   then_done = done;
   facts = (tt, facts_before world q messages _ past before.facts);
   counted = counted_write q me word written past ∙ before.counted;
-  reader = record { last = stands.reader.last; at = writing_at world q me _ port done k count };
+  reader = record { last = refines.reader.last; at = writing_at world q me _ port done k count };
   others = λ o other_port other r. other_writes world q o me word written past other_port done other r;
   mine = λ e. (writer e, ap (λ hs. reverse done ++ hs) (hand_writing port k count ∙ sym hand));
   beside = λ other. (same_beside world q me word written past other inside, refl);
@@ -385,13 +385,13 @@ published_other q me number past other = no_publish q me (Marked me (Publish num
 -- the number of the message, with which it is published
 pub sequence_stepped : (world : World) (q me : ℕ) (messages : List (List ℕ)) (past : List Line) (port : PortView) (done : List (List ℕ)) → IsWorld world → Before world q messages past done → Stands world q me port past done → port.place ≡ place.WritingSequence → (b : Bool) → (me == q) ≡ b →
     Stepped world q me messages past (Marked me (Publish (port.published + 1)) ∷ Wrote me (head_of world me) (port.published + 1) ∷ past) port (port_after port place.WritingSequence 0) done
-sequence_stepped world q me messages past port done is before stands at true e =
+sequence_stepped world q me messages past port done is before refines at true e =
     let same : me ≡ q = eqb-true _ _ e in
     let n = port.published + 1 in
     let wrote = Wrote me (head_of world me) n ∷ past in
-    let message : IsMessage world port.hand = stands.message same place.WritingSequence at port.hand refl in
+    let message : IsMessage world port.hand = refines.message same place.WritingSequence at port.hand refl in
     let new = port_after port place.WritingSequence 0 in
-    let writer : Writer world q (Marked q (Publish n) ∷ Wrote q (head_of world q) n ∷ past) new (port.hand ∷ done) = wrote_sequence world q (Publish n) past port new done is message at refl refl (stands.writer same) in
+    let writer : Writer world q (Marked q (Publish n) ∷ Wrote q (head_of world q) n ∷ past) new (port.hand ∷ done) = wrote_sequence world q (Publish n) past port new done is message at refl refl (refines.writer same) in
     let counted = published_mine q me n wrote same in
     let before_counted = before.counted in
     let written = counted_write q me (head_of world me) n past in
@@ -399,7 +399,7 @@ sequence_stepped world q me messages past port done is before stands at true e =
       then_done = port.hand ∷ done;
       facts = (tt, (tt, facts_before world q messages _ past before.facts));
       counted = omega arith;
-      reader = record { last = omega (arith, stands.reader.last); at = tt };
+      reader = record { last = omega (arith, refines.reader.last); at = tt };
       others = λ o other_port other r.
           reader_published world q o _ other_port done port.hand (reader_past world q o wrote other_port done (Marked me (Publish n)) (not_marked o me (Publish n) other) refl (other_writes world q o me (head_of world me) n past other_port done other r));
       mine = λ s. (subst (λ (k : ℕ). Writer world q (Marked k (Publish n) ∷ Wrote k (head_of world k) n ∷ past) new (port.hand ∷ done)) (sym same) writer, order);
@@ -408,7 +408,7 @@ sequence_stepped world q me messages past port done is before stands at true e =
   where
     order : reverse (port.hand ∷ done) ++ [] ≡ reverse done ++ hand_messages port
     order = append-nil (reverse (port.hand ∷ done)) ∙ reverse-append (port.hand ∷ []) done ∙ ap (λ hs. reverse done ++ hs) (sym (ap (hand_at port) at))
-sequence_stepped world q me messages past port done is before stands at false e =
+sequence_stepped world q me messages past port done is before refines at false e =
     let other : me ≢ q = eqb-false _ _ e in
     let n = port.published + 1 in
     let wrote = Wrote me (head_of world me) n ∷ past in
@@ -417,7 +417,7 @@ sequence_stepped world q me messages past port done is before stands at false e 
       then_done = done;
       facts = (tt, (tt, facts_before world q messages _ past before.facts));
       counted = counted ∙ counted_write q me (head_of world me) n past ∙ before.counted;
-      reader = record { last = stands.reader.last; at = tt };
+      reader = record { last = refines.reader.last; at = tt };
       others = λ o other_port away r. reader_past world q o wrote other_port done (Marked me (Publish n)) (not_marked o me (Publish n) away) refl (other_writes world q o me (head_of world me) n past other_port done away r);
       mine = λ same. absurd (other same);
       beside = λ away. ((λ w inside. same_beside world q me (head_of world me) n past away (head_in world me is) w inside), refl);

@@ -7,20 +7,20 @@ use Rattle.port_text.specs.Scenario.{World, IsWorld}
 use Rattle.sampling_port.specs.Trees.{PortStep, port_step}
 use Rattle.sampling_port.specs.Views.{PortView, fresh_port, is_busy, publishing, sampling, access_at, port_after}
 use Rattle.sampling_port.specs.Laws.{step_of_port}
-use Rattle.sampling_port.specs.Schedule.{PortCall, Publish, Sample, Event, Asked, Turned, Poked, event_peer, schedule}
-use Rattle.sampling_port.specs.Told.{Line, Entry, lines_of}
+use Rattle.sampling_port.specs.Schedule.{PortCall, Publish, Sample, Event, CallQueued, TurnTaken, Poked, event_peer, schedule}
+use Rattle.sampling_port.specs.EventRecords.{Line, EventRecord, lines_of}
 use Rattle.sampling_port.specs.Memory.{last_write}
 use Rattle.sampling_port.specs.Lawful.{IsLawful}
 
 -- a peer's port, and the calls that wait for it, the oldest first
-pub record Seat : Type 0 where
+pub record PeerState : Type 0 where
   pub port : PortView
   pub waiting : List PortCall
 
 -- the lines so far, of which the newest is the first, and where each peer is
-pub record Moment : Type 0 where
+pub record HistoryState : Type 0 where
   pub past : List Line
-  pub seats : ℕ → Seat
+  pub peer_states : ℕ → PeerState
 
 -- A turn
 
@@ -29,13 +29,13 @@ opening port (Publish message) = publishing port message
 opening port (Sample from) = sampling port from
 
 -- where no call is open, the oldest that waits is opened
-abbrev pub opened_by : Seat → Bool → List PortCall → Seat
-opened_by seat true waiting = seat
-opened_by seat false [] = seat
-opened_by seat false (call ∷ waiting) = record { port = opening seat.port call; waiting = waiting }
+abbrev pub opened_by : PeerState → Bool → List PortCall → PeerState
+opened_by peer_state true waiting = peer_state
+opened_by peer_state false [] = peer_state
+opened_by peer_state false (call ∷ waiting) = record { port = opening peer_state.port call; waiting = waiting }
 
-abbrev pub opened : Seat → Seat
-opened seat = opened_by seat (is_busy seat.port) seat.waiting
+abbrev pub opened : PeerState → PeerState
+opened peer_state = opened_by peer_state (is_busy peer_state.port) peer_state.waiting
 
 -- a read meets what was written last
 abbrev pub met : List Line → Access → ℕ
@@ -63,40 +63,40 @@ abbrev pub poked_step : Shape → (peer word value : ℕ) → Option PortStep
 poked_step g peer word value = if may_write g peer word then Some (port_step (access.Write word value) 0 None) else None
 
 -- the step that is made in an event, and where its peer is after it
-abbrev pub step_in : Shape → Seat → List Line → Event → Option PortStep
-step_in g seat past (Asked peer call) = None
-step_in g seat past (Turned peer) = step_of_turn (opened seat).port past
-step_in g seat past (Poked peer word value) = poked_step g peer word value
+abbrev pub step_in : Shape → PeerState → List Line → Event → Option PortStep
+step_in g peer_state past (CallQueued peer call) = None
+step_in g peer_state past (TurnTaken peer) = step_of_turn (opened peer_state).port past
+step_in g peer_state past (Poked peer word value) = poked_step g peer word value
 
-abbrev pub seat_in : Seat → List Line → Event → Seat
-seat_in seat past (Asked peer call) = record seat { waiting = seat.waiting ++ call ∷ [] }
-seat_in seat past (Turned peer) = record { port = port_of_turn (opened seat).port past; waiting = (opened seat).waiting }
-seat_in seat past (Poked peer word value) = seat
+abbrev pub seat_in : PeerState → List Line → Event → PeerState
+seat_in peer_state past (CallQueued peer call) = record peer_state { waiting = peer_state.waiting ++ call ∷ [] }
+seat_in peer_state past (TurnTaken peer) = record { port = port_of_turn (opened peer_state).port past; waiting = (opened peer_state).waiting }
+seat_in peer_state past (Poked peer word value) = peer_state
 
-abbrev pub entry_of : Shape → Moment → Event → Entry
-entry_of g moment event = record { event = event; went = step_in g (moment.seats (event_peer event)) moment.past event }
+abbrev pub entry_of : Shape → HistoryState → Event → EventRecord
+entry_of g moment event = record { event = event; went = step_in g (moment.peer_states (event_peer event)) moment.past event }
 
--- the seats where this peer's is another one
-abbrev pub seats_with : ℕ → Seat → (ℕ → Seat) → ℕ → Seat
-seats_with peer seat seats p = if peer == p then seat else seats p
+-- the peer states where this peer's is another one
+abbrev pub seats_with : ℕ → PeerState → (ℕ → PeerState) → ℕ → PeerState
+seats_with peer peer_state peer_states p = if peer == p then peer_state else peer_states p
 
-abbrev pub happens : Shape → Moment → Event → Moment
-happens g moment event = record {
+abbrev pub after_event : Shape → HistoryState → Event → HistoryState
+after_event g moment event = record {
   past = reverse (lines_of (entry_of g moment event)) ++ moment.past;
-  seats = seats_with (event_peer event) (seat_in (moment.seats (event_peer event)) moment.past event) moment.seats;
+  peer_states = seats_with (event_peer event) (seat_in (moment.peer_states (event_peer event)) moment.past event) moment.peer_states;
 }
 
-abbrev pub run : Shape → List Event → Moment → Moment
+abbrev pub run : Shape → List Event → HistoryState → HistoryState
 run g [] moment = moment
-run g (event ∷ events) moment = run g events (happens g moment event)
+run g (event ∷ events) moment = run g events (after_event g moment event)
 
 -- each peer has a port that did nothing yet
-abbrev pub beginning : World → Moment
-beginning world = record { past = []; seats = λ peer. record { port = fresh_port world.geometry peer world.most; waiting = [] } }
+abbrev pub initial_state : World → HistoryState
+initial_state world = record { past = []; peer_states = λ peer. record { port = fresh_port world.geometry peer world.most; waiting = [] } }
 
 -- the moment to which these events lead
-abbrev pub moment_of : World → List Event → Moment
-moment_of world events = run world.geometry events (beginning world)
+abbrev pub moment_of : World → List Event → HistoryState
+moment_of world events = run world.geometry events (initial_state world)
 
 -- the history of the schedule
 abbrev pub history : World → List Line

@@ -8,7 +8,7 @@ use Rattle.port_text.specs.declared.acts.Act.TheVariants as act
 use Rattle.port_text.specs.Scenario.{World, IsWorld, is_honest}
 use Rattle.sampling_port.specs.declared.notes.PortField.{PortField}
 use Rattle.sampling_port.specs.Marks.{Publish, Got, Nothing, Again, Refuse}
-use Rattle.sampling_port.specs.Told.{Line, Read, Wrote, Denied, Idle, Marked}
+use Rattle.sampling_port.specs.EventRecords.{Line, Read, Wrote, Denied, Idle, Marked}
 use Rattle.sampling_port.specs.Lawful.{IsLawful}
 
 -- the messages that a peer is told to publish, in their order: message number n is the n-th of them

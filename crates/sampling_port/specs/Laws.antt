@@ -4,7 +4,7 @@ use Rattle.section_map.specs.Geometry.{Shape, section_start}
 use Rattle.section_map.specs.MayWrite.{InSection}
 use Rattle.split_ring.specs.declared.steps.Access.{Access}
 use Rattle.split_ring.specs.declared.steps.Access.TheVariants as access
-use Rattle.call_grammar.specs.Ticks.{Who}
+use Rattle.call_grammar.specs.Ticks.{EndConfig}
 use Rattle.call_grammar.specs.Reach.{StaysInReach}
 use Rattle.call_grammar.specs.ReadsOnce.{reads_of, AreDistinct}
 use Rattle.sampling_port.specs.declared.notes.PortFault.{PortFault}
@@ -30,8 +30,8 @@ IsInReach port (access.Ring target vector) = ⊥
 IsInReach port access.Nothing = ⊥
 
 -- two peers, as the call grammar of the link sees them: the first makes the calls
-abbrev pub who_of : Shape → (me from : ℕ) → Who
-who_of shape me from = record {
+abbrev pub config_of : Shape → (me from : ℕ) → EndConfig
+config_of shape me from = record {
   me = me;
   other = from;
   own = section_start shape me;
@@ -44,9 +44,9 @@ who_of shape me from = record {
 -- a publish and a sample stay in reach as the calls of a link's end do
 pub record CallsStayInReach : Type 0 where
   pub publishes : (shape : Shape) (me from most number : ℕ) (message : List ℕ) → IsMessageSize most → port_words most ≤ shape.out → length message ≤ most →
-      StaysInReach (who_of shape me from) (unmarked (publish (section_start shape me) most number message))
+      StaysInReach (config_of shape me from) (unmarked (publish (section_start shape me) most number message))
   pub samples : (shape : Shape) (me from most last : ℕ) → IsMessageSize most → port_words most ≤ shape.out →
-      StaysInReach (who_of shape me from) (unmarked (sample from (section_start shape from) most last))
+      StaysInReach (config_of shape me from) (unmarked (sample from (section_start shape from) most last))
 
 -- a sample's reads: no word twice, or the first word once more behind those
 abbrev pub IsReadOnce : ℕ → List ℕ → Type 0

@@ -3,11 +3,11 @@ pub mod Marks
 pub mod Trees
 pub mod Calls
 pub mod Views
-pub mod Kept
+pub mod Representation
 pub mod Lists
 pub mod Laws
 pub mod Schedule
-pub mod Told
+pub mod EventRecords
 pub mod Memory
 pub mod Order
 pub mod Lawful
@@ -15,4 +15,4 @@ pub mod History
 pub mod LineRows
 pub mod Record
 pub mod HistoryLaws
-pub mod Stage
+pub mod Simulator

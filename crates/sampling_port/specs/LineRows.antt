@@ -1,14 +1,14 @@
 -- The lines of a record of ports as rows of a table of forms (profile).
 use Rattle.std.specs.Prelude.{List, [], ◌∷◌, codes}
-use Rattle.line_text.specs.Forms.{Piece, Word, Number, Hex}
-use Rattle.line_text.specs.Rows.{Row, row}
+use Rattle.line_format.specs.Forms.{Piece, Word, Number, Hex}
+use Rattle.line_format.specs.Rows.{Row, row}
 use Rattle.scenario_text.specs.Table.{any_number, u32_number}
 use Rattle.sampling_port.specs.declared.lines.Form.{Form}
 use Rattle.sampling_port.specs.declared.lines.Form.TheVariants as form
 use Rattle.sampling_port.specs.declared.notes.PortField.{PortField}
 use Rattle.sampling_port.specs.declared.notes.PortField.TheVariants.{Sequence, Length}
 use Rattle.sampling_port.specs.Marks as mark
-use Rattle.sampling_port.specs.Told.{Line, Read, Wrote, Denied, Idle, Marked}
+use Rattle.sampling_port.specs.EventRecords.{Line, Read, Wrote, Denied, Idle, Marked}
 
 -- what stands in the fields of a line of this form
 abbrev pub pieces_of_line : Form → List Piece

@@ -2,7 +2,7 @@
 use Rattle.std.specs.Prelude.{ℕ, ◌≡◌, ◌==◌, if◌then◌else◌, List, [], ◌∷◌}
 use Rattle.section_map.specs.Geometry.{Shape}
 use Rattle.section_map.specs.MayWrite.{MayWrite}
-use Rattle.sampling_port.specs.Told.{Line, Read, Wrote, Denied}
+use Rattle.sampling_port.specs.EventRecords.{Line, Read, Wrote, Denied}
 
 -- what a word holds after a line, where it held this before
 abbrev pub value_after : Line → ℕ → ℕ → ℕ
@@ -15,12 +15,12 @@ last_write [] at = 0
 last_write (line ∷ older) at = value_after line at (last_write older at)
 
 -- what the law asks of a line after the older ones
-abbrev pub Remembers : Shape → Line → List Line → Type 0
-Remembers g (Read peer word value) older = value ≡ last_write older word
-Remembers g (Wrote peer word value) older = MayWrite g peer word
-Remembers g (Denied peer word) older = ¬ MayWrite g peer word
-Remembers g _ older = Unit {0}
+abbrev pub IsConsistent : Shape → Line → List Line → Type 0
+IsConsistent g (Read peer word value) older = value ≡ last_write older word
+IsConsistent g (Wrote peer word value) older = MayWrite g peer word
+IsConsistent g (Denied peer word) older = ¬ MayWrite g peer word
+IsConsistent g _ older = Unit {0}
 
 abbrev pub MemoryLaw : Shape → List Line → Type 0
 MemoryLaw g [] = Unit {0}
-MemoryLaw g (line ∷ older) = Remembers g line older × MemoryLaw g older
+MemoryLaw g (line ∷ older) = IsConsistent g line older × MemoryLaw g older

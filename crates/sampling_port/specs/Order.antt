@@ -7,17 +7,17 @@ use Rattle.sampling_port.specs.Marks.{PortMark, Got}
 use Rattle.sampling_port.specs.Marks as mark
 use Rattle.sampling_port.specs.Trees.{PortTree, Ended, PortStep, port_step, Goes}
 use Rattle.sampling_port.specs.Calls as call
-use Rattle.sampling_port.specs.Schedule.{PortCall, Publish, Sample, Event, Asked, Turned, Poked}
-use Rattle.sampling_port.specs.Told.{Entry}
+use Rattle.sampling_port.specs.Schedule.{PortCall, Publish, Sample, Event, CallQueued, TurnTaken, Poked}
+use Rattle.sampling_port.specs.EventRecords.{EventRecord}
 
 -- What the entries so far say
 
 -- the calls that the peer was told to make, the oldest first
 abbrev pub asked_with : Event → List PortCall → List PortCall
-asked_with (Asked peer call) calls = calls ++ call ∷ []
+asked_with (CallQueued peer call) calls = calls ++ call ∷ []
 asked_with _ calls = calls
 
-abbrev pub asked_for : List Entry → List PortCall
+abbrev pub asked_for : List EventRecord → List PortCall
 asked_for [] = []
 asked_for (entry ∷ older) = asked_with entry.event (asked_for older)
 
@@ -30,7 +30,7 @@ abbrev pub published_with : Option PortMark → ℕ → ℕ
 published_with (Some (mark.Publish number)) count = count + 1
 published_with _ count = count
 
-abbrev pub published_in : List Entry → ℕ
+abbrev pub published_in : List EventRecord → ℕ
 published_in [] = 0
 published_in (entry ∷ older) = published_with (mark_of_step entry.went) (published_in older)
 
@@ -39,7 +39,7 @@ abbrev pub last_with : ℕ → Option PortMark → ℕ → ℕ
 last_with from (Some (Got peer number message)) before = if peer == from then number else before
 last_with from _ before = before
 
-abbrev pub last_got : ℕ → List Entry → ℕ
+abbrev pub last_got : ℕ → List EventRecord → ℕ
 last_got from [] = 0
 last_got from (entry ∷ older) = last_with from (mark_of_step entry.went) (last_got from older)
 
@@ -47,15 +47,15 @@ last_got from (entry ∷ older) = last_with from (mark_of_step entry.went) (last
 
 -- its own entries so far, what is left of its open call, and how many of the calls that it was told to make it began
 pub record Progress : Type 0 where
-  pub past : List Entry
+  pub past : List EventRecord
   pub left : PortTree
   pub begun : ℕ
 
-abbrev pub outset : Progress
-outset = record { past = []; left = Ended; begun = 0 }
+abbrev pub initial_progress : Progress
+initial_progress = record { past = []; left = Ended; begun = 0 }
 
 -- the call of peer p after these entries of its own: its messages are numbered from 1
-abbrev pub tree_of : World → ℕ → List Entry → PortCall → PortTree
+abbrev pub tree_of : World → ℕ → List EventRecord → PortCall → PortTree
 tree_of world p past (Publish message) = call.publish (section_start world.geometry p) world.most (published_in past + 1) message
 tree_of world p past (Sample from) = call.sample from (section_start world.geometry from) world.most (last_got from past)
 
@@ -73,29 +73,29 @@ begins world p peer = begins_by world p peer peer.left
 
 -- What an event of its own does to a peer
 
-abbrev pub Moves : Progress → PortTree → Option PortStep → Progress → Type 0
-Moves peer Ended went new = (went ≡ None) × (new ≡ peer)
-Moves peer call went new = (step : PortStep) × (left : PortTree) × (went ≡ Some step) × Goes call step left × (new ≡ record peer { left = left })
+abbrev pub CallStep : Progress → PortTree → Option PortStep → Progress → Type 0
+CallStep peer Ended went new = (went ≡ None) × (new ≡ peer)
+CallStep peer call went new = (step : PortStep) × (left : PortTree) × (went ≡ Some step) × Goes call step left × (new ≡ record peer { left = left })
 
 -- a turn is the next step of the open call, else the first step of the next call that the peer was told to make, else none
 abbrev pub Turns : World → ℕ → Progress → Option PortStep → Progress → Type 0
-Turns world p old went new = Moves (begins world p old) (begins world p old).left went new
+Turns world p old went new = CallStep (begins world p old) (begins world p old).left went new
 
 -- a write of its own accord is made, or denied, and then no step is made
 abbrev pub IsMade : (word value : ℕ) → Option PortStep → Type 0
 IsMade word value went = (went ≡ Some (port_step (Write word value) 0 None)) ⊎ (went ≡ None)
 
 -- the step that is made in an event of peer p, and where the peer is then
-abbrev pub Acts : World → ℕ → Progress → Event → Option PortStep → Progress → Type 0
-Acts world p old (Asked peer call) went new = (went ≡ None) × (new ≡ old)
-Acts world p old (Turned peer) went new = Turns world p old went new
-Acts world p old (Poked peer word value) went new = IsMade word value went × (new ≡ old)
+abbrev pub EventStep : World → ℕ → Progress → Event → Option PortStep → Progress → Type 0
+EventStep world p old (CallQueued peer call) went new = (went ≡ None) × (new ≡ old)
+EventStep world p old (TurnTaken peer) went new = Turns world p old went new
+EventStep world p old (Poked peer word value) went new = IsMade word value went × (new ≡ old)
 
 -- the event is one of its entries from now on
-abbrev pub noted : Progress → Entry → Progress
+abbrev pub noted : Progress → EventRecord → Progress
 noted peer entry = record peer { past = entry ∷ peer.past }
 
 -- from old, these entries of peer p are its calls in their order, and lead to new
-abbrev pub Serves : World → ℕ → Progress → List Entry → Progress → Type 0
-Serves world p old [] new = new ≡ old
-Serves world p old (entry ∷ entries) new = (mid : Progress) × Acts world p old entry.event entry.went mid × Serves world p (noted mid entry) entries new
+abbrev pub IsCallSequence : World → ℕ → Progress → List EventRecord → Progress → Type 0
+IsCallSequence world p old [] new = new ≡ old
+IsCallSequence world p old (entry ∷ entries) new = (mid : Progress) × EventStep world p old entry.event entry.went mid × IsCallSequence world p (noted mid entry) entries new

@@ -1,10 +1,10 @@
 -- The record of a schedule of ports: its text, and its one lawful history.
 use Rattle.std.specs.Prelude.{ℕ, ◌≡◌, List, [], ◌∷◌, ◌++◌, length, map}
-use Rattle.line_text.specs.Rows.{row, line_of_row, text_of}
+use Rattle.line_format.specs.Rows.{row, line_of_row, text_of}
 use Rattle.port_text.specs.Scenario.{World}
 use Rattle.port_text.specs.Spelling.{spelling, IsSpelling}
 use Rattle.sampling_port.specs.declared.lines.Form.TheVariants.{Head, End}
-use Rattle.sampling_port.specs.Told.{Line}
+use Rattle.sampling_port.specs.EventRecords.{Line}
 use Rattle.sampling_port.specs.LineRows.{pieces_of_line, row_of_line}
 use Rattle.sampling_port.specs.Lawful.{IsLawful}
 

@@ -11,21 +11,21 @@ pub data PortCall : Type 0 where
 
 -- what happens: a peer is told to make a call; it takes its turn; or it writes a word of its own accord
 pub data Event : Type 0 where
-  Asked : (peer : ℕ) (call : PortCall) → Event
-  Turned : (peer : ℕ) → Event
+  CallQueued : (peer : ℕ) (call : PortCall) → Event
+  TurnTaken : (peer : ℕ) → Event
   Poked : (peer word value : ℕ) → Event
 
 -- whose event it is
 abbrev pub event_peer : Event → ℕ
-event_peer (Asked peer call) = peer
-event_peer (Turned peer) = peer
+event_peer (CallQueued peer call) = peer
+event_peer (TurnTaken peer) = peer
 event_peer (Poked peer word value) = peer
 
 -- the events of an act; `turn P K` is K turns of P
 abbrev pub events_of : Act → List Event
-events_of (act.Publish peer message) = Asked peer (Publish message) ∷ []
-events_of (act.Sample peer from) = Asked peer (Sample from) ∷ []
-events_of (act.Turn peer steps) = replicate steps (Turned peer)
+events_of (act.Publish peer message) = CallQueued peer (Publish message) ∷ []
+events_of (act.Sample peer from) = CallQueued peer (Sample from) ∷ []
+events_of (act.Turn peer steps) = replicate steps (TurnTaken peer)
 events_of (act.Poke peer word value) = Poked peer word value ∷ []
 
 -- the events of a schedule

@@ -8,12 +8,12 @@
 mod laws;
 mod lines;
 mod notes;
+mod peer_state;
 mod place;
 mod port;
 mod run;
-mod scene;
-mod seat;
-mod stage;
+mod simulator;
+mod world_state;
 
 pub use laws::{
     calls_are_lists, calls_stay_in_reach, fields_are_read_once, history_is_lawful,

@@ -36,14 +36,14 @@ pub struct Port {
 }
 
 impl Model for Port {
-    ghost use Rattle.sampling_port.specs.Kept.{seen, IsKept};
+    ghost use Rattle.sampling_port.specs.Representation.{seen, IsWellFormed};
     ghost use Rattle.sampling_port.specs.Views.{PortView};
 
     ghost Value = { PortView };
 
     ghost view = { seen };
 
-    ghost invariant = { IsKept };
+    ghost invariant = { IsWellFormed };
 }
 
 /// Copies a message to the front of the buffer.

@@ -10,8 +10,8 @@ ghost use Rattle.sampling_port.specs.History.{history};
 
 use crate::laws::history_is_lawful;
 use crate::lines::{Form, put};
-use crate::scene::Record;
-use crate::stage::Stage;
+use crate::simulator::Simulator;
+use crate::world_state::Record;
 use ivs_base::NoMemory;
 use port_text::{PortsFault, Scenario, parse, put_scenario};
 use std::alloc::Global;
@@ -23,11 +23,11 @@ fn record(alloc: Global, scenario: &Scenario) -> Result<Vec<u8>, NoMemory>
     let mut text = Vec::new(alloc);
     put(&mut text, Form::Head, &[1], &[])?;
     put_scenario(&mut text, scenario)?;
-    let mut stage = Stage::new(alloc, scenario, text)?;
+    let mut simulator = Simulator::new(alloc, scenario, text)?;
     for act in scenario.acts.items() {
-        stage.act(alloc, act)?;
+        simulator.act(alloc, act)?;
     }
-    let Record { mut text, count } = stage.into_record();
+    let Record { mut text, count } = simulator.into_record();
     put(&mut text, Form::End, &[count], &[])?;
     Ok(text)
 }

@@ -2,11 +2,11 @@
 use Rattle.std.proofs.Common.{◌≡◌, ℕ, ◌+◌, ◌-◌, ◌^◌, ◌≤◌, Bool, true, false, List, [], get_or, Some, refl, sym, ap, ◌∙◌, arith}
 use Rattle.std.specs.Prelude.{option_and_then, slice_get, decimal}
 use Rattle.std.specs.Option.{option_map_or}
-use Rattle.line_text.specs.Numbers.{number_of}
-use Rattle.line_text.specs.Forms.{Fit, FitBytes}
-use Rattle.line_text.specs.Rows.{row, fields_of_row}
-use Rattle.line_text.proofs.FitLaws.{counted, list_1, list_2, list_3, list_4}
-use Rattle.line_text.proofs.NumberLaws.{number_of-decimal}
+use Rattle.line_format.specs.Numbers.{number_of}
+use Rattle.line_format.specs.Forms.{Fit, FitBytes}
+use Rattle.line_format.specs.Rows.{row, fields_of_row}
+use Rattle.line_format.proofs.FitLaws.{counted, list_1, list_2, list_3, list_4}
+use Rattle.line_format.proofs.NumberLaws.{number_of-decimal}
 use Rattle.scenario_text.specs.declared.acts.Act.{Act}
 use Rattle.scenario_text.specs.declared.acts.Act.TheVariants as acts
 use Rattle.scenario_text.specs.declared.forms.Form.{Form}

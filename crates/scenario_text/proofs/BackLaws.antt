@@ -2,10 +2,10 @@
 use Rattle.std.proofs.Common.{◌≡◌, ℕ, ◌*◌, ◌/◌, ◌%◌, true, List, [], ◌∷◌, ◌++◌, map, Ok, refl, sym, ap, subst, ◌∙◌, append_assoc, arith}
 use Rattle.std.proofs.lemmas.List.{append-nil}
 use Rattle.std.proofs.lemmas.List.Concat.{flat_map-append, flat_map-cons}
-use Rattle.line_text.specs.Rows.{Row, row, line_of_row, text_of}
-use Rattle.line_text.specs.Machine.{Leads, text_of_lines}
-use Rattle.line_text.proofs.MachineLaws.{read_is_lines}
-use Rattle.line_text.proofs.RowLaws.{bare, text-cons}
+use Rattle.line_format.specs.Rows.{Row, row, line_of_row, text_of}
+use Rattle.line_format.specs.Machine.{Leads, text_of_lines}
+use Rattle.line_format.proofs.MachineLaws.{read_is_lines}
+use Rattle.line_format.proofs.RowLaws.{bare, text-cons}
 use Rattle.section_map.specs.Geometry.{IsShape}
 use Rattle.section_map.specs.Faults.{shape_of}
 use Rattle.scenario_text.specs.declared.forms.Form.{Form}

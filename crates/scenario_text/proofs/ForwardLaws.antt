@@ -5,12 +5,12 @@ use Rattle.std.specs.Option.{option_map_or}
 use Rattle.std.proofs.lemmas.Bool.{ne_eqb}
 use Rattle.std.proofs.lemmas.List.{append-nil, length-append}
 use Rattle.std.proofs.lemmas.List.Sums.{sum_by_push, sum_by-append}
-use Rattle.line_text.specs.Numbers.{number_of}
-use Rattle.line_text.specs.Rows.{Row, row}
-use Rattle.line_text.specs.Machine.{Leads, HasNoNewline, text_of_lines}
-use Rattle.line_text.proofs.NumberLaws.{number_of-decimal}
-use Rattle.line_text.proofs.MachineLaws.{reads}
-use Rattle.line_text.proofs.RowLaws.{bare, row_plain, text_is_lines}
+use Rattle.line_format.specs.Numbers.{number_of}
+use Rattle.line_format.specs.Rows.{Row, row}
+use Rattle.line_format.specs.Machine.{Leads, HasNoNewline, text_of_lines}
+use Rattle.line_format.proofs.NumberLaws.{number_of-decimal}
+use Rattle.line_format.proofs.MachineLaws.{reads}
+use Rattle.line_format.proofs.RowLaws.{bare, row_plain, text_is_lines}
 use Rattle.section_map.specs.Geometry.{Shape, IsShape}
 use Rattle.pci_space.specs.declared.wiring.Wiring.{Wiring}
 use Rattle.pci_space.specs.declared.wiring.Wiring.TheVariants as wirings

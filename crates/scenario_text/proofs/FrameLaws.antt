@@ -1,8 +1,8 @@
 -- Digits that are too many or too few spell no frame.
 use Rattle.std.proofs.Common.{◌≡◌, ℕ, ◌/◌, Bool, true, false, cond, List, length, Option, Some, None, refl, sym, ap, ◌∙◌, arith}
 use Rattle.std.specs.Prelude.{option_and_then}
-use Rattle.line_text.specs.Forms.{hex_bytes}
-use Rattle.line_text.proofs.HexLaws.{hex_bytes-length}
+use Rattle.line_format.specs.Forms.{hex_bytes}
+use Rattle.line_format.proofs.HexLaws.{hex_bytes-length}
 
 abbrev pub sized : (ℕ → Bool) → Option (List ℕ) → Option (List ℕ)
 sized test o = option_and_then (λ bytes. cond (test (length bytes)) (Some bytes) None) o

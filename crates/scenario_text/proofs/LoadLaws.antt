@@ -7,8 +7,8 @@ use Rattle.std.proofs.lemmas.List.FromFn.{length-map-range_with_len, map-range_w
 use Rattle.std.proofs.lemmas.List.{append-nil}
 use Rattle.std.proofs.lemmas.List.Sums.{sum_by-cons, sum_by-append}
 use Rattle.std.proofs.lemmas.Bool.{le-leb}
-use Rattle.line_text.proofs.LineLaws.{are_true}
-use Rattle.line_text.proofs.StepLaws.{same_some}
+use Rattle.line_format.proofs.LineLaws.{are_true}
+use Rattle.line_format.proofs.StepLaws.{same_some}
 use Rattle.section_map.specs.Faults.{shape_of}
 use Rattle.section_map.specs.Geometry.{Shape, IsShape}
 use Rattle.split_ring.specs.Layout.{Sizes, queue_size}

@@ -5,12 +5,12 @@ use Rattle.std.specs.Option.{option_map_or}
 use Rattle.std.proofs.lemmas.Bool.{eqb-true, eqb-false, cases_lt}
 use Rattle.std.proofs.lemmas.List.{append-nil, map-append, length-append}
 use Rattle.std.proofs.lemmas.List.Sums.{sum_by_push}
-use Rattle.line_text.specs.Numbers.{number_of}
-use Rattle.line_text.specs.Forms.{Piece, Word, Number, Fit, spell}
-use Rattle.line_text.specs.Rows.{Row, row}
-use Rattle.line_text.proofs.FitLaws.{counted, list_0, list_1}
-use Rattle.line_text.proofs.NumberLaws.{number_of-decimal}
-use Rattle.line_text.proofs.StepLaws.{not_false, same_some}
+use Rattle.line_format.specs.Numbers.{number_of}
+use Rattle.line_format.specs.Forms.{Piece, Word, Number, Fit, spell}
+use Rattle.line_format.specs.Rows.{Row, row}
+use Rattle.line_format.proofs.FitLaws.{counted, list_0, list_1}
+use Rattle.line_format.proofs.NumberLaws.{number_of-decimal}
+use Rattle.line_format.proofs.StepLaws.{not_false, same_some}
 use Rattle.pci_space.specs.declared.wiring.Wiring.{Wiring}
 use Rattle.pci_space.specs.Wiring.{IsWiring}
 use Rattle.split_ring.specs.Layout.{IsVersion, IsQueue}

@@ -1,9 +1,9 @@
 -- What is answered of a text that is wrong.
 use Rattle.std.proofs.Common.{◌≡◌, ℕ, Result, Err, ap}
-use Rattle.line_text.specs.declared.reading.TextFault.{TextFault}
-use Rattle.line_text.specs.declared.reading.TextFault.TheVariants as texts
-use Rattle.line_text.specs.Machine.{Wrong}
-use Rattle.line_text.specs.Reading.{Reads}
+use Rattle.line_format.specs.declared.reading.TextFault.{TextFault}
+use Rattle.line_format.specs.declared.reading.TextFault.TheVariants as texts
+use Rattle.line_format.specs.Machine.{Wrong}
+use Rattle.line_format.specs.Reading.{Reads}
 use Rattle.scenario_text.specs.declared.faults.Cause.{Cause}
 use Rattle.scenario_text.specs.declared.faults.Cause.TheVariants.{BadLine}
 use Rattle.scenario_text.specs.declared.faults.ScenarioFault.{ScenarioFault}

@@ -3,8 +3,8 @@ use Rattle.std.proofs.Common.{mul-le-mul_right, ◌≡◌, ℕ, ◌*◌, ◌/◌
 use Rattle.std.specs.Prelude.{IfOk, IfErr, IsSome, is_some, unwrap_or}
 use Rattle.std.specs.Result.{is_ok}
 use Rattle.std.proofs.lemmas.Bool.{leb-true, le-leb, ltb-true, lt-ltb, eqb-true}
-use Rattle.line_text.proofs.SpellLaws.{both_true}
-use Rattle.line_text.proofs.LineLaws.{are_true}
+use Rattle.line_format.proofs.SpellLaws.{both_true}
+use Rattle.line_format.proofs.LineLaws.{are_true}
 use Rattle.section_map.specs.Geometry.{Shape, IsShape}
 use Rattle.section_map.specs.Faults.{IsPeerCount, IsPages, IsSomePages, byte_count, shape_of, IsFirstFault}
 use Rattle.section_map.specs.declared.sizes.Part.TheVariants.{Table, Common, Out}

@@ -1,8 +1,8 @@
 -- The forms of a scenario's lines are a table.
 use Rattle.std.proofs.Common.{◌≡◌, ℕ, ◌<◌, ◌≤◌, true, length, Some, refl, arith}
 use Rattle.std.specs.Prelude.{slice_get}
-use Rattle.line_text.specs.Forms.{is_form}
-use Rattle.line_text.proofs.TableLaws.{IsTable}
+use Rattle.line_format.specs.Forms.{is_form}
+use Rattle.line_format.proofs.TableLaws.{IsTable}
 use Rattle.scenario_text.specs.declared.forms.Form.{Form}
 use Rattle.scenario_text.specs.declared.forms.Form.TheVariants.{Version, Peers, Table, Common, Out, Mtu, Msix, Intx, Honest, Hostile, Begin, Tick, Offer, Poll, Stop, Auto, Storm, Turn, Reset, Poke, Peek, Set, Ring, CfgRead, CfgWrite, MmioRead, MmioWrite, MsixRead, MsixWrite, Lose, Again, End}
 use Rattle.scenario_text.specs.Table.{pieces_of, all_forms}

@@ -1,6 +1,6 @@
 -- Acts as rows of the table of forms.
 use Rattle.std.specs.Prelude.{[], ◌∷◌}
-use Rattle.line_text.specs.Rows.{Row, row}
+use Rattle.line_format.specs.Rows.{Row, row}
 use Rattle.scenario_text.specs.declared.acts.Act.{Act}
 use Rattle.scenario_text.specs.declared.acts.Act.TheVariants as acts
 use Rattle.scenario_text.specs.declared.forms.Form.{Form}

@@ -2,11 +2,11 @@
 use Rattle.std.specs.Prelude.{ℕ, ◌+◌, ◌==◌, ◌||◌, ◌&&◌, not, nat_lt, if◌then◌else◌, Bool, true, false, List, [], ◌∷◌, ◌++◌, length, slice_index, slice_get, max, Option, Some, None, Result, Ok, Err, option_and_then}
 use Rattle.std.specs.List.{list_all}
 use Rattle.std.specs.Option.{option_map_or}
-use Rattle.line_text.specs.Numbers.{number_of}
-use Rattle.line_text.specs.Forms.{fields_of, numbers_of, hex_of, hex_bytes, is_printable}
-use Rattle.line_text.specs.Rows.{find_form}
-use Rattle.line_text.specs.Steps.{◌>>=◌, some_or}
-use Rattle.line_text.specs.Machine.{Machine, Wrong, At, After, NoEnd, read}
+use Rattle.line_format.specs.Numbers.{number_of}
+use Rattle.line_format.specs.Forms.{fields_of, numbers_of, hex_of, hex_bytes, is_printable}
+use Rattle.line_format.specs.Rows.{find_form}
+use Rattle.line_format.specs.Steps.{◌>>=◌, some_or}
+use Rattle.line_format.specs.Machine.{Machine, Wrong, At, After, NoEnd, read}
 use Rattle.section_map.specs.Faults.{shape_of}
 use Rattle.pci_space.specs.declared.wiring.Wiring.{Wiring}
 use Rattle.pci_space.specs.declared.wiring.Wiring.TheVariants as wirings

@@ -2,7 +2,7 @@
 use Rattle.std.proofs.Common.{ℕ, List, [], ◌∷◌}
 use Rattle.std.proofs.Props.{props}
 use mathlib.Core.List.{is_set}
-use Rattle.line_text.specs.Forms.{Piece, Word, Number, Hex, Fit, FitBytes}
+use Rattle.line_format.specs.Forms.{Piece, Word, Number, Hex, Fit, FitBytes}
 use Rattle.pci_space.specs.declared.wiring.Wiring.{Wiring}
 use Rattle.pci_space.specs.declared.wiring.Wiring.TheVariants.{Msix, Intx}
 use Rattle.pci_space.specs.Wiring.{IsWiring}

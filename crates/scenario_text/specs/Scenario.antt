@@ -1,6 +1,6 @@
 -- What makes a scenario (profile). A head gives the world, and each act is allowed after the acts before it.
 use Rattle.std.specs.Prelude.{◌≡◌, ℕ, ◌+◌, ◌*◌, ◌%◌, ◌≤◌, ◌==◌, ◌&&◌, ◌||◌, not, nat_lt, nat_le, if◌then◌else◌, Bool, true, false, List, length, take, slice_index, slice_index_or, slice_get, Some}
-use Rattle.line_text.specs.Forms.{Fit, FitBytes}
+use Rattle.line_format.specs.Forms.{Fit, FitBytes}
 use Rattle.section_map.specs.Geometry.{Shape, IsShape, word_count}
 use Rattle.split_ring.specs.Layout.{Sizes, IsQueue}
 use Rattle.pci_space.specs.declared.wiring.Wiring.{Wiring}

@@ -1,7 +1,7 @@
 -- Which sizes a head may give, as tests of its numbers. Sizes are in bytes.
 use Rattle.std.specs.Prelude.{ℕ, ◌*◌, ◌%◌, ◌==◌, ◌&&◌, nat_lt, nat_le, is_some, Bool}
 use Rattle.section_map.specs.Faults.{byte_count}
-use Rattle.split_ring.specs.Layout.{Sizes, queue_size, slot_of, room_of}
+use Rattle.split_ring.specs.Layout.{Sizes, queue_size, slot_of, data_area_len}
 
 -- whole pages of 4,096 bytes
 abbrev pub is_pages : ℕ → Bool
@@ -18,4 +18,4 @@ is_geometry peers table common out =
 
 -- a section of so many bytes has a queue for this MTU
 unfoldable pub is_queue : Sizes → Bool
-is_queue q = nat_le 256 q.mtu && nat_le q.mtu 65535 && is_some (queue_size q.out) && nat_le (slot_of q) (room_of q)
+is_queue q = nat_le 256 q.mtu && nat_le q.mtu 65535 && is_some (queue_size q.out) && nat_le (slot_of q) (data_area_len q)

@@ -1,6 +1,6 @@
 -- Scenarios as texts: the rows of a scenario, one line each. So a scenario has one spelling.
 use Rattle.std.specs.Prelude.{◌≡◌, ℕ, ◌+◌, ◌*◌, Bool, true, false, List, [], ◌∷◌, ◌++◌, map}
-use Rattle.line_text.specs.Rows.{Row, row, text_of}
+use Rattle.line_format.specs.Rows.{Row, row, text_of}
 use Rattle.pci_space.specs.declared.wiring.Wiring.{Wiring}
 use Rattle.pci_space.specs.declared.wiring.Wiring.TheVariants as wirings
 use Rattle.scenario_text.specs.declared.forms.Form.{Form}

@@ -1,6 +1,6 @@
 -- The forms of a scenario's lines, by words and numbers (profile).
 use Rattle.std.specs.Prelude.{◌^◌, ◌-◌, List, [], ◌∷◌, codes}
-use Rattle.line_text.specs.Forms.{Piece, Word, Number, Hex}
+use Rattle.line_format.specs.Forms.{Piece, Word, Number, Hex}
 use Rattle.scenario_text.specs.declared.forms.Form.{Form}
 use Rattle.scenario_text.specs.declared.forms.Form.TheVariants.{Version, Peers, Table, Common, Out, Mtu, Msix, Intx, Honest, Hostile, Begin, Tick, Offer, Poll, Stop, Auto, Storm, Turn, Reset, Poke, Peek, Set, Ring, CfgRead, CfgWrite, MmioRead, MmioWrite, MsixRead, MsixWrite, Lose, Again, End}
 

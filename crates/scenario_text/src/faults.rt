@@ -3,7 +3,7 @@ ghost use Rattle.std.specs.Prelude.{◌≡◌};
 ghost use Rattle.scenario_text.specs.Judge.{fault_at};
 ghost use Rattle.scenario_text.specs.Answers.{fault_of_text};
 
-use line_text::TextFault;
+use line_format::TextFault;
 use thiserror::Error;
 
 /// What is wrong with a line: the first of these that fits, in this order.

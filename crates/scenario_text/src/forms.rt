@@ -1,10 +1,10 @@
 //! The forms of a scenario's lines, as a table.
 ghost use Rattle.std.specs.Prelude.{◌≡◌, ◌≤◌, length};
-ghost use Rattle.line_text.specs.Forms.{pieces, texts};
-ghost use Rattle.line_text.specs.Rows.{find_form};
+ghost use Rattle.line_format.specs.Forms.{pieces, texts};
+ghost use Rattle.line_format.specs.Rows.{find_form};
 ghost use Rattle.scenario_text.specs.Table.{pieces_of, all_forms};
 
-use line_text::{Slot, has_form};
+use line_format::{FieldKind, has_form};
 
 /// A form of a scenario's lines. Two words at one place are two forms.
 #[derive(Clone, Copy, Debug, PartialEq, Eq)]
@@ -110,76 +110,96 @@ const FORMS: [Form; 32] = [
     Form::End,
 ];
 
-const ANY: Slot = Slot::Number(0, u64::MAX);
+const ANY: FieldKind = FieldKind::Number(0, u64::MAX);
 
-const U32: Slot = Slot::Number(0, u32::MAX as u64);
+const U32: FieldKind = FieldKind::Number(0, u32::MAX as u64);
 
-const U16: Slot = Slot::Number(0, u16::MAX as u64);
+const U16: FieldKind = FieldKind::Number(0, u16::MAX as u64);
 
 /// A byte of the configuration space.
-const BYTE: Slot = Slot::Number(0, 255);
+const BYTE: FieldKind = FieldKind::Number(0, 255);
 
 /// A byte of a region of one page.
-const PAGE: Slot = Slot::Number(0, 4095);
+const PAGE: FieldKind = FieldKind::Number(0, 4095);
 
 impl Form {
     /// What stands in the fields of the form.
-    pub fn slots(self) -> &'static [Slot]
+    pub fn slots(self) -> &'static [FieldKind]
         ensures value { pieces result.now ≡ pieces_of self }
         ensures few { length result.now ≤ 6 }
     {
         match self {
-            Form::Version => &[Slot::Word(b"ivshm"), Slot::Number(1, 3)],
-            Form::Peers => &[Slot::Word(b"peers"), Slot::Number(2, 8)],
-            Form::Table => &[Slot::Word(b"table"), U32],
-            Form::Common => &[Slot::Word(b"common"), ANY],
-            Form::Out => &[Slot::Word(b"out"), ANY],
-            Form::Mtu => &[Slot::Word(b"mtu"), U32],
-            Form::Msix => &[Slot::Word(b"irq"), Slot::Word(b"msix"), Slot::Number(1, 64)],
-            Form::Intx => &[Slot::Word(b"irq"), Slot::Word(b"intx")],
-            Form::Honest => &[Slot::Word(b"peer"), ANY, Slot::Word(b"honest")],
-            Form::Hostile => &[Slot::Word(b"peer"), ANY, Slot::Word(b"hostile")],
-            Form::Begin => &[Slot::Word(b"begin")],
-            Form::Tick => &[Slot::Word(b"tick"), ANY],
-            Form::Offer => &[Slot::Word(b"offer"), ANY, Slot::Hex],
-            Form::Poll => &[Slot::Word(b"poll"), ANY],
-            Form::Stop => &[Slot::Word(b"stop"), ANY],
-            Form::Auto => &[Slot::Word(b"auto"), ANY, ANY],
-            Form::Storm => &[Slot::Word(b"storm"), ANY, ANY],
-            Form::Turn => &[Slot::Word(b"turn"), ANY, Slot::Number(0, 4_000_000)],
-            Form::Reset => &[Slot::Word(b"reset"), ANY],
-            Form::Poke => &[Slot::Word(b"poke"), ANY, U32, U32],
-            Form::Peek => &[Slot::Word(b"peek"), ANY, U32],
-            Form::Set => &[Slot::Word(b"set"), ANY, U32],
-            Form::Ring => &[Slot::Word(b"ring"), ANY, U16, U16],
-            Form::CfgRead => &[
-                Slot::Word(b"cfg"),
+            Form::Version => &[FieldKind::Word(b"ivshm"), FieldKind::Number(1, 3)],
+            Form::Peers => &[FieldKind::Word(b"peers"), FieldKind::Number(2, 8)],
+            Form::Table => &[FieldKind::Word(b"table"), U32],
+            Form::Common => &[FieldKind::Word(b"common"), ANY],
+            Form::Out => &[FieldKind::Word(b"out"), ANY],
+            Form::Mtu => &[FieldKind::Word(b"mtu"), U32],
+            Form::Msix => &[
+                FieldKind::Word(b"irq"),
+                FieldKind::Word(b"msix"),
+                FieldKind::Number(1, 64),
+            ],
+            Form::Intx => &[FieldKind::Word(b"irq"), FieldKind::Word(b"intx")],
+            Form::Honest => &[FieldKind::Word(b"peer"), ANY, FieldKind::Word(b"honest")],
+            Form::Hostile => &[FieldKind::Word(b"peer"), ANY, FieldKind::Word(b"hostile")],
+            Form::Begin => &[FieldKind::Word(b"begin")],
+            Form::Tick => &[FieldKind::Word(b"tick"), ANY],
+            Form::Offer => &[FieldKind::Word(b"offer"), ANY, FieldKind::Hex],
+            Form::Poll => &[FieldKind::Word(b"poll"), ANY],
+            Form::Stop => &[FieldKind::Word(b"stop"), ANY],
+            Form::Auto => &[FieldKind::Word(b"auto"), ANY, ANY],
+            Form::Storm => &[FieldKind::Word(b"storm"), ANY, ANY],
+            Form::Turn => &[
+                FieldKind::Word(b"turn"),
                 ANY,
-                Slot::Word(b"r"),
+                FieldKind::Number(0, 4_000_000),
+            ],
+            Form::Reset => &[FieldKind::Word(b"reset"), ANY],
+            Form::Poke => &[FieldKind::Word(b"poke"), ANY, U32, U32],
+            Form::Peek => &[FieldKind::Word(b"peek"), ANY, U32],
+            Form::Set => &[FieldKind::Word(b"set"), ANY, U32],
+            Form::Ring => &[FieldKind::Word(b"ring"), ANY, U16, U16],
+            Form::CfgRead => &[
+                FieldKind::Word(b"cfg"),
+                ANY,
+                FieldKind::Word(b"r"),
                 BYTE,
-                Slot::Number(1, 4),
+                FieldKind::Number(1, 4),
             ],
             Form::CfgWrite => &[
-                Slot::Word(b"cfg"),
+                FieldKind::Word(b"cfg"),
                 ANY,
-                Slot::Word(b"w"),
+                FieldKind::Word(b"w"),
                 BYTE,
-                Slot::Number(1, 4),
+                FieldKind::Number(1, 4),
                 U32,
             ],
-            Form::MmioRead => &[Slot::Word(b"mmio"), ANY, Slot::Word(b"r"), PAGE],
-            Form::MmioWrite => &[Slot::Word(b"mmio"), ANY, Slot::Word(b"w"), PAGE, U32],
-            Form::MsixRead => &[Slot::Word(b"msix"), ANY, Slot::Word(b"r"), PAGE],
-            Form::MsixWrite => &[Slot::Word(b"msix"), ANY, Slot::Word(b"w"), PAGE, U32],
-            Form::Lose => &[Slot::Word(b"lose"), ANY],
-            Form::Again => &[Slot::Word(b"again"), ANY, Slot::Number(0, 63)],
-            Form::End => &[Slot::Word(b"end")],
+            Form::MmioRead => &[FieldKind::Word(b"mmio"), ANY, FieldKind::Word(b"r"), PAGE],
+            Form::MmioWrite => &[
+                FieldKind::Word(b"mmio"),
+                ANY,
+                FieldKind::Word(b"w"),
+                PAGE,
+                U32,
+            ],
+            Form::MsixRead => &[FieldKind::Word(b"msix"), ANY, FieldKind::Word(b"r"), PAGE],
+            Form::MsixWrite => &[
+                FieldKind::Word(b"msix"),
+                ANY,
+                FieldKind::Word(b"w"),
+                PAGE,
+                U32,
+            ],
+            Form::Lose => &[FieldKind::Word(b"lose"), ANY],
+            Form::Again => &[FieldKind::Word(b"again"), ANY, FieldKind::Number(0, 63)],
+            Form::End => &[FieldKind::Word(b"end")],
         }
     }
 }
 
 /// The form of a line with these fields.
-#[tactic(auto, unfolding(line_text::specs::Rows::find_form))]
+#[tactic(auto, unfolding(line_format::specs::Rows::find_form))]
 pub fn form_of(fields: &[&[u8]]) -> Option<Form>
     ensures { result ≡ find_form pieces_of all_forms (texts fields.now) }
 {

@@ -1,6 +1,6 @@
 //! The tests of a line, in their order.
 ghost use Rattle.std.specs.Prelude.{◌≡◌, ◌<◌, ◌≤◌, ◌^◌, length, slice_index, slice_index_or, false, IfSome, IsTrue};
-ghost use Rattle.line_text.specs.Forms.{texts, AreInRange};
+ghost use Rattle.line_format.specs.Forms.{texts, AreInRange};
 ghost use Rattle.section_map.specs.Faults.{shape_of};
 ghost use Rattle.section_map.specs.Geometry.{word_count};
 ghost use Rattle.scenario_text.specs.Acts.{peer_of};
@@ -14,7 +14,7 @@ use crate::drafts::Draft;
 use crate::forms::Form;
 use crate::positions::Position;
 use ivs_base::Frame;
-use line_text::{number, number_at};
+use line_format::{number, number_at};
 
 /// The flag of this peer, where it has one.
 fn flag(flags: &[bool], p: u64) -> bool

@@ -1,5 +1,5 @@
 //! Scenarios as values and as text: a world's sizes, its kinds of peers, and the acts of a schedule. It stands on
-//! `line_text` for lines and forms, and on `section_map`, `split_ring` and `pci_space` for what the head of a
+//! `line_format` for lines and forms, and on `section_map`, `split_ring` and `pci_space` for what the head of a
 //! scenario gives. Its contracts promise that a value has one spelling, that parsing answers exactly where the
 //! bytes are one, and that each fault is the first in the order of the format (docs/FORMATS.md).
 //!

@@ -1,6 +1,6 @@
 //! Writing a scenario's text.
 ghost use Rattle.std.specs.Prelude.{◌≡◌, ◌++◌, OnOk, IfOk, map};
-ghost use Rattle.line_text.specs.Rows.{row, line_of_row, text_of};
+ghost use Rattle.line_format.specs.Rows.{row, line_of_row, text_of};
 ghost use Rattle.scenario_text.specs.Table.{pieces_of};
 ghost use Rattle.scenario_text.specs.ActRows.{row_of_act};
 ghost use Rattle.scenario_text.specs.Spelling.{world_of, row_of_wiring, row_of_peer, rows_of_peers, sizes_rows, spelling};
@@ -9,12 +9,12 @@ use crate::acts::Act;
 use crate::forms::Form;
 use crate::scenarios::Scenario;
 use ivs_base::NoMemory;
-use line_text::put_line;
+use line_format::put_line;
 use pci_space::Wiring;
 use std::alloc::{AllocError, Global};
 
 /// Puts the line of a form last.
-#[tactic(auto, unfolding(line_text::specs::Rows::line_of_row))]
+#[tactic(auto, unfolding(line_format::specs::Rows::line_of_row))]
 fn put(out: &mut Vec<u8>, form: Form, numbers: &[u64], frame: &[u8]) -> Result<(), AllocError>
     ensures { OnOk result (out.new.items ≡ out.old.items ++ line_of_row pieces_of (row form numbers.now frame.now)) }
 {

@@ -11,7 +11,7 @@ use crate::drafts::Draft;
 use crate::faults::ScenarioFault;
 use crate::positions::Position;
 use crate::scenarios::Scenario;
-use line_text::read_text;
+use line_format::read_text;
 use pci_space::Wiring;
 use std::alloc::Global;
 

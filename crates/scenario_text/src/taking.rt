@@ -1,11 +1,11 @@
 //! Taking a line into a draft.
 ghost use Rattle.std.specs.Prelude.{ℕ, ◌==◌, ◌||◌, ◌&&◌, slice_index_or, false, ◌≡◌, ◌<◌, ◌≤◌, ◌+◌, ◌^◌, ◌∷◌, [], IsTrue, slice_index, OnOk, IfOk, IfSome, option_map, true};
-ghost use Rattle.line_text.specs.Forms.{texts, AreInRange};
+ghost use Rattle.line_format.specs.Forms.{texts, AreInRange};
 ghost use Rattle.scenario_text.specs.declared.forms.Form.TheVariants.{Out, Mtu};
 ghost use Rattle.scenario_text.specs.Table.{pieces_of};
 ghost use Rattle.scenario_text.specs.Acts.{cost, peer_of, is_auto, is_storm, is_call};
 ghost use Rattle.scenario_text.specs.Judge.{SoFar, ordinal_of, position_of, numbers_in, frame_in, head_with, with_act, with_peer, judge, step, machine};
-ghost use Rattle.line_text.specs.Reading.{Gives};
+ghost use Rattle.line_format.specs.Reading.{Gives};
 ghost use Rattle.scenario_text.specs.Drafts.{so_far};
 
 use crate::acts::Act;
@@ -16,7 +16,7 @@ use crate::judging::{act_of, is_frame_size, is_in_range, is_its_peer, is_out_of_
 use crate::positions::Position;
 use arrayvec::ArrayVec;
 use ivs_base::{Frame, NoMemory};
-use line_text::{LineFault, TakeLines, hex_field, is_printable, number_at, numbers_in, read_hex};
+use line_format::{LineFault, TakeLines, hex_field, is_printable, number_at, numbers_in, read_hex};
 use pci_space::Wiring;
 use section_map::Geometry;
 use split_ring::Queue;
@@ -237,7 +237,7 @@ impl TakeLines for Draft {
         if !is_printable(line) {
             return Err(LineFault::Wrong(Cause::BadLine));
         }
-        let Some(fields) = line_text::fields(line) else {
+        let Some(fields) = line_format::fields(line) else {
             return Err(LineFault::Wrong(Cause::BadLine));
         };
         let Some(form) = form_of(&fields) else {

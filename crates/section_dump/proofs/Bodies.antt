@@ -3,7 +3,7 @@ use Rattle.std.proofs.Common.{◌≡◌, ℕ, suc, ◌+◌, ◌-◌, List, [], �
 use Rattle.std.proofs.lemmas.List.{append-nil}
 use Rattle.std.proofs.lemmas.Grind.{flat_map-append}
 use Rattle.section_map.specs.Geometry.{section_start}
-use Rattle.split_ring.specs.Layout.{Sizes, queue_size, size_of, ring_part}
+use Rattle.split_ring.specs.Layout.{Sizes, queue_size, size_of, rings_len}
 use Rattle.section_dump.specs.Image.{words_from, region_words, section_words, shape_in, queue_in, peers_in, out_in}
 use Rattle.section_dump.specs.Lines.{Line, QueueSizes, NoQueue, State, End, line_of, text_of, Puts}
 use Rattle.section_dump.specs.Listing.{IsSection, AreTwoSections, AreSections, head_lines, queue_line, state_lines, IsBody, IsListing}
@@ -65,13 +65,13 @@ body_without image out peers old text new eo ep none first states =
 -- the body where there is a queue
 pub body_with : (image : List ℕ) (q : Sizes) (out peers : ℕ) (old text more new : List ℕ) → out ≡ out_in image → peers ≡ peers_in image
     → q ≡ record { version = 1; out = out; mtu = 256 } → queue_size out ≡ Some (size_of q)
-    → text ≡ old ++ line_of (QueueSizes (size_of q) (ring_part (size_of q)) (q.out - ring_part (size_of q)))
+    → text ≡ old ++ line_of (QueueSizes (size_of q) (rings_len (size_of q)) (q.out - rings_len (size_of q)))
     → more ≡ text ++ text_of (state_lines (region_words image) peers) → Puts (AreTwoSections image) more new → Puts (IsBody image) old new
 body_with image q out peers old text more new eo ep eq some first states sections =
     let is : queue_size (out_in image) ≡ Some (size_of q) = ap queue_size (sym eo) ∙ some in
     let room : q.out ≡ out_in image = ap (λ z. z.out) eq ∙ eo in
     let all = state_lines (region_words image) (peers_in image) in
-    let line = QueueSizes (size_of q) (ring_part (size_of q)) (out_in image - ring_part (size_of q)) in (
+    let line = QueueSizes (size_of q) (rings_len (size_of q)) (out_in image - rings_len (size_of q)) in (
       line ∷ (all ++ sections.0),
       record {
         sections = sections.0;
@@ -79,7 +79,7 @@ body_with image q out peers old text more new eo ep eq some first states section
         lines_are = ap (λ o. queue_line (out_in image) o ∷ (all ++ sections.0)) (sym is);
       },
       lines_then (line ∷ []) (all ++ sections.0) old text new
-          (one_line line old text (first ∙ ap (λ n. old ++ line_of (QueueSizes (size_of q) (ring_part (size_of q)) (n - ring_part (size_of q)))) room))
+          (one_line line old text (first ∙ ap (λ n. old ++ line_of (QueueSizes (size_of q) (rings_len (size_of q)) (n - rings_len (size_of q)))) room))
           (lines_then all sections.0 text more new (states ∙ ap (λ n. text ++ text_of (state_lines (region_words image) n)) ep) sections.2),
     )
 

@@ -5,7 +5,7 @@ use Rattle.std.proofs.lemmas.Grind.{flat_map-append}
 use Rattle.ivs_base.specs.Numbers.{distance}
 use Rattle.split_ring.specs.Layout.{Sizes}
 use Rattle.split_ring.specs.Ranges.{IsAvailIndex, IsDescAddress}
-use Rattle.split_ring.specs.Spelling.{available_index, used_index, bytes_from}
+use Rattle.split_ring.specs.Spelling.{avail_index, used_index, bytes_from}
 use Rattle.split_ring.specs.declared.ranges.FieldName.{FieldName}
 use Rattle.split_ring.specs.declared.ranges.FieldName.TheVariants.{AvailIndex}
 use Rattle.section_dump.specs.Lines.{Line, Frame, Bad, Section, line_of, text_of, Puts}
@@ -68,14 +68,14 @@ after_one line lines old text new first more = more ∙ ap (λ bytes. bytes ++ t
 
 -- a section with its items
 pub listed_section : (q : Sizes) (words others : ℕ → ℕ) (peer available used count : ℕ) (old text new : List ℕ)
-    → available ≡ available_index q words → used ≡ used_index q others → IsAvailIndex q used available × (count ≡ distance used available)
+    → available ≡ avail_index q words → used ≡ used_index q others → IsAvailIndex q used available × (count ≡ distance used available)
     → text ≡ old ++ line_of (Section peer available used) → Puts (AreItemsOf q words used count) text new
     → Puts (IsSection q words others peer) old new
 listed_section q words others peer available used count old text new a u inside begins (items, are, is) = (
   Section peer available used ∷ items,
   record {
     items = items;
-    begins = ap (λ n. Section peer n used ∷ items) a ∙ ap (λ n. Section peer (available_index q words) n ∷ items) u;
+    begins = ap (λ n. Section peer n used ∷ items) a ∙ ap (λ n. Section peer (avail_index q words) n ∷ items) u;
     listed = λ _. rw (sym a, sym u, sym inside.1) are;
     refused = λ outside. absurd (outside (rw (sym a, sym u) inside.0));
   },
@@ -84,14 +84,14 @@ listed_section q words others peer available used count old text new a u inside 
 
 -- a section whose indices are too far apart
 pub refused_section : (q : Sizes) (words others : ℕ → ℕ) (peer available used : ℕ) (old text new : List ℕ)
-    → available ≡ available_index q words → used ≡ used_index q others → ¬ IsAvailIndex q used available
+    → available ≡ avail_index q words → used ≡ used_index q others → ¬ IsAvailIndex q used available
     → text ≡ old ++ line_of (Section peer available used) → new ≡ text ++ line_of (Bad available AvailIndex available)
     → Puts (IsSection q words others peer) old new
 refused_section q words others peer available used old text new a u outside begins is = (
   Section peer available used ∷ Bad available AvailIndex available ∷ [],
   record {
     items = Bad available AvailIndex available ∷ [];
-    begins = ap (λ n. Section peer n used ∷ Bad available AvailIndex available ∷ []) a ∙ ap (λ n. Section peer (available_index q words) n ∷ Bad available AvailIndex available ∷ []) u;
+    begins = ap (λ n. Section peer n used ∷ Bad available AvailIndex available ∷ []) a ∙ ap (λ n. Section peer (avail_index q words) n ∷ Bad available AvailIndex available ∷ []) u;
     listed = λ inside. absurd (outside (rw (a, u) inside));
     refused = λ _. ap (λ n. Bad n AvailIndex n ∷ []) a;
   },

@@ -5,7 +5,7 @@ use native.Mathlib.Decide.{dec_le}
 use Rattle.ivs_base.specs.Numbers.{distance}
 use Rattle.split_ring.specs.Layout.{Sizes, size_of, queue_size}
 use Rattle.split_ring.specs.Ranges.{IsAvailEntry, IsDescAddress, IsDescLength, IsDescFlags}
-use Rattle.split_ring.specs.Spelling.{available_index, used_index, address_at, length_at, flags_at, bytes_from, Spells}
+use Rattle.split_ring.specs.Spelling.{avail_index, used_index, address_at, length_at, flags_at, bytes_from, Spells}
 use Rattle.split_ring.specs.declared.ranges.FieldName.{FieldName}
 use Rattle.split_ring.specs.declared.ranges.FieldName.TheVariants.{AvailIndex, AvailEntry, DescAddress, DescLength, DescFlags, UsedIndex, UsedId}
 use Rattle.section_dump.specs.Image.{out_in, region_words, peers_in}
@@ -92,7 +92,7 @@ one_list q words position (x ∷ xs) (y ∷ ys) h g e =
 one_section : (q : Sizes) (words others : ℕ → ℕ) (peer : ℕ) (a b : List Line) → IsSection q words others peer a → IsSection q words others peer b → a ≡ b
 one_section q words others peer a b h g =
     let used = used_index q others in
-    let available = available_index q words in
+    let available = avail_index q words in
     let same : h.items ≡ g.items =
     dite (dec_le (distance used available) (size_of q))
     (λ inside. one_list q words used h.items g.items (h.listed inside).0 (g.listed inside).0 ((h.listed inside).1 ∙ sym (g.listed inside).1))

@@ -1,9 +1,9 @@
 -- What the listing of an image says (profile).
 use Rattle.std.specs.Prelude.{◌≡◌, ℕ, zero, suc, ◌+◌, ◌-◌, ◌%◌, List, [], ◌∷◌, ◌++◌, length, Option, Some, None}
 use Rattle.ivs_base.specs.Numbers.{distance}
-use Rattle.split_ring.specs.Layout.{Sizes, queue_size, ring_part}
+use Rattle.split_ring.specs.Layout.{Sizes, queue_size, rings_len}
 use Rattle.split_ring.specs.Ranges.{IsAvailIndex, IsAvailEntry, IsDescAddress, IsDescLength, IsDescFlags}
-use Rattle.split_ring.specs.Spelling.{available_index, used_index, entry_at, address_at, length_at, flags_at, Spells}
+use Rattle.split_ring.specs.Spelling.{avail_index, used_index, entry_at, address_at, length_at, flags_at, Spells}
 use Rattle.split_ring.specs.declared.ranges.FieldName.{FieldName}
 use Rattle.split_ring.specs.declared.ranges.FieldName.TheVariants.{AvailIndex, AvailEntry, DescAddress, DescLength, DescFlags, UsedIndex, UsedId}
 use Rattle.section_dump.specs.Lines.{Line, Peers, Table, Common, Out, QueueSizes, NoQueue, State, Section, Frame, Bad, End, text_of}
@@ -67,11 +67,11 @@ AreItemsOf q words position count lines = AreItems q words position lines × (le
 -- them, its line, or one line where they are too far apart
 pub record IsSection (q : Sizes) (words others : ℕ → ℕ) (peer : ℕ) (lines : List Line) : Type 0 where
   pub items : List Line
-  pub begins : lines ≡ Section peer (available_index q words) (used_index q others) ∷ items
-  pub listed : IsAvailIndex q (used_index q others) (available_index q words)
-      → AreItemsOf q words (used_index q others) (distance (used_index q others) (available_index q words)) items
-  pub refused : ¬ IsAvailIndex q (used_index q others) (available_index q words)
-      → items ≡ Bad (available_index q words) AvailIndex (available_index q words) ∷ []
+  pub begins : lines ≡ Section peer (avail_index q words) (used_index q others) ∷ items
+  pub listed : IsAvailIndex q (used_index q others) (avail_index q words)
+      → AreItemsOf q words (used_index q others) (distance (used_index q others) (avail_index q words)) items
+  pub refused : ¬ IsAvailIndex q (used_index q others) (avail_index q words)
+      → items ≡ Bad (avail_index q words) AvailIndex (avail_index q words) ∷ []
 
 -- the lines of the section of peer 0, and then of that of peer 1
 abbrev pub AreTwoSections : List ℕ → List Line → Type 0
@@ -92,7 +92,7 @@ head_lines image = Peers (peers_in image) ∷ Table (table_in image) ∷ Common 
 -- the size of the queue in a section of so many bytes, its ring part and its data area
 abbrev pub queue_line : ℕ → Option ℕ → Line
 queue_line out None = NoQueue
-queue_line out (Some n) = QueueSizes n (ring_part n) (out - ring_part n)
+queue_line out (Some n) = QueueSizes n (rings_len n) (out - rings_len n)
 
 -- the states of the peers below this one, ascending
 abbrev pub state_lines : (ℕ → ℕ) → ℕ → List Line

@@ -1,6 +1,6 @@
 //! The parts of a listing. Each function puts the lines of one part last.
 ghost use Rattle.std.specs.Prelude.{◌≡◌, ◌+◌, ◌-◌, ◌*◌, ◌^◌, ◌≤◌, [], ◌∷◌, ◌++◌, length, Some, None, IfSome, MatchOption, IfOk, OnOk, string_bytes};
-ghost use Rattle.split_ring.specs.Layout.{queue_size, size_of, ring_part};
+ghost use Rattle.split_ring.specs.Layout.{queue_size, size_of, rings_len};
 ghost use Rattle.section_dump.specs.Image.{IsImage, words_from, region_words, shape_in, queue_in, peers_in, table_in, common_in, out_in};
 ghost use Rattle.section_dump.specs.Lines.{Puts, line_of, text_of, Peers, Table, Common, Out, QueueSizes, End};
 ghost use Rattle.section_dump.specs.Listing.{IsItemLine, AreItemsOf, IsSection, AreTwoSections, state_lines, IsBody, IsListing};
@@ -94,7 +94,7 @@ fn queue_of(out: u64) -> Option<Queue>
 /// The line of the queue.
 fn put_queue(text: &mut String, queue: &Queue) -> Result<(), AllocError>
     ensures { OnOk result (string_bytes text.new ≡ string_bytes text.old
-        ++ line_of (QueueSizes (size_of queue.now) (ring_part (size_of queue.now)) (queue.now.out - ring_part (size_of queue.now)))) }
+        ++ line_of (QueueSizes (size_of queue.now) (rings_len (size_of queue.now)) (queue.now.out - rings_len (size_of queue.now)))) }
 {
     let ring = queue.payload();
     lines::put_queue(text, queue.size(), ring, queue.out() - ring)

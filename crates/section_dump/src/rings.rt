@@ -3,7 +3,7 @@ ghost use Rattle.std.specs.Prelude.{◌≡◌, ◌+◌, ◌*◌, ◌<◌, ◌≤
 ghost use Rattle.split_ring.specs.Layout.{size_of};
 ghost use Rattle.ivs_base.specs.Numbers.{distance};
 ghost use Rattle.split_ring.specs.Ranges.{IsAvailIndex};
-ghost use Rattle.split_ring.specs.Spelling.{available_index, used_index, entry_at, address_at, length_at, flags_at, bytes_from};
+ghost use Rattle.split_ring.specs.Spelling.{avail_index, used_index, entry_at, address_at, length_at, flags_at, bytes_from};
 ghost use Rattle.section_dump.specs.Image.{words_from};
 ghost use Rattle.section_dump.specs.Listing.{IsAccepted, IsFirstRefused};
 
@@ -53,7 +53,7 @@ impl<'a> Ring<'a> {
 
     /// How many frames the section's peer has published.
     pub fn available_index(&self) -> u16
-        ensures { result ≡ available_index self.now.queue (words_from self.now.image.now self.now.first) }
+        ensures { result ≡ avail_index self.now.queue (words_from self.now.image.now self.now.first) }
     {
         (self.word(self.queue.avail_word()) / 65_536) as u16
     }

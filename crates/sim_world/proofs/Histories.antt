@@ -1,4 +1,4 @@
--- The history of a stage whose lines were drained, and its text.
+-- The history of a simulator whose lines were drained, and its text.
 use Rattle.std.proofs.Common.{◌≡◌, ℕ, ◌+◌, ◌≤◌, ◌<◌, ◌^◌, true, zero-add, List, [], ◌++◌, length, take, sym, ap, subst, ◌∙◌}
 use Rattle.std.specs.Prelude.{reverse}
 use Rattle.std.proofs.lemmas.List.{append-nil, take_all}
@@ -6,27 +6,27 @@ use Rattle.scenario_text.specs.declared.acts.Act.{Act}
 use Rattle.scenario_text.specs.Scenario.{World, IsWorld}
 use Rattle.lawful_history.specs.declared.line.Line.{Line}
 use Rattle.lawful_history.specs.Schedule.{schedule}
-use Rattle.lawful_history.specs.Sessions.{told_in}
+use Rattle.lawful_history.specs.Sessions.{recorded_in}
 use Rattle.lawful_history.specs.Versions.{is_version}
 use Rattle.lawful_history.specs.History.{history}
 use Rattle.record_text.specs.Spelling.{IsSpelling}
 use Rattle.record_text.specs.Growing.{front_text, history_text, count_text, PartsAreSpelling}
-use Rattle.stage.specs.Stage.{RunsTo, moment_of, kept}
-use Rattle.stage.specs.declared.stage.Stage.{Stage}
-use Rattle.stage.proofs.Runs.{told_so_far}
+use Rattle.simulator.specs.Simulator.{RunsTo, moment_of, kept_lines}
+use Rattle.simulator.specs.declared.simulator.Simulator.{Simulator}
+use Rattle.simulator.proofs.Runs.{told_so_far}
 use Rattle.sim_world.specs.Playing.{output_of}
-use Rattle.sim_world.specs.Telling.{IsTold}
-use Rattle.sim_world.specs.declared.telling.Telling.{Telling}
+use Rattle.sim_world.specs.RecordWriting.{HasRecorded}
+use Rattle.sim_world.specs.declared.record_writer.RecordWriter.{RecordWriter}
 
--- the lines that were drained from a stage that took all acts, with those that it keeps, are what a record tells of the history
-pub heard_whole : (world : World) (version : ℕ) (gone : List Line) (i : ℕ) (s : Stage) → length world.acts ≤ i → RunsTo world (output_of version gone) (schedule (take i world.acts)) s → gone ++ kept s ≡ told_in world version (history world)
+-- the lines that were drained from a simulator that took all acts, with those that it keeps, are what a record tells of the history
+pub heard_whole : (world : World) (version : ℕ) (gone : List Line) (i : ℕ) (s : Simulator) → length world.acts ≤ i → RunsTo world (output_of version gone) (schedule (take i world.acts)) s → gone ++ kept_lines s ≡ recorded_in world version (history world)
 heard_whole world version gone i s whole runs =
     let all = take_all i world.acts whole in
     told_so_far world (output_of version gone) (schedule (take i world.acts)) [] s runs (sym (append-nil (schedule (take i world.acts)) ∙ ap schedule all))
-    ∙ ap (λ (xs : List Act). told_in world version (reverse (moment_of world (schedule xs)).past)) all
+    ∙ ap (λ (xs : List Act). recorded_in world version (reverse (moment_of world (schedule xs)).past)) all
 
 -- after the front, with the count of the lines, the text is the record's
-pub ended : PartsAreSpelling → (world : World) (version : ℕ) (began told : Telling) (out : List ℕ) (lines : List Line) → is_version version ≡ true → IsWorld world → began.text.items ≡ front_text version world → began.count ≡ 0 → IsTold began told lines → out ≡ told.text.items ++ count_text told.count → IsSpelling (record { version = version; world = world; lines = lines }) out
+pub ended : PartsAreSpelling → (world : World) (version : ℕ) (began told : RecordWriter) (out : List ℕ) (lines : List Line) → is_version version ≡ true → IsWorld world → began.text.items ≡ front_text version world → began.count ≡ 0 → HasRecorded began told lines → out ≡ told.text.items ++ count_text told.count → IsSpelling (record { version = version; world = world; lines = lines }) out
 ended parts world version began told out lines known is_world front none is last =
     let count : told.count ≡ length lines = is.count ∙ ap (λ n. n + length lines) none ∙ zero-add (length lines) in (
       record { version = known; world = is_world; fits = is.fits; frames = is.frames; count = subst (λ (n : ℕ). n < 2 ^ 64) count is.few },

@@ -5,22 +5,22 @@ use Rattle.scenario_text.specs.declared.acts.Act.{Act}
 use Rattle.scenario_text.specs.declared.acts.Act.TheVariants as act
 use Rattle.scenario_text.specs.Scenario.{World}
 use Rattle.lawful_history.specs.declared.line.Line.{Line}
-use Rattle.lawful_history.specs.Schedule.{Event, Turned, events_of}
-use Rattle.lawful_history.specs.Given.{IsThere}
-use Rattle.stage.specs.Stage.{IsAct}
-use Rattle.stage.specs.declared.stage.Stage.{Stage}
-use Rattle.stage.proofs.Runs.{below_peers}
-use Rattle.sim_world.specs.Playing.{IsHeard}
+use Rattle.lawful_history.specs.Schedule.{Event, TurnTaken, events_of}
+use Rattle.lawful_history.specs.Permitted.{IsPermittedEvent}
+use Rattle.simulator.specs.Simulator.{IsAct}
+use Rattle.simulator.specs.declared.simulator.Simulator.{Simulator}
+use Rattle.simulator.proofs.Runs.{below_peers}
+use Rattle.sim_world.specs.Playing.{HasReceived}
 
-module _ {L : Type 0} (before after : L → List Line → Type 0) (a : Act) (peer steps : ℕ) (old new : Stage) (is : a ≡ act.Turn peer steps) where
-  turns_heard : ((began : L) (world : World) (version : ℕ) (events : List Event) → IsThere world (Turned peer) → IsHeard world version (before began) events old → IsHeard world version (after began) (events ++ replicate steps (Turned peer)) new) →
-      (began : L) (world : World) (version : ℕ) (events : List Event) → IsAct world a → IsHeard world version (before began) events old → IsHeard world version (after began) (events ++ events_of a) new
-  turns_heard turns = λ began world version events allowed heard.
+module _ {L : Type 0} (before after : L → List Line → Type 0) (a : Act) (peer steps : ℕ) (old new : Simulator) (is : a ≡ act.Turn peer steps) where
+  turns_heard : ((began : L) (world : World) (version : ℕ) (events : List Event) → IsPermittedEvent world (TurnTaken peer) → HasReceived world version (before began) events old → HasReceived world version (after began) (events ++ replicate steps (TurnTaken peer)) new) →
+      (began : L) (world : World) (version : ℕ) (events : List Event) → IsAct world a → HasReceived world version (before began) events old → HasReceived world version (after began) (events ++ events_of a) new
+  turns_heard turns = λ began world version events allowed received.
       let here : IsAct world (act.Turn peer steps) = subst (λ (b : Act). IsAct world b) is allowed in
-      subst (λ (b : Act). IsHeard world version (after began) (events ++ events_of b) new) (sym is) (turns began world version events (below_peers peer world.geometry.peers here.1.peer) heard)
+      subst (λ (b : Act). HasReceived world version (after began) (events ++ events_of b) new) (sym is) (turns began world version events (below_peers peer world.geometry.peers here.1.peer) received)
 
   pub act_heard : {T E : Type 0} (result : Result T E) →
-      OnOk result ((began : L) (world : World) (version : ℕ) (events : List Event) → IsThere world (Turned peer) → IsHeard world version (before began) events old → IsHeard world version (after began) (events ++ replicate steps (Turned peer)) new) →
-      OnOk result ((began : L) (world : World) (version : ℕ) (events : List Event) → IsAct world a → IsHeard world version (before began) events old → IsHeard world version (after began) (events ++ events_of a) new)
+      OnOk result ((began : L) (world : World) (version : ℕ) (events : List Event) → IsPermittedEvent world (TurnTaken peer) → HasReceived world version (before began) events old → HasReceived world version (after began) (events ++ replicate steps (TurnTaken peer)) new) →
+      OnOk result ((began : L) (world : World) (version : ℕ) (events : List Event) → IsAct world a → HasReceived world version (before began) events old → HasReceived world version (after began) (events ++ events_of a) new)
   act_heard (Ok t) turns = turns_heard turns
   act_heard (Err e) turns = tt

@@ -1,2 +1,2 @@
 pub mod Playing
-pub mod Telling
+pub mod RecordWriting

@@ -2,20 +2,20 @@
 ghost use Rattle.std.specs.Prelude.{◌≡◌, ◌-◌, ◌^◌, ◌<◌, ◌++◌, ℕ, true, List, [], OnOk, replicate};
 ghost use Rattle.scenario_text.specs.Scenario.{World};
 ghost use Rattle.lawful_history.specs.declared.line.Line.{Line};
-ghost use Rattle.lawful_history.specs.Schedule.{Event, Turned, events_of};
+ghost use Rattle.lawful_history.specs.Schedule.{Event, TurnTaken, events_of};
 ghost use Rattle.lawful_history.specs.Versions.{is_version};
 ghost use Rattle.lawful_history.specs.Frames.{HaveFrames};
-ghost use Rattle.lawful_history.specs.Given.{IsThere};
+ghost use Rattle.lawful_history.specs.Permitted.{IsPermittedEvent};
 ghost use Rattle.lawful_history.specs.Sides.{world_of};
-ghost use Rattle.lawful_history.specs.Sessions.{told_in};
+ghost use Rattle.lawful_history.specs.Sessions.{recorded_in};
 ghost use Rattle.lawful_history.specs.History.{history};
-ghost use Rattle.stage.specs.Stage.{IsAct, moment_of};
-ghost use Rattle.sim_world.specs.Playing.{IsHeard};
+ghost use Rattle.simulator.specs.Simulator.{IsAct, moment_of};
+ghost use Rattle.sim_world.specs.Playing.{HasReceived};
 
 use ivs_base::NoMemory;
 use lawful_history::Line;
 use scenario_text::{Act, Scenario};
-use stage::Stage;
+use simulator::Simulator;
 use std::alloc::Global;
 use thiserror::Error;
 
@@ -42,60 +42,64 @@ impl From<NoMemory> for Stopped {
 /// What hears the lines of a history, part by part.
 pub trait Listener {
     // from the one to the other these lines were heard
-    ghost heard: { Self → Self → List Line → Type 0 };
+    ghost received: { Self → Self → List Line → Type 0 };
 
     /// Hears the next lines, or stops the play.
-    fn hear(&mut self, lines: &[Line]) -> Result<(), Stopped>
-        ensures { (began : Self) (before : List Line) → heard began self.old before → HaveFrames lines.now → OnOk result (heard began self.new (before ++ lines.now)) };
+    fn take_lines(&mut self, lines: &[Line]) -> Result<(), Stopped>
+        ensures { (began : Self) (before : List Line) → received began self.old before → HaveFrames lines.now → OnOk result (received began self.new (before ++ lines.now)) };
 }
 
-/// Has the lines heard that the stage told, and drains them.
-fn tell<L: Listener>(stage: &mut Stage, listener: &mut L) -> Result<(), Stopped>
-    ensures { (began : L) (world : World) (version : ℕ) (events : List Event) → IsHeard world version (L.heard began listener.old) events stage.old → OnOk result (IsHeard world version (L.heard began listener.new) events stage.new) }
+/// Has the lines heard that the simulator told, and drains them.
+fn pass_on<L: Listener>(simulator: &mut Simulator, listener: &mut L) -> Result<(), Stopped>
+    ensures { (began : L) (world : World) (version : ℕ) (events : List Event) → HasReceived world version (L.received began listener.old) events simulator.old → OnOk result (HasReceived world version (L.received began listener.new) events simulator.new) }
 {
-    listener.hear(stage.lines())?;
-    stage.drain();
+    listener.take_lines(simulator.lines())?;
+    simulator.drain();
     Ok(())
 }
 
 /// The same, once they are many.
 #[inline(always)]
-fn tell_many<L: Listener>(stage: &mut Stage, listener: &mut L) -> Result<(), Stopped>
-    ensures { (began : L) (world : World) (version : ℕ) (events : List Event) → IsHeard world version (L.heard began listener.old) events stage.old → OnOk result (IsHeard world version (L.heard began listener.new) events stage.new) }
+fn pass_on_many<L: Listener>(simulator: &mut Simulator, listener: &mut L) -> Result<(), Stopped>
+    ensures { (began : L) (world : World) (version : ℕ) (events : List Event) → HasReceived world version (L.received began listener.old) events simulator.old → OnOk result (HasReceived world version (L.received began listener.new) events simulator.new) }
 {
-    if stage.lines().len() >= PART {
-        tell(stage, listener)?;
+    if simulator.lines().len() >= PART {
+        pass_on(simulator, listener)?;
     }
     Ok(())
 }
 
 /// So many turns of a peer.
 fn play_turns<L: Listener>(
-    stage: &mut Stage,
+    simulator: &mut Simulator,
     listener: &mut L,
     peer: u32,
     steps: u32,
 ) -> Result<(), Stopped>
-    requires { (began : L) × (world : World) × (version : ℕ) × (events : List Event) × IsHeard world version (L.heard began listener.old) events stage.old × (peer < world.geometry.peers) }
-    ensures { OnOk result ((began : L) (world : World) (version : ℕ) (events : List Event) → IsThere world (Turned peer) → IsHeard world version (L.heard began listener.old) events stage.old → IsHeard world version (L.heard began listener.new) (events ++ replicate steps (Turned peer)) stage.new) }
+    requires { (began : L) × (world : World) × (version : ℕ) × (events : List Event) × HasReceived world version (L.received began listener.old) events simulator.old × (peer < world.geometry.peers) }
+    ensures { OnOk result ((began : L) (world : World) (version : ℕ) (events : List Event) → IsPermittedEvent world (TurnTaken peer) → HasReceived world version (L.received began listener.old) events simulator.old → HasReceived world version (L.received began listener.new) (events ++ replicate steps (TurnTaken peer)) simulator.new) }
 {
     for _k in 0..steps {
-        stage.turn(peer)?;
-        tell_many(stage, listener)?;
+        simulator.turn(peer)?;
+        pass_on_many(simulator, listener)?;
     }
     Ok(())
 }
 
 /// What one act asks for.
-fn play_act<L: Listener>(stage: &mut Stage, listener: &mut L, act: &Act) -> Result<(), Stopped>
-    requires { (began : L) × (world : World) × (version : ℕ) × (events : List Event) × IsHeard world version (L.heard began listener.old) events stage.old × IsAct world act.now × ((p : ℕ) → (moment_of world events).losses p < 2 ^ 64 - 1) }
-    ensures { OnOk result ((began : L) (world : World) (version : ℕ) (events : List Event) → IsAct world act.now → IsHeard world version (L.heard began listener.old) events stage.old → IsHeard world version (L.heard began listener.new) (events ++ events_of act.now) stage.new) }
+fn play_act<L: Listener>(
+    simulator: &mut Simulator,
+    listener: &mut L,
+    act: &Act,
+) -> Result<(), Stopped>
+    requires { (began : L) × (world : World) × (version : ℕ) × (events : List Event) × HasReceived world version (L.received began listener.old) events simulator.old × IsAct world act.now × ((p : ℕ) → (moment_of world events).losses p < 2 ^ 64 - 1) }
+    ensures { OnOk result ((began : L) (world : World) (version : ℕ) (events : List Event) → IsAct world act.now → HasReceived world version (L.received began listener.old) events simulator.old → HasReceived world version (L.received began listener.new) (events ++ events_of act.now) simulator.new) }
 {
     match act {
-        Act::Turn { peer, steps } => play_turns(stage, listener, *peer, *steps),
+        Act::Turn { peer, steps } => play_turns(simulator, listener, *peer, *steps),
         _ => {
-            stage.act(act)?;
-            tell_many(stage, listener)?;
+            simulator.act(act)?;
+            pass_on_many(simulator, listener)?;
             Ok(())
         }
     }
@@ -110,14 +114,14 @@ pub fn play<L: Listener>(
     listener: &mut L,
 ) -> Result<(), Stopped>
     requires version { is_version version ≡ true }
-    requires silent { L.heard listener.old listener.old [] }
-    ensures { OnOk result (L.heard listener.old listener.new (told_in (world_of scenario.now) version (history (world_of scenario.now)))) }
+    requires silent { L.received listener.old listener.old [] }
+    ensures { OnOk result (L.received listener.old listener.new (recorded_in (world_of scenario.now) version (history (world_of scenario.now)))) }
 {
-    let mut stage = Stage::new(alloc, scenario, version)?;
+    let mut simulator = Simulator::new(alloc, scenario, version)?;
     for act in scenario.acts.items() {
-        play_act(&mut stage, listener, act)?;
+        play_act(&mut simulator, listener, act)?;
     }
-    let last = stage.lines();
-    listener.hear(last)?;
+    let last = simulator.lines();
+    listener.take_lines(last)?;
     Ok(())
 }

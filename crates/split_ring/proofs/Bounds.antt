@@ -1,7 +1,7 @@
 -- How large the numbers of a queue are.
 use Rattle.std.proofs.Common.{ℕ, ◌*◌, ◌/◌, ◌<◌, ◌≤◌, min, Bool, true, false, cond, arith}
 use Rattle.std.proofs.Math.Nat.{mul-le-mul_left, mul-div-le, le-div_iff_mul-le}
-use Rattle.split_ring.specs.Layout.{Sizes, size_of, room_of, slot_of, slots_of, limit_of, is_byte_ring, IsQueue, HasBounds}
+use Rattle.split_ring.specs.Layout.{Sizes, size_of, data_area_len, slot_of, slots_of, limit_of, is_byte_ring, IsQueue, HasBounds}
 use Rattle.split_ring.proofs.QueueSizes.{found}
 
 slots_fit : (size room slot : ℕ) → slot * min size (room / slot) ≤ room
@@ -25,15 +25,15 @@ bounds q h =
     let f = found q.out (size_of q) h.fits in
     let fits = f.fits in
     let least = f.least in
-    let room = slots_fit (size_of q) (room_of q) (slot_of q) in
-    let one = some_slot (room_of q) (slot_of q) (omega arith) h.one_slot in
+    let room = slots_fit (size_of q) (data_area_len q) (slot_of q) in
+    let one = some_slot (data_area_len q) (slot_of q) (omega arith) h.one_slot in
     record {
       size_least = f.least;
       size_most = f.most;
       size_whole = f.whole;
       turns = f.turns;
-      limit_least = of_limit (λ n. 0 < n) (is_byte_ring q) (size_of q) (min (size_of q) (room_of q / slot_of q)) (omega arith) (omega arith);
-      limit_most = of_limit (λ n. n ≤ size_of q) (is_byte_ring q) (size_of q) (min (size_of q) (room_of q / slot_of q)) (omega arith) (omega arith);
+      limit_least = of_limit (λ n. 0 < n) (is_byte_ring q) (size_of q) (min (size_of q) (data_area_len q / slot_of q)) (omega arith) (omega arith);
+      limit_most = of_limit (λ n. n ≤ size_of q) (is_byte_ring q) (size_of q) (min (size_of q) (data_area_len q / slot_of q)) (omega arith) (omega arith);
       rings = f.fits;
       slots = omega arith;
     }

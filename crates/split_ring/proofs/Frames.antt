@@ -7,8 +7,8 @@ use Rattle.std.proofs.lemmas.Bool.Decides.{nat_tests}
 use Rattle.std.proofs.lemmas.Nat.{mod_below, div-add-mod'}
 use Rattle.std.proofs.Math.Nat.{mul-le-mul_left}
 use Rattle.ivs_base.specs.Numbers.{up64}
-use Rattle.split_ring.specs.Layout.{Sizes, IsQueue, Slot, is_byte_ring, room_of, slot_of, size_of, slots_of, limit_of, payload_of, place_of}
-use Rattle.split_ring.specs.Frames.{takes_of, start_after, ring_start, start_of, AreApart, are_apart, is_apart_from, has_room, IsPlaced, FramesHavePlaces}
+use Rattle.split_ring.specs.Layout.{Sizes, IsQueue, FrameSlot, is_byte_ring, data_area_len, slot_of, size_of, slots_of, limit_of, data_area_start, offset_of}
+use Rattle.split_ring.specs.Frames.{footprint_of, start_after, ring_start, start_of, AreApart, are_apart, is_apart_from, has_room, IsPlaced, FramesAreLaidOut}
 use Rattle.split_ring.proofs.Bounds.{bounds}
 use Rattle.split_ring.proofs.Places.{places_lem}
 
@@ -62,22 +62,22 @@ slot_below q is none k =
     subst (λ n. k % limit_of q < n) limit_is (mod_below k (limit_of q) least)
 
 placed : (q : Sizes) (length_of : ℕ → ℕ) (k : ℕ) → IsQueue q → IsPlaced q length_of k
-unfolding start_of takes_of
+unfolding start_of footprint_of
 placed q length_of k is =
     let laid = places_lem q is in
-    let ring = payload_of q + ring_start (room_of q) length_of k in
-    let slot = place_of q (Slot (k % limit_of q)) in
-    let even = ring_even (room_of q) length_of k in
-    let slots_even = laid.aligned (Slot (k % limit_of q)) in
+    let ring = data_area_start q + ring_start (data_area_len q) length_of k in
+    let slot = offset_of q (FrameSlot (k % limit_of q)) in
+    let even = ring_even (data_area_len q) length_of k in
+    let slots_even = laid.aligned (FrameSlot (k % limit_of q)) in
     let one = is.one_slot in
     let room = (bounds q is).rings in
     record {
       even = by_ring (λ b. b % 4 ≡ 0) (is_byte_ring q) ring slot (λ yes. omega arith) (λ none. slots_even);
-      after = by_ring (λ b. payload_of q ≤ b) (is_byte_ring q) ring slot (λ yes. omega arith) (λ none. omega arith);
+      after = by_ring (λ b. data_area_start q ≤ b) (is_byte_ring q) ring slot (λ yes. omega arith) (λ none. omega arith);
       holds = λ short. by_ring (λ n. 4 * ((length_of k + 3) / 4) ≤ n) (is_byte_ring q) (up64 (length_of k)) (slot_of q) (λ yes. omega arith) (λ none. omega arith);
       inside = λ short. pick (is_byte_ring q) ring slot
-          (λ yes. let inside = ring_inside (room_of q) length_of k (omega arith) in omega arith)
-          (λ none. laid.inside (Slot (k % limit_of q)) (slot_below q is none k));
+          (λ yes. let inside = ring_inside (data_area_len q) length_of k (omega arith) in omega arith)
+          (λ none. laid.inside (FrameSlot (k % limit_of q)) (slot_below q is none k));
     }
   where
     pick : (b : Bool) (ring slot : ℕ) → (b ≡ true → ring + up64 (length_of k) ≤ q.out) → (b ≡ false → slot + slot_of q ≤ q.out) →
@@ -88,21 +88,21 @@ placed q length_of k is =
 told : (q : Sizes) (length_of others : ℕ → ℕ) (k : ℕ) → ((j : ℕ) → j ≤ k → length_of j ≡ others j) → start_of q length_of k ≡ start_of q others k
 unfolding start_of
 told q length_of others k same =
-    ap (λ b. cond (is_byte_ring q) (payload_of q + b) (place_of q (Slot (k % limit_of q)))) (ring_told (room_of q) length_of others k same)
+    ap (λ b. cond (is_byte_ring q) (data_area_start q + b) (offset_of q (FrameSlot (k % limit_of q)))) (ring_told (data_area_len q) length_of others k same)
 
 apart_told : (q : Sizes) (length_of others : ℕ → ℕ) (number k count : ℕ) → k + count ≤ number → ((j : ℕ) → j ≤ number → length_of j ≡ others j) →
     is_apart_from q length_of number k count ≡ is_apart_from q others number k count
 apart_told q length_of others number k zero within same = refl
 apart_told q length_of others number k (suc count) within same =
-    ap (λ b. are_apart b (takes_of q (length_of k)) (start_of q length_of number) (takes_of q (length_of number)) && is_apart_from q length_of number (k + 1) count)
+    ap (λ b. are_apart b (footprint_of q (length_of k)) (start_of q length_of number) (footprint_of q (length_of number)) && is_apart_from q length_of number (k + 1) count)
     (told q length_of others k (λ j le. same j (omega arith))) ∙
-    (ap (λ l. are_apart (start_of q others k) (takes_of q l) (start_of q length_of number) (takes_of q (length_of number)) && is_apart_from q length_of number (k + 1) count)
+    (ap (λ l. are_apart (start_of q others k) (footprint_of q l) (start_of q length_of number) (footprint_of q (length_of number)) && is_apart_from q length_of number (k + 1) count)
     (same k (omega arith)) ∙
-    (ap (λ b. are_apart (start_of q others k) (takes_of q (others k)) b (takes_of q (length_of number)) && is_apart_from q length_of number (k + 1) count)
+    (ap (λ b. are_apart (start_of q others k) (footprint_of q (others k)) b (footprint_of q (length_of number)) && is_apart_from q length_of number (k + 1) count)
     (told q length_of others number same) ∙
-    (ap (λ l. are_apart (start_of q others k) (takes_of q (others k)) (start_of q others number) (takes_of q l) && is_apart_from q length_of number (k + 1) count)
+    (ap (λ l. are_apart (start_of q others k) (footprint_of q (others k)) (start_of q others number) (footprint_of q l) && is_apart_from q length_of number (k + 1) count)
     (same number (omega arith)) ∙
-    ap (λ b. are_apart (start_of q others k) (takes_of q (others k)) (start_of q others number) (takes_of q (others number)) && b)
+    ap (λ b. are_apart (start_of q others k) (footprint_of q (others k)) (start_of q others number) (footprint_of q (others number)) && b)
     (apart_told q length_of others number (k + 1) count (omega arith) same))))
 
 room_told : (q : Sizes) (length_of others : ℕ → ℕ) (freed number : ℕ) → ((j : ℕ) → j ≤ number → length_of j ≡ others j) →
@@ -141,15 +141,15 @@ are_apart_of a m b n (inr h) = grind (arith, nat_tests)
 
 -- the test goes over each of them
 pub each_apart : (q : Sizes) (length_of : ℕ → ℕ) (number from count : ℕ) → is_apart_from q length_of number from count ≡ true → (k : ℕ) → from ≤ k → k < from + count →
-    AreApart (start_of q length_of k) (takes_of q (length_of k)) (start_of q length_of number) (takes_of q (length_of number))
+    AreApart (start_of q length_of k) (footprint_of q (length_of k)) (start_of q length_of number) (footprint_of q (length_of number))
 each_apart q length_of number from zero h k least most = absurd (omega arith)
 each_apart q length_of number from (suc count) h k least most = dite (ℕ_discrete from k)
-    (λ e. subst (λ j. AreApart (start_of q length_of j) (takes_of q (length_of j)) (start_of q length_of number) (takes_of q (length_of number))) e
+    (λ e. subst (λ j. AreApart (start_of q length_of j) (footprint_of q (length_of j)) (start_of q length_of number) (footprint_of q (length_of number))) e
     (apart_of _ _ _ _ (and_first _ _ h)))
     (λ ne. each_apart q length_of number (from + 1) count (and_second _ _ h) k (omega arith) (omega arith))
 
 pub apart_each : (q : Sizes) (length_of : ℕ → ℕ) (number from count : ℕ) →
-    ((k : ℕ) → from ≤ k → k < from + count → AreApart (start_of q length_of k) (takes_of q (length_of k)) (start_of q length_of number) (takes_of q (length_of number))) →
+    ((k : ℕ) → from ≤ k → k < from + count → AreApart (start_of q length_of k) (footprint_of q (length_of k)) (start_of q length_of number) (footprint_of q (length_of number))) →
     is_apart_from q length_of number from count ≡ true
 apart_each q length_of number from zero h = refl
 apart_each q length_of number from (suc count) h =
@@ -172,17 +172,17 @@ slots_apart payload slot i j ne = dite (dec_lt i j)
     (λ ge. let h : slot * (j + 1) ≤ slot * i = mul-le-mul_left slot (omega arith) in inr (omega arith))
 
 in_slots : (q : Sizes) (length_of : ℕ → ℕ) (k number : ℕ) → is_byte_ring q ≡ false →
-    AreApart (payload_of q + slot_of q * (k % limit_of q)) (slot_of q) (payload_of q + slot_of q * (number % limit_of q)) (slot_of q) →
-    AreApart (start_of q length_of k) (takes_of q (length_of k)) (start_of q length_of number) (takes_of q (length_of number))
-unfolding start_of takes_of
+    AreApart (data_area_start q + slot_of q * (k % limit_of q)) (slot_of q) (data_area_start q + slot_of q * (number % limit_of q)) (slot_of q) →
+    AreApart (start_of q length_of k) (footprint_of q (length_of k)) (start_of q length_of number) (footprint_of q (length_of number))
+unfolding start_of footprint_of
 in_slots q length_of k number none h = rw none h
 
 apart : (q : Sizes) (length_of : ℕ → ℕ) (freed number k : ℕ) → IsQueue q → has_room q length_of freed number ≡ true → freed ≤ k → k < number →
-    AreApart (start_of q length_of k) (takes_of q (length_of k)) (start_of q length_of number) (takes_of q (length_of number))
+    AreApart (start_of q length_of k) (footprint_of q (length_of k)) (start_of q length_of number) (footprint_of q (length_of number))
 unfolding has_room
 apart q length_of freed number k is room least below = pick (is_byte_ring q) refl
   where
-    pick : (b : Bool) → is_byte_ring q ≡ b → AreApart (start_of q length_of k) (takes_of q (length_of k)) (start_of q length_of number) (takes_of q (length_of number))
+    pick : (b : Bool) → is_byte_ring q ≡ b → AreApart (start_of q length_of k) (footprint_of q (length_of k)) (start_of q length_of number) (footprint_of q (length_of number))
     pick true ringed =
         let test : is_apart_from q length_of number freed (number - freed) ≡ true =
         subst (λ b. (not b || is_apart_from q length_of number freed (number - freed)) ≡ true) ringed (and_second _ _ room) in
@@ -190,7 +190,7 @@ apart q length_of freed number k is room least below = pick (is_byte_ring q) ref
     pick false none =
         let some = (bounds q is).limit_least in
         let near = few q length_of freed number room in
-        in_slots q length_of k number none (slots_apart (payload_of q) (slot_of q) (k % limit_of q) (number % limit_of q)
+        in_slots q length_of k number none (slots_apart (data_area_start q) (slot_of q) (k % limit_of q) (number % limit_of q)
         (mod_apart (limit_of q) k number some below (omega arith)))
 
 slots : (q : Sizes) (length_of : ℕ → ℕ) (freed number : ℕ) → is_byte_ring q ≡ false → has_room q length_of freed number ≡ nat_lt number (freed + limit_of q)
@@ -215,5 +215,5 @@ empty q length_of number is =
     or_true true = refl
     or_true false = refl
 
-pub frames_lem : FramesHavePlaces
-frames_lem = record { placed = placed; told = told; room_told = room_told; few = few; apart = apart; slots = slots; empty = empty }
+pub frames_lem : FramesAreLaidOut
+frames_lem = record { placed = placed; by_prefix = told; room_by_prefix = room_told; few = few; apart = apart; slots = slots; empty = empty }

@@ -1,14 +1,14 @@
 -- The fields of a new queue are the numbers of its layout.
 use Rattle.std.proofs.Common.{◌≡◌, ℕ, ◌+◌, ◌-◌, ◌/◌, ◌^◌, ◌≤◌, min, nat_le, cond, Some, sym, ap, unwrap_or, ◌∙◌}
 use Rattle.ivs_base.specs.Numbers.{up64}
-use Rattle.split_ring.specs.Layout.{Sizes, IsVersion, size_of, queue_size, ring_part, used_place, slots_of, limit_of, IsQueue}
-use Rattle.split_ring.specs.Kept.{IsKept}
+use Rattle.split_ring.specs.Layout.{Sizes, IsVersion, size_of, queue_size, rings_len, used_ring_offset, slots_of, limit_of, IsQueue}
+use Rattle.split_ring.specs.Representation.{IsWellFormed}
 use Rattle.split_ring.proofs.Bounds.{bounds}
 
 pub kept : (version out mtu n used payload slot limit : ℕ)
     → IsVersion version → queue_size out ≡ Some n → 256 ≤ mtu → mtu ≤ 65535 → out ≤ 2 ^ 24
-    → used ≡ used_place n → payload ≡ ring_part n → slot ≡ up64 (18 + mtu) → slot ≤ out - payload → limit ≡ cond (nat_le 3 version) n (min n ((out - payload) / slot))
-    → IsKept (record { version = version; out = out; mtu = mtu; size = n; used = used; payload = payload; slot = slot; limit = limit })
+    → used ≡ used_ring_offset n → payload ≡ rings_len n → slot ≡ up64 (18 + mtu) → slot ≤ out - payload → limit ≡ cond (nat_le 3 version) n (min n ((out - payload) / slot))
+    → IsWellFormed (record { version = version; out = out; mtu = mtu; size = n; used = used; payload = payload; slot = slot; limit = limit })
 unfolding limit_of slots_of
 kept version out mtu n used payload slot limit known found least most section used_is payload_is slot_is fits limit_is =
     let q : Sizes = record { version = version; out = out; mtu = mtu } in
@@ -25,8 +25,8 @@ kept version out mtu n used payload slot limit known found least most section us
       is_queue = h;
       bounds = bounds q h;
       size_is = sym n_is;
-      used_is = used_is ∙ ap used_place (sym n_is);
-      payload_is = payload_is ∙ ap ring_part (sym n_is);
+      used_is = used_is ∙ ap used_ring_offset (sym n_is);
+      payload_is = payload_is ∙ ap rings_len (sym n_is);
       slot_is = slot_is;
       limit_is = rw (n_is, ← payload_is, ← slot_is) limit_is;
     }

@@ -5,7 +5,7 @@ use Rattle.std.proofs.lemmas.Bool.Decides.{nat_tests}
 use Rattle.std.proofs.lemmas.Option.{MatchOption-at_some}
 use mathlib.Core.Logic.{dite}
 use native.Mathlib.Decide.{ℕ_discrete}
-use Rattle.split_ring.specs.Layout.{ring_part, queue_sizes, queue_size, Fits, IsQueueSize, QueueSizeIsGreatest}
+use Rattle.split_ring.specs.Layout.{rings_len, queue_sizes, queue_size, Fits, IsQueueSize, QueueSizeIsGreatest}
 
 -- m is one of the list
 abbrev Among : ℕ → List ℕ → Type 0
@@ -90,7 +90,7 @@ test_is a b h = grind (arith, nat_tests)
 is_test : (a b : ℕ) → nat_lt a b ≡ true → a < b
 is_test a b h = grind (arith, nat_tests)
 
-is_queue_size : (out : ℕ) (o : Option ℕ) → MatchOption o (NonePasses (λ n. nat_lt (8 * ring_part n) out) queue_sizes) (IsGreatest (λ n. nat_lt (8 * ring_part n) out) queue_sizes) → MatchOption o ((k : ℕ) → 6 ≤ k → k ≤ 12 → Fits out (2 ^ k) → 2 ^ k ≤ 0) (IsQueueSize out)
+is_queue_size : (out : ℕ) (o : Option ℕ) → MatchOption o (NonePasses (λ n. nat_lt (8 * rings_len n) out) queue_sizes) (IsGreatest (λ n. nat_lt (8 * rings_len n) out) queue_sizes) → MatchOption o ((k : ℕ) → 6 ≤ k → k ≤ 12 → Fits out (2 ^ k) → 2 ^ k ≤ 0) (IsQueueSize out)
 is_queue_size out None h = λ k least most fits. absurd (h (2 ^ k) (power_among k least most) (test_is _ _ fits))
 is_queue_size out (Some n) h = record {
   power = power_of n h.among;
@@ -100,7 +100,7 @@ is_queue_size out (Some n) h = record {
 
 pub queue_size_lem : QueueSizeIsGreatest
 unfolding queue_size
-queue_size_lem out = is_queue_size out (find (λ n. nat_lt (8 * ring_part n) out) queue_sizes) (find_greatest (λ n. nat_lt (8 * ring_part n) out) queue_sizes sizes_descend)
+queue_size_lem out = is_queue_size out (find (λ n. nat_lt (8 * rings_len n) out) queue_sizes) (find_greatest (λ n. nat_lt (8 * rings_len n) out) queue_sizes sizes_descend)
 
 size_range : (m : ℕ) → Among m queue_sizes → (64 ≤ m) × (m ≤ 4096)
 size_range m a = (grind arith, grind arith)
@@ -140,5 +140,5 @@ pub record IsFound (out n : ℕ) : Type 0 where
 pub found : (out n : ℕ) → queue_size out ≡ Some n → IsFound out n
 unfolding queue_size
 found out n e =
-    let h : IsGreatest (λ m. nat_lt (8 * ring_part m) out) queue_sizes n = MatchOption-at_some _ _ n e (find_greatest (λ m. nat_lt (8 * ring_part m) out) queue_sizes sizes_descend) in
+    let h : IsGreatest (λ m. nat_lt (8 * rings_len m) out) queue_sizes n = MatchOption-at_some _ _ n e (find_greatest (λ m. nat_lt (8 * rings_len m) out) queue_sizes sizes_descend) in
     record { fits = is_test _ _ h.passes; least = (size_range n h.among).0; most = (size_range n h.among).1; whole = size_whole n h.among; turns = size_turns n h.among }

@@ -1,6 +1,6 @@
 pub mod Faults
 pub mod Frames
-pub mod Kept
+pub mod Representation
 pub mod Layout
 pub mod Ranges
 pub mod Spelling

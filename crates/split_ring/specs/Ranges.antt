@@ -2,7 +2,7 @@
 -- Source: VIRTIO 1.1 section 2.6 for the fields; profile for the ranges.
 use Rattle.std.specs.Prelude.{◌≡◌, ℕ, ◌+◌, ◌-◌, ◌%◌, ◌<◌, ◌≤◌, nat_lt, Bool}
 use Rattle.ivs_base.specs.Numbers.{distance}
-use Rattle.split_ring.specs.Layout.{Sizes, size_of, payload_of}
+use Rattle.split_ring.specs.Layout.{Sizes, size_of, data_area_start}
 
 -- available index: at most n frames stand after the last one taken
 abbrev pub IsAvailIndex : Sizes → (last index : ℕ) → Type 0
@@ -14,7 +14,7 @@ IsAvailEntry q entry = entry < size_of q
 
 -- descriptor's address: it is a multiple of 4 in the data area
 abbrev pub IsDescAddress : Sizes → (address : ℕ) → Type 0
-IsDescAddress q address = (address % 4 ≡ 0) × (payload_of q ≤ address) × (address < q.out)
+IsDescAddress q address = (address % 4 ≡ 0) × (data_area_start q ≤ address) × (address < q.out)
 
 -- descriptor's length: a frame has 14 to 65,553 bytes, and from its address on it ends inside the section
 abbrev pub IsDescLength : Sizes → (address length : ℕ) → Type 0

@@ -1,7 +1,7 @@
 -- The foreign fields of a section, and the frame that they spell at a position.
 -- Source: VIRTIO 1.1 section 2.6 for the fields, which are little-endian; profile for the ranges and for frames in one descriptor.
 use Rattle.std.specs.Prelude.{◌≡◌, ℕ, ◌+◌, ◌*◌, ◌/◌, ◌%◌, ◌^◌, ◌==◌, zero, suc, List, [], ◌∷◌, if◌then◌else◌}
-use Rattle.split_ring.specs.Layout.{Sizes, Address, Length, Flags, AvailableIndex, Entry, UsedIndex, Id, size_of, word_place}
+use Rattle.split_ring.specs.Layout.{Sizes, DescAddress, DescLength, DescFlags, AvailIndex, AvailEntry, UsedIndex, UsedId, size_of, word_offset}
 use Rattle.split_ring.specs.Ranges.{IsAvailEntry, IsDescAddress, IsDescLength, IsDescFlags}
 
 -- A field of two bytes stands in a half of its word. Flags stand in the low one
@@ -19,32 +19,32 @@ entry_half k word = (if k % 2 == 0 then low_half word else high_half word)
 -- Below, words gives the value of each word of a section, by its number from the start of the section
 
 -- the available index
-abbrev pub available_index : Sizes → (ℕ → ℕ) → ℕ
-available_index q words = high_half (words (word_place q AvailableIndex))
+abbrev pub avail_index : Sizes → (ℕ → ℕ) → ℕ
+avail_index q words = high_half (words (word_offset q AvailIndex))
 
 -- the available entry of a position
 abbrev pub entry_at : Sizes → (ℕ → ℕ) → ℕ → ℕ
-entry_at q words position = entry_half (position % size_of q) (words (word_place q (Entry (position % size_of q))))
+entry_at q words position = entry_half (position % size_of q) (words (word_offset q (AvailEntry (position % size_of q))))
 
 -- the address of descriptor i, as one number of 64 bits
 abbrev pub address_at : Sizes → (ℕ → ℕ) → ℕ → ℕ
-address_at q words i = words (word_place q (Address i)) + 2 ^ 32 * words (word_place q (Address i) + 1)
+address_at q words i = words (word_offset q (DescAddress i)) + 2 ^ 32 * words (word_offset q (DescAddress i) + 1)
 
 -- the length of descriptor i
 abbrev pub length_at : Sizes → (ℕ → ℕ) → ℕ → ℕ
-length_at q words i = words (word_place q (Length i))
+length_at q words i = words (word_offset q (DescLength i))
 
 -- the flags of descriptor i
 abbrev pub flags_at : Sizes → (ℕ → ℕ) → ℕ → ℕ
-flags_at q words i = low_half (words (word_place q (Flags i)))
+flags_at q words i = low_half (words (word_offset q (DescFlags i)))
 
 -- the used index
 abbrev pub used_index : Sizes → (ℕ → ℕ) → ℕ
-used_index q words = high_half (words (word_place q UsedIndex))
+used_index q words = high_half (words (word_offset q UsedIndex))
 
 -- the id of the used element of a position
 abbrev pub id_at : Sizes → (ℕ → ℕ) → ℕ → ℕ
-id_at q words position = words (word_place q (Id (position % size_of q)))
+id_at q words position = words (word_offset q (UsedId (position % size_of q)))
 
 -- the byte at a place, of the word that has it: the lowest byte of a word comes first
 abbrev pub byte_at : (ℕ → ℕ) → ℕ → ℕ

@@ -1,8 +1,8 @@
 //! Where the fields of an output section stand.
 ghost use Rattle.std.specs.Prelude.{◌≡◌, ◌+◌, ◌*◌, ◌/◌, ◌%◌, ◌<◌, ◌≤◌, ◌^◌, nat_le, min, cond, IfOk, IfErr};
-ghost use Rattle.split_ring.specs.Layout.{used_place, ring_part, queue_size, Sizes, IsVersion, has_events, is_byte_ring, size_of, payload_of, room_of, slot_of, limit_of, IsQueue, HasBounds, word_place, Address, AvailableIndex, Entry, UsedEvent, UsedIndex, Id, AvailableEvent, QueueSizeIsGreatest, QueuesAreLaidOut};
+ghost use Rattle.split_ring.specs.Layout.{used_ring_offset, rings_len, queue_size, Sizes, IsVersion, has_events, is_byte_ring, size_of, data_area_start, data_area_len, slot_of, limit_of, IsQueue, HasBounds, word_offset, DescAddress, AvailIndex, AvailEntry, UsedEvent, UsedIndex, UsedId, AvailEvent, QueueSizeIsGreatest, QueuesAreLaidOut};
 ghost use Rattle.split_ring.specs.Faults.{IsQueueFault};
-ghost use Rattle.split_ring.specs.Frames.{FramesHavePlaces};
+ghost use Rattle.split_ring.specs.Frames.{FramesAreLaidOut};
 
 use crate::QueueFault;
 use ivs_base::up64;
@@ -32,11 +32,11 @@ impl Model for Queue {
 
     ghost Value = { Sizes };
 
-    ghost use Rattle.split_ring.specs.Kept.{IsKept, sizes_of, inside_of};
+    ghost use Rattle.split_ring.specs.Representation.{IsWellFormed, sizes_of, inside_of};
 
     ghost view = { sizes_of };
 
-    ghost invariant = { IsKept };
+    ghost invariant = { IsWellFormed };
 
     ghost inverse = { inside_of };
 }
@@ -155,7 +155,7 @@ impl Queue {
 
     /// The byte at which the data area begins.
     pub fn payload(&self) -> u32
-        ensures value { result ≡ payload_of self.now }
+        ensures value { result ≡ data_area_start self.now }
         ensures bounds { HasBounds self.now }
     {
         self.payload
@@ -163,7 +163,7 @@ impl Queue {
 
     /// The bytes of the data area.
     pub fn room(&self) -> u32
-        ensures value { result ≡ room_of self.now }
+        ensures value { result ≡ data_area_len self.now }
         ensures queue { IsQueue self.now }
     {
         self.out - self.payload
@@ -172,7 +172,7 @@ impl Queue {
     /// The first of the four words of descriptor `i`: the address's two, the length, then flags and next.
     pub fn descriptor(&self, i: u32) -> u32
         requires { i < size_of self.now }
-        ensures place { result ≡ word_place self.now (Address i) }
+        ensures place { result ≡ word_offset self.now (DescAddress i) }
         ensures inside { 4 * result + 16 ≤ self.now.out }
     {
         prove!(i < self.size);
@@ -181,7 +181,7 @@ impl Queue {
 
     /// The word with the flags and the index of the available ring.
     pub fn avail_word(&self) -> u32
-        ensures place { result ≡ word_place self.now AvailableIndex }
+        ensures place { result ≡ word_offset self.now AvailIndex }
         ensures inside { 4 * result + 4 ≤ self.now.out }
     {
         4 * self.size
@@ -189,7 +189,7 @@ impl Queue {
 
     /// The word with available entry `k`, taken modulo the queue's size: in its low half where that is even.
     pub fn entry_word(&self, k: u32) -> u32
-        ensures place { result ≡ word_place self.now (Entry (k % size_of self.now)) }
+        ensures place { result ≡ word_offset self.now (AvailEntry (k % size_of self.now)) }
         ensures inside { 4 * result + 4 ≤ self.now.out }
     {
         4 * self.size + 1 + k % self.size / 2
@@ -197,7 +197,7 @@ impl Queue {
 
     /// The word with the flags and the index of the used ring.
     pub fn used_word(&self) -> u32
-        ensures place { result ≡ word_place self.now UsedIndex }
+        ensures place { result ≡ word_offset self.now UsedIndex }
         ensures inside { 4 * result + 4 ≤ self.now.out }
     {
         self.used / 4
@@ -205,7 +205,7 @@ impl Queue {
 
     /// The word with the id of used element `k`, taken modulo the queue's size. Its length is the next word.
     pub fn used_id(&self, k: u32) -> u32
-        ensures place { result ≡ word_place self.now (Id (k % size_of self.now)) }
+        ensures place { result ≡ word_offset self.now (UsedId (k % size_of self.now)) }
         ensures inside { 4 * result + 8 ≤ self.now.out }
     {
         self.used / 4 + 1 + 2 * (k % self.size)
@@ -213,7 +213,7 @@ impl Queue {
 
     /// The word with used_event, in its low half.
     pub fn used_event_word(&self) -> u32
-        ensures place { result ≡ word_place self.now UsedEvent }
+        ensures place { result ≡ word_offset self.now UsedEvent }
         ensures inside { 4 * result + 4 ≤ self.now.out }
     {
         4 * self.size + 1 + self.size / 2
@@ -221,7 +221,7 @@ impl Queue {
 
     /// The word with avail_event, in its low half.
     pub fn avail_event_word(&self) -> u32
-        ensures place { result ≡ word_place self.now AvailableEvent }
+        ensures place { result ≡ word_offset self.now AvailEvent }
         ensures inside { 4 * result + 4 ≤ self.now.out }
     {
         self.used / 4 + 1 + 2 * self.size
@@ -238,7 +238,7 @@ fn limit(version: u32, size: u32, slots: u32) -> u32
 /// The byte at which the used ring of a queue of `size` begins.
 fn used_place(size: u32) -> u32
     requires { size ≤ 4096 }
-    ensures { result ≡ used_place size }
+    ensures { result ≡ used_ring_offset size }
 {
     up64(u64::from(18 * size + 6)) as u32
 }
@@ -246,7 +246,7 @@ fn used_place(size: u32) -> u32
 /// The bytes of the ring part of a queue of `size`.
 fn ring_part(size: u32) -> u32
     requires { size ≤ 4096 }
-    ensures { result ≡ ring_part size }
+    ensures { result ≡ rings_len size }
 {
     up64(u64::from(used_place(size) + 6 + 8 * size)) as u32
 }
@@ -270,8 +270,8 @@ pub fn queue_size_is_greatest()
 {}
 
 /// Law: where each frame of a session stands, and what it says of it that it has room.
-pub fn frames_have_places()
-    ensures { FramesHavePlaces }
+pub fn frames_are_laid_out()
+    ensures { FramesAreLaidOut }
 {}
 
 /// Law: in each queue no byte belongs to two fields, and each field lies inside the section.

@@ -28,5 +28,5 @@ mod ranges;
 pub mod steps;
 
 pub use faults::QueueFault;
-pub use layout::{Queue, frames_have_places, queue_size_is_greatest, queues_are_laid_out};
+pub use layout::{Queue, frames_are_laid_out, queue_size_is_greatest, queues_are_laid_out};
 pub use ranges::{FieldName, Refused, need_event};

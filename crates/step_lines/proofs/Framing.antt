@@ -8,18 +8,18 @@ use Rattle.split_ring.specs.declared.steps.Note.TheVariants as note
 use Rattle.split_ring.specs.Layout.{has_events}
 use Rattle.link_handshake.specs.declared.Move.{Move}
 use Rattle.link_handshake.specs.declared.Move.TheVariants.{Stay, Set, ClearThenSet}
-use Rattle.link_handshake.specs.Standing.{move_of}
+use Rattle.link_handshake.specs.HandshakeState.{move_of}
 use Rattle.call_grammar.specs.Steps.{Mark, Saw, Reclaim, Full, Accept, Look, Deliver, Return, Done, Down, Refuse, Over}
 use Rattle.call_grammar.specs.Ends.{End}
 use Rattle.call_grammar.specs.Words.{words_for, frame_in}
-use Rattle.call_grammar.specs.Calls.{Who, Call, Tick, Stop, Offer, Poll, in_run, job_of}
+use Rattle.call_grammar.specs.Calls.{EndConfig, Call, Tick, Stop, Offer, Poll, in_run, pending_of}
 use Rattle.call_grammar.specs.Ticks.{tick_marks}
-use Rattle.call_grammar.specs.Offers.{Job, returned_by, descriptor_of}
+use Rattle.call_grammar.specs.Offers.{PendingOffer, returned_by, descriptor_of}
 use Rattle.call_grammar.specs.Polls.{is_length, is_last, published_by}
-use Rattle.call_grammar.specs.Places.{Place, Closed, AtState, Clearing, Setting, Refusing, Downed, AtUsedIndex, AtUsedId, Filling, WritingLow, WritingHigh, WritingLength, WritingFlags, WritingEntry, WritingIndex, AtEvent, RingingOffer, AtAvailIndex, Arming, AtEntry, AtLow, AtHigh, AtLength, AtFlags, AtWord, GivingId, GivingLength, GivingIndex, RingingPoll, marks_at, next_place, first_place, fill_place, ids_place, items_place, none_place, words_place, tick_place, clear_place, is_open}
-use Rattle.call_grammar.specs.Reach.{IsGiven}
-use Rattle.link_endpoint.specs.Stands.{mark_between, marks_between}
-use Rattle.lawful_history.specs.Entries.{mark_line}
+use Rattle.call_grammar.specs.Places.{Place, Closed, ReadingOtherState, Clearing, WritingState, Refusing, NotInRun, ReadingUsedIndex, ReadingUsedId, WritingFrameWord, WritingDescAddressLow, WritingDescAddressHigh, WritingDescLength, WritingDescFlags, WritingAvailEntry, WritingAvailIndex, ReadingAvailEvent, RingingOffer, ReadingAvailIndex, WritingAvailEvent, ReadingAvailEntry, ReadingDescAddressLow, ReadingDescAddressHigh, ReadingDescLength, ReadingDescFlags, ReadingFrameWord, WritingUsedId, WritingUsedLength, WritingUsedIndex, RingingPoll, marks_at, next_place, first_place, fill_place, ids_place, items_place, none_place, words_place, tick_place, clear_place, is_open}
+use Rattle.call_grammar.specs.Reach.{IsPermittedCall}
+use Rattle.link_endpoint.specs.Refinement.{mark_between, marks_between}
+use Rattle.lawful_history.specs.EventRecords.{mark_line}
 use Rattle.lawful_history.specs.Frames.{HaveFrames}
 use Rattle.step_lines.specs.Places.{HasFrames}
 
@@ -53,39 +53,39 @@ after_reclaim P f true = f.reclaim 0
 after_reclaim P f false = f.reclaim_full
 
 -- the marks of a step hold it where those with a frame do
-marks_hold : (P : List Mark → Type 0) → Frameless P → (who : Who) (place : Place) (value : ℕ) → ((job : Job) → place ≡ WritingIndex job → P (Accept job.frame ∷ [])) →
-    ((number more entry address bytes : ℕ) (read : List ℕ) (words : ℕ) → place ≡ AtWord number more entry address bytes read words → P (Deliver (frame_in bytes (read ++ value ∷ [])) ∷ [])) → P (marks_at who place value)
-marks_hold P f who Closed value accepts delivers = f.none
-marks_hold P f who (AtState handshake) value accepts delivers = ticks P f value (move_of handshake value)
-marks_hold P f who (Clearing at more state) value accepts delivers = f.none
-marks_hold P f who (Setting state) value accepts delivers = f.over
-marks_hold P f who Refusing value accepts delivers = f.over
-marks_hold P f who Downed value accepts delivers = f.down
-marks_hold P f who (AtUsedIndex job freed) value accepts delivers = either P (nat_le (returned_by freed value) _) _ _ (either P (returned_by freed value == 0) _ _ (after_reclaim P f _) (f.reclaim (returned_by freed value))) (f.refused _)
-marks_hold P f who (AtUsedId job freed more) value accepts delivers = either P (value == descriptor_of who freed) _ _ (either P (more == 0) _ _ (either P _ _ _ f.none f.full) f.none) (f.refused _)
-marks_hold P f who (Filling job at more) value accepts delivers = f.none
-marks_hold P f who (WritingLow job) value accepts delivers = f.none
-marks_hold P f who (WritingHigh job) value accepts delivers = f.none
-marks_hold P f who (WritingLength job) value accepts delivers = f.none
-marks_hold P f who (WritingFlags job) value accepts delivers = f.none
-marks_hold P f who (WritingEntry job) value accepts delivers = f.none
-marks_hold P f who (WritingIndex job) value accepts delivers = accepts job refl
-marks_hold P f who (AtEvent number) value accepts delivers = either P _ _ _ f.none f.over
-marks_hold P f who RingingOffer value accepts delivers = f.over
-marks_hold P f who (AtAvailIndex taken last) value accepts delivers =
+marks_hold : (P : List Mark → Type 0) → Frameless P → (config : EndConfig) (place : Place) (value : ℕ) → ((pending : PendingOffer) → place ≡ WritingAvailIndex pending → P (Accept pending.frame ∷ [])) →
+    ((number more entry address bytes : ℕ) (read : List ℕ) (words : ℕ) → place ≡ ReadingFrameWord number more entry address bytes read words → P (Deliver (frame_in bytes (read ++ value ∷ [])) ∷ [])) → P (marks_at config place value)
+marks_hold P f config Closed value accepts delivers = f.none
+marks_hold P f config (ReadingOtherState handshake) value accepts delivers = ticks P f value (move_of handshake value)
+marks_hold P f config (Clearing at more state) value accepts delivers = f.none
+marks_hold P f config (WritingState state) value accepts delivers = f.over
+marks_hold P f config Refusing value accepts delivers = f.over
+marks_hold P f config NotInRun value accepts delivers = f.down
+marks_hold P f config (ReadingUsedIndex pending freed) value accepts delivers = either P (nat_le (returned_by freed value) _) _ _ (either P (returned_by freed value == 0) _ _ (after_reclaim P f _) (f.reclaim (returned_by freed value))) (f.refused _)
+marks_hold P f config (ReadingUsedId pending freed more) value accepts delivers = either P (value == descriptor_of config freed) _ _ (either P (more == 0) _ _ (either P _ _ _ f.none f.full) f.none) (f.refused _)
+marks_hold P f config (WritingFrameWord pending at more) value accepts delivers = f.none
+marks_hold P f config (WritingDescAddressLow pending) value accepts delivers = f.none
+marks_hold P f config (WritingDescAddressHigh pending) value accepts delivers = f.none
+marks_hold P f config (WritingDescLength pending) value accepts delivers = f.none
+marks_hold P f config (WritingDescFlags pending) value accepts delivers = f.none
+marks_hold P f config (WritingAvailEntry pending) value accepts delivers = f.none
+marks_hold P f config (WritingAvailIndex pending) value accepts delivers = accepts pending refl
+marks_hold P f config (ReadingAvailEvent number) value accepts delivers = either P _ _ _ f.none f.over
+marks_hold P f config RingingOffer value accepts delivers = f.over
+marks_hold P f config (ReadingAvailIndex taken last) value accepts delivers =
     let none = either P last _ _ f.look_done (f.look 0) in
     either P (nat_le (published_by taken value) _) _ _ (either P (published_by taken value == 0) _ _ none (f.look (published_by taken value))) (f.refused _)
-marks_hold P f who (Arming taken) value accepts delivers = f.none
-marks_hold P f who (AtEntry number more) value accepts delivers = either P _ _ _ f.none (f.refused _)
-marks_hold P f who (AtLow number more entry) value accepts delivers = f.none
-marks_hold P f who (AtHigh number more entry low) value accepts delivers = either P _ _ _ f.none (f.refused _)
-marks_hold P f who (AtLength number more entry address) value accepts delivers = either P _ _ _ f.none (f.refused _)
-marks_hold P f who (AtFlags number more entry address bytes) value accepts delivers = either P _ _ _ f.none (f.refused _)
-marks_hold P f who (AtWord number more entry address bytes read words) value accepts delivers = either P (words == 0) _ _ (delivers number more entry address bytes read words refl) f.none
-marks_hold P f who (GivingId number more entry) value accepts delivers = f.none
-marks_hold P f who (GivingLength number more) value accepts delivers = f.none
-marks_hold P f who (GivingIndex number more) value accepts delivers = f.returns
-marks_hold P f who RingingPoll value accepts delivers = f.finished
+marks_hold P f config (WritingAvailEvent taken) value accepts delivers = f.none
+marks_hold P f config (ReadingAvailEntry number more) value accepts delivers = either P _ _ _ f.none (f.refused _)
+marks_hold P f config (ReadingDescAddressLow number more entry) value accepts delivers = f.none
+marks_hold P f config (ReadingDescAddressHigh number more entry low) value accepts delivers = either P _ _ _ f.none (f.refused _)
+marks_hold P f config (ReadingDescLength number more entry address) value accepts delivers = either P _ _ _ f.none (f.refused _)
+marks_hold P f config (ReadingDescFlags number more entry address bytes) value accepts delivers = either P _ _ _ f.none (f.refused _)
+marks_hold P f config (ReadingFrameWord number more entry address bytes read words) value accepts delivers = either P (words == 0) _ _ (delivers number more entry address bytes read words refl) f.none
+marks_hold P f config (WritingUsedId number more entry) value accepts delivers = f.none
+marks_hold P f config (WritingUsedLength number more) value accepts delivers = f.none
+marks_hold P f config (WritingUsedIndex number more) value accepts delivers = f.returns
+marks_hold P f config RingingPoll value accepts delivers = f.finished
 
 -- no frame is accepted
 abbrev NoAccept : List Mark → Type 0
@@ -111,18 +111,18 @@ frameless_none = record {
 }
 
 -- after its index a frame is yet to be told
-tells_openly : (b : Bool) (number : ℕ) → is_open (if b then AtEvent number else RingingOffer) ≡ true
+tells_openly : (b : Bool) (number : ℕ) → is_open (if b then ReadingAvailEvent number else RingingOffer) ≡ true
 tells_openly true number = refl
 tells_openly false number = refl
 
-publishes_openly : (who : Who) (place : Place) (value : ℕ) (job : Job) → place ≡ WritingIndex job → is_open (next_place who place value) ≡ false → ⊥
-publishes_openly who place value job is shut =
-    let now : is_open (next_place who (WritingIndex job) value) ≡ false = subst (λ (p : Place). is_open (next_place who p value) ≡ false) is shut in
-    let open_there = tells_openly (has_events who.sizes) job.number in absurd (cc)
+publishes_openly : (config : EndConfig) (place : Place) (value : ℕ) (pending : PendingOffer) → place ≡ WritingAvailIndex pending → is_open (next_place config place value) ≡ false → ⊥
+publishes_openly config place value pending is shut =
+    let now : is_open (next_place config (WritingAvailIndex pending) value) ≡ false = subst (λ (p : Place). is_open (next_place config p value) ≡ false) is shut in
+    let open_there = tells_openly (has_events config.sizes) pending.number in absurd (cc)
 
 -- a step that ends its call accepts no frame
-ends_quietly : (who : Who) (place : Place) (value : ℕ) → is_open (next_place who place value) ≡ false → NoAccept (marks_at who place value)
-ends_quietly who place value shut = marks_hold NoAccept frameless_none who place value (λ job is. absurd (publishes_openly who place value job is shut)) (λ number more entry address bytes read words is. tt)
+ends_quietly : (config : EndConfig) (place : Place) (value : ℕ) → is_open (next_place config place value) ≡ false → NoAccept (marks_at config place value)
+ends_quietly config place value shut = marks_hold NoAccept frameless_none config place value (λ pending is. absurd (publishes_openly config place value pending is shut)) (λ number more entry address bytes read words is. tt)
 
 -- where no frame is accepted, the frame offered has no part in the marks
 same_marks : (one other delivered : List ℕ) (notes : List Note) → NoAccept (marks_between one delivered notes) → marks_between other delivered notes ≡ marks_between one delivered notes
@@ -140,19 +140,19 @@ same_marks one other delivered (note.Refuse refused ∷ notes) none = ap (λ ms.
 same_marks one other delivered (note.Over ∷ notes) none = ap (λ ms. mark_between one delivered note.Over ∷ ms) (same_marks one other delivered notes none)
 
 -- the marks of a step, where the frame offered is the one before it or, if the call goes on, the one after it
-pub marks_after : (who : Who) (place : Place) (value : ℕ) (old new delivered : List ℕ) (notes : List Note) (busy : Bool) → marks_between old delivered notes ≡ marks_at who place value → busy ≡ is_open (next_place who place value) →
-    (busy ≡ true → new ≡ old) → marks_between new delivered notes ≡ marks_at who place value
-marks_after who place value old new delivered notes true marked is same = ap (λ f. marks_between f delivered notes) (same refl) ∙ marked
-marks_after who place value old new delivered notes false marked is same =
-    same_marks old new delivered notes (subst NoAccept (sym marked) (ends_quietly who place value (sym is))) ∙ marked
+pub marks_after : (config : EndConfig) (place : Place) (value : ℕ) (old new delivered : List ℕ) (notes : List Note) (busy : Bool) → marks_between old delivered notes ≡ marks_at config place value → busy ≡ is_open (next_place config place value) →
+    (busy ≡ true → new ≡ old) → marks_between new delivered notes ≡ marks_at config place value
+marks_after config place value old new delivered notes true marked is same = ap (λ f. marks_between f delivered notes) (same refl) ∙ marked
+marks_after config place value old new delivered notes false marked is same =
+    same_marks old new delivered notes (subst NoAccept (sym marked) (ends_quietly config place value (sym is))) ∙ marked
 
 -- Each frame has a byte
 
-pub first_frames : (who : Who) (end : End) (call : Call) → IsGiven who call → HasFrames (first_place who end call)
-first_frames who end Tick given = tt
-first_frames who end Stop given = tt
-first_frames who end (Offer frame) given = elim (in_run end.handshake.phase) as (λ b. HasFrames (if b then AtUsedIndex (job_of who end frame) end.freed else Downed)) [ true ↦ given.0 | false ↦ tt ]
-first_frames who end Poll given = elim (in_run end.handshake.phase) as (λ b. HasFrames (if b then AtAvailIndex (length end.delivered) (is_last who end.found_none) else Downed)) [ true ↦ tt | false ↦ tt ]
+pub first_frames : (config : EndConfig) (end : End) (call : Call) → IsPermittedCall config call → HasFrames (first_place config end call)
+first_frames config end Tick given = tt
+first_frames config end Stop given = tt
+first_frames config end (Offer frame) given = elim (in_run end.handshake.phase) as (λ b. HasFrames (if b then ReadingUsedIndex (pending_of config end frame) end.freed else NotInRun)) [ true ↦ given.0 | false ↦ tt ]
+first_frames config end Poll given = elim (in_run end.handshake.phase) as (λ b. HasFrames (if b then ReadingAvailIndex (length end.delivered) (is_last config end.found_none) else NotInRun)) [ true ↦ tt | false ↦ tt ]
 
 on : (b : Bool) (x y : Place) → HasFrames x → HasFrames y → HasFrames (if b then x else y)
 on true x y one other = one
@@ -162,18 +162,18 @@ clears : (at count state : ℕ) → HasFrames (clear_place at count state)
 clears at zero state = tt
 clears at (suc more) state = tt
 
-moves : (who : Who) (move : Move) → HasFrames (tick_place who move)
-moves who Stay = tt
-moves who (Set state) = tt
-moves who (ClearThenSet state) = clears who.own who.words state
+moves : (config : EndConfig) (move : Move) → HasFrames (tick_place config move)
+moves config Stay = tt
+moves config (Set state) = tt
+moves config (ClearThenSet state) = clears config.own config.words state
 
-fills : (job : Job) (at count : ℕ) → 14 ≤ length job.frame → HasFrames (fill_place job at count)
-fills job at zero least = least
-fills job at (suc more) least = least
+fills : (pending : PendingOffer) (at count : ℕ) → 14 ≤ length pending.frame → HasFrames (fill_place pending at count)
+fills pending at zero least = least
+fills pending at (suc more) least = least
 
-ids : (who : Who) (job : Job) (freed count : ℕ) → 14 ≤ length job.frame → HasFrames (ids_place who job freed count)
-ids who job freed zero least = on _ (fill_place job 0 (words_for (length job.frame))) Closed (fills job 0 (words_for (length job.frame)) least) tt
-ids who job freed (suc more) least = least
+ids : (config : EndConfig) (pending : PendingOffer) (freed count : ℕ) → 14 ≤ length pending.frame → HasFrames (ids_place config pending freed count)
+ids config pending freed zero least = on _ (fill_place pending 0 (words_for (length pending.frame))) Closed (fills pending 0 (words_for (length pending.frame)) least) tt
+ids config pending freed (suc more) least = least
 
 takes : (number count : ℕ) → HasFrames (items_place number count)
 takes number zero = tt
@@ -186,43 +186,43 @@ reads number more entry address bytes read (suc words) least = least
 length_passed : (address bytes out : ℕ) → (nat_le 14 bytes && (nat_le bytes 65553 && nat_le (address + bytes) out)) ≡ true → 14 ≤ bytes
 length_passed address bytes out is = grind (arith, nat_tests)
 
-at_length : (who : Who) (number more entry address value : ℕ) (b : Bool) → is_length who.sizes address value ≡ b → HasFrames (if b then AtFlags number more entry address value else Refusing)
-at_length who number more entry address value true is = length_passed address value who.sizes.out is
-at_length who number more entry address value false is = tt
+at_length : (config : EndConfig) (number more entry address value : ℕ) (b : Bool) → is_length config.sizes address value ≡ b → HasFrames (if b then ReadingDescFlags number more entry address value else Refusing)
+at_length config number more entry address value true is = length_passed address value config.sizes.out is
+at_length config number more entry address value false is = tt
 
-pub next_frames : (who : Who) (place : Place) (value : ℕ) → HasFrames place → HasFrames (next_place who place value)
-next_frames who Closed value has = tt
-next_frames who (AtState handshake) value has = moves who (move_of handshake value)
-next_frames who (Clearing at more state) value has = clears (at + 1) more state
-next_frames who (Setting state) value has = tt
-next_frames who Refusing value has = tt
-next_frames who Downed value has = tt
-next_frames who (AtUsedIndex job freed) value has = on _ (ids_place who job freed (returned_by freed value)) Refusing (ids who job freed (returned_by freed value) has) tt
-next_frames who (AtUsedId job freed more) value has = on _ (ids_place who job (freed + 1) more) Refusing (ids who job (freed + 1) more has) tt
-next_frames who (Filling job at more) value has = fills job (at + 1) more has
-next_frames who (WritingLow job) value has = has
-next_frames who (WritingHigh job) value has = has
-next_frames who (WritingLength job) value has = has
-next_frames who (WritingFlags job) value has = has
-next_frames who (WritingEntry job) value has = has
-next_frames who (WritingIndex job) value has = on (has_events who.sizes) (AtEvent job.number) RingingOffer tt tt
-next_frames who (AtEvent number) value has = on _ RingingOffer Closed tt tt
-next_frames who RingingOffer value has = tt
-next_frames who (AtAvailIndex taken last) value has =
+pub next_frames : (config : EndConfig) (place : Place) (value : ℕ) → HasFrames place → HasFrames (next_place config place value)
+next_frames config Closed value has = tt
+next_frames config (ReadingOtherState handshake) value has = moves config (move_of handshake value)
+next_frames config (Clearing at more state) value has = clears (at + 1) more state
+next_frames config (WritingState state) value has = tt
+next_frames config Refusing value has = tt
+next_frames config NotInRun value has = tt
+next_frames config (ReadingUsedIndex pending freed) value has = on _ (ids_place config pending freed (returned_by freed value)) Refusing (ids config pending freed (returned_by freed value) has) tt
+next_frames config (ReadingUsedId pending freed more) value has = on _ (ids_place config pending (freed + 1) more) Refusing (ids config pending (freed + 1) more has) tt
+next_frames config (WritingFrameWord pending at more) value has = fills pending (at + 1) more has
+next_frames config (WritingDescAddressLow pending) value has = has
+next_frames config (WritingDescAddressHigh pending) value has = has
+next_frames config (WritingDescLength pending) value has = has
+next_frames config (WritingDescFlags pending) value has = has
+next_frames config (WritingAvailEntry pending) value has = has
+next_frames config (WritingAvailIndex pending) value has = on (has_events config.sizes) (ReadingAvailEvent pending.number) RingingOffer tt tt
+next_frames config (ReadingAvailEvent number) value has = on _ RingingOffer Closed tt tt
+next_frames config RingingOffer value has = tt
+next_frames config (ReadingAvailIndex taken last) value has =
     let found = published_by taken value in
     on _ (if found == 0 then none_place taken last else items_place taken found) Refusing
-    (on _ (none_place taken last) (items_place taken found) (on last Closed (Arming taken) tt tt) (takes taken found)) tt
-next_frames who (Arming taken) value has = tt
-next_frames who (AtEntry number more) value has = on _ (AtLow number more _) Refusing tt tt
-next_frames who (AtLow number more entry) value has = tt
-next_frames who (AtHigh number more entry low) value has = on _ (AtLength number more entry _) Refusing tt tt
-next_frames who (AtLength number more entry address) value has = at_length who number more entry address value (is_length who.sizes address value) refl
-next_frames who (AtFlags number more entry address bytes) value has = on _ (words_place number more entry address bytes [] (words_for bytes)) Refusing (reads number more entry address bytes [] (words_for bytes) has) tt
-next_frames who (AtWord number more entry address bytes read words) value has = reads number more entry address bytes (read ++ value ∷ []) words has
-next_frames who (GivingId number more entry) value has = tt
-next_frames who (GivingLength number more) value has = tt
-next_frames who (GivingIndex number more) value has = takes (number + 1) more
-next_frames who RingingPoll value has = tt
+    (on _ (none_place taken last) (items_place taken found) (on last Closed (WritingAvailEvent taken) tt tt) (takes taken found)) tt
+next_frames config (WritingAvailEvent taken) value has = tt
+next_frames config (ReadingAvailEntry number more) value has = on _ (ReadingDescAddressLow number more _) Refusing tt tt
+next_frames config (ReadingDescAddressLow number more entry) value has = tt
+next_frames config (ReadingDescAddressHigh number more entry low) value has = on _ (ReadingDescLength number more entry _) Refusing tt tt
+next_frames config (ReadingDescLength number more entry address) value has = at_length config number more entry address value (is_length config.sizes address value) refl
+next_frames config (ReadingDescFlags number more entry address bytes) value has = on _ (words_place number more entry address bytes [] (words_for bytes)) Refusing (reads number more entry address bytes [] (words_for bytes) has) tt
+next_frames config (ReadingFrameWord number more entry address bytes read words) value has = reads number more entry address bytes (read ++ value ∷ []) words has
+next_frames config (WritingUsedId number more entry) value has = tt
+next_frames config (WritingUsedLength number more) value has = tt
+next_frames config (WritingUsedIndex number more) value has = takes (number + 1) more
+next_frames config RingingPoll value has = tt
 
 -- a frame in some words has a byte
 some_bytes : (bytes : ℕ) (read : List ℕ) (value : ℕ) → 14 ≤ bytes → length (frame_in bytes (read ++ value ∷ [])) ≢ 0
@@ -260,7 +260,7 @@ least_some : (n : ℕ) → 14 ≤ n → n ≢ 0
 least_some n least = λ none. omega arith
 
 -- the marks of a step have frames with a byte
-pub marks_frames : (me : ℕ) (who : Who) (place : Place) (value : ℕ) → HasFrames place → HaveFrames (map (mark_line me) (marks_at who place value))
-marks_frames me who place value has = marks_hold (λ marks. HaveFrames (map (mark_line me) marks)) (frameless_frames me) who place value
-    (λ job is. one_accepted me job.frame (least_some (length job.frame) (subst HasFrames is has)))
+pub marks_frames : (me : ℕ) (config : EndConfig) (place : Place) (value : ℕ) → HasFrames place → HaveFrames (map (mark_line me) (marks_at config place value))
+marks_frames me config place value has = marks_hold (λ marks. HaveFrames (map (mark_line me) marks)) (frameless_frames me) config place value
+    (λ pending is. one_accepted me pending.frame (least_some (length pending.frame) (subst HasFrames is has)))
     (λ number more entry address bytes read words is. one_delivered me (frame_in bytes (read ++ value ∷ [])) (some_bytes bytes read value (subst HasFrames is has)))

@@ -5,14 +5,14 @@ use Rattle.std.proofs.lemmas.List.{take_more, map-append}
 use Rattle.split_ring.specs.declared.steps.Note.{Note}
 use Rattle.call_grammar.specs.Steps.{Mark}
 use Rattle.call_grammar.specs.Ends.{End, end_after}
-use Rattle.call_grammar.specs.Calls.{Who}
+use Rattle.call_grammar.specs.Calls.{EndConfig}
 use Rattle.call_grammar.specs.Places as places
 use Rattle.call_grammar.specs.Places.{Place, Closed, marks_at, next_place, step_at, is_open}
 use Rattle.link_endpoint.specs.declared.place.Place as ends
 use Rattle.link_endpoint.specs.declared.place.Place.TheVariants as seats
 use Rattle.link_endpoint.specs.Engine.{Engine, is_open_at, is_busy, offered, delivered}
-use Rattle.link_endpoint.specs.Stands.{StandsAt, IsAt, goes_on, Takes, mark_between, marks_between}
-use Rattle.lawful_history.specs.Entries.{mark_line}
+use Rattle.link_endpoint.specs.Refinement.{RefinesAt, IsAt, goes_on, Takes, mark_between, marks_between}
+use Rattle.lawful_history.specs.EventRecords.{mark_line}
 use Rattle.lawful_history.specs.Peers.{Auto, counted, counted_all}
 use Rattle.step_lines.proofs.Framing.{marks_after}
 
@@ -41,24 +41,24 @@ goes_open Closed is = absurd (cc)
 goes_open places.Refusing is = absurd (cc)
 goes_open _ is = refl
 
-open_at : (at : ends.Place) (e : Engine) (who : Who) (end : End) (place : Place) → IsAt at e who end place → is_open_at at ≡ is_open place
-open_at seats.Closed e who end place is = ap is_open (sym is.0)
-open_at seats.Looking e who end place is = ap is_open (sym is.0)
-open_at (seats.Clearing at state) e who end place is = ap is_open (sym is.0)
-open_at (seats.Setting state) e who end place is = ap is_open (sym is.0)
-open_at seats.Refusing e who end place is = ap is_open (sym is.0)
-open_at seats.Downed e who end place is = ap is_open (sym is.0)
-open_at seats.Offering e who end place is = goes_open place is.0
-open_at seats.Polling e who end place is = goes_open place is.0
+open_at : (at : ends.Place) (e : Engine) (config : EndConfig) (end : End) (place : Place) → IsAt at e config end place → is_open_at at ≡ is_open place
+open_at seats.Closed e config end place is = ap is_open (sym is.0)
+open_at seats.ReadingOtherState e config end place is = ap is_open (sym is.0)
+open_at (seats.Clearing at state) e config end place is = ap is_open (sym is.0)
+open_at (seats.WritingState state) e config end place is = ap is_open (sym is.0)
+open_at seats.Refusing e config end place is = ap is_open (sym is.0)
+open_at seats.NotInRun e config end place is = ap is_open (sym is.0)
+open_at seats.Offering e config end place is = goes_open place is.0
+open_at seats.Polling e config end place is = goes_open place is.0
 
 -- an endpoint is busy where a call is open
-pub busy_is : (e : Engine) (who : Who) (end : End) (place : Place) → StandsAt e who end place → is_busy e ≡ is_open place
-busy_is e who end place stands = open_at e.place e who end place stands.at
+pub busy_is : (e : Engine) (config : EndConfig) (end : End) (place : Place) → RefinesAt e config end place → is_busy e ≡ is_open place
+busy_is e config end place refines = open_at e.place e config end place refines.at
 
-pub busy_next : (e e' : Engine) (value : ℕ) (notes : List Note) (who : Who) (end : End) (place : Place) → Takes e value notes e' → StandsAt e who end place → is_busy e' ≡ is_open (next_place who place value)
-busy_next e e' value notes who end place took stands = busy_is e' who (end_after end (step_at who place value)) (next_place who place value) (took.stands who end place stands)
+pub busy_next : (e e' : Engine) (value : ℕ) (notes : List Note) (config : EndConfig) (end : End) (place : Place) → Takes e value notes e' → RefinesAt e config end place → is_busy e' ≡ is_open (next_place config place value)
+busy_next e e' value notes config end place took refines = busy_is e' config (end_after end (step_at config place value)) (next_place config place value) (took.refines config end place refines)
 
 -- the marks of the step after it
-pub marks_now : (e e' : Engine) (value : ℕ) (notes : List Note) (who : Who) (end : End) (place : Place) → Takes e value notes e' → StandsAt e who end place → is_busy e' ≡ is_open (next_place who place value) →
-    marks_between (offered e') (delivered e') notes ≡ marks_at who place value
-marks_now e e' value notes who end place took stands busy = marks_after who place value (offered e) (offered e') (delivered e') notes (is_busy e') (took.marked who end place stands) busy took.offered
+pub marks_now : (e e' : Engine) (value : ℕ) (notes : List Note) (config : EndConfig) (end : End) (place : Place) → Takes e value notes e' → RefinesAt e config end place → is_busy e' ≡ is_open (next_place config place value) →
+    marks_between (offered e') (delivered e') notes ≡ marks_at config place value
+marks_now e e' value notes config end place took refines busy = marks_after config place value (offered e) (offered e') (delivered e') notes (is_busy e') (took.marked config end place refines) busy took.offered

@@ -1,10 +1,10 @@
 //! The notes of a step.
 ghost use Rattle.std.specs.Prelude.{◌≡◌, ℕ, List, IfOk};
-ghost use Rattle.lawful_history.specs.Entries.{mark_line};
+ghost use Rattle.lawful_history.specs.EventRecords.{mark_line};
 ghost use Rattle.lawful_history.specs.Peers as peers;
 ghost use Rattle.lawful_history.specs.Peers.{counted, counted_all};
 ghost use Rattle.link_endpoint.specs.Engine.{offered, delivered};
-ghost use Rattle.link_endpoint.specs.Stands.{mark_between, marks_between};
+ghost use Rattle.link_endpoint.specs.Refinement.{mark_between, marks_between};
 ghost use Rattle.step_lines.specs.Plans.{IsPlanOf};
 
 use ivs_base::{Frame, NoMemory};

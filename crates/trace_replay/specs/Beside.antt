@@ -5,14 +5,14 @@ use Rattle.lawful_history.specs.declared.line.Line.{Line}
 use Rattle.record_text.specs.declared.reader.Reader.{Reader}
 use Rattle.record_text.specs.Readers.{IsReading}
 use Rattle.record_text.specs.Spelling.{IsSpelling}
-use Rattle.link_model.specs.declared.course.Course.{Course}
-use Rattle.link_model.specs.Course.{world_in, GoesOn}
+use Rattle.link_model.specs.declared.expected_run.ExpectedRun.{ExpectedRun}
+use Rattle.link_model.specs.ExpectedRun.{world_in, GoesOn}
 
 -- the lines that were read of the text are those that were taken on the course of its scenario's lawful history
-pub record IsBeside (bytes : List ℕ) (course : Course) (reader : Reader) : Type 0 where
+pub record IsBeside (bytes : List ℕ) (expected_run : ExpectedRun) (reader : Reader) : Type 0 where
   pub lines : List Line
-  pub reads : IsReading bytes course.version (world_in course) lines reader
-  pub goes : GoesOn lines course
+  pub reads : IsReading bytes expected_run.version (world_in expected_run) lines reader
+  pub goes : GoesOn lines expected_run
 
 -- the text is that of a record which begins with these lines
 pub record IsRead (bytes : List ℕ) (version : ℕ) (world : World) (lines : List Line) : Type 0 where

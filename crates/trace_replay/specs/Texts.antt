@@ -2,7 +2,7 @@
 use Rattle.std.specs.Prelude.{ℕ, List}
 use Rattle.scenario_text.specs.Scenario.{World}
 use Rattle.lawful_history.specs.declared.line.Line.{Line}
-use Rattle.sim_world.specs.Telling.{lawful_record}
+use Rattle.sim_world.specs.RecordWriting.{lawful_record}
 use Rattle.record_text.specs.Spelling.{IsSpelling}
 use Rattle.trace_replay.specs.declared.verdict.Verdict.{Verdict}
 use Rattle.trace_replay.specs.Verdict.{IsVerdict}

@@ -11,21 +11,21 @@ ghost use Rattle.trace_replay.specs.Texts.{IsVerdictOfText};
 
 use crate::verdict::Verdict;
 use ivs_base::NoMemory;
-use link_model::{Course, StepFault};
+use link_model::{ExpectedRun, StepFault};
 use record_text::{Reader, RecordFault};
 use std::alloc::Global;
 
 /// Takes lines as long as the bytes that come next are those of the lines that wait. No line is read.
-pub fn pass_alike(course: &mut Course, reader: &mut Reader) -> Result<(), NoMemory>
-    requires { (bytes : List ℕ) × IsBeside bytes course.old reader.old }
-    ensures { (bytes : List ℕ) → IsBeside bytes course.old reader.old → OnOk result (IsBeside bytes course.new reader.new) }
+pub fn pass_alike(expected_run: &mut ExpectedRun, reader: &mut Reader) -> Result<(), NoMemory>
+    requires { (bytes : List ℕ) × IsBeside bytes expected_run.old reader.old }
+    ensures { (bytes : List ℕ) → IsBeside bytes expected_run.old reader.old → OnOk result (IsBeside bytes expected_run.new reader.new) }
 {
     loop {
-        let waiting = course.waiting();
+        let waiting = expected_run.waiting();
         if waiting.is_empty() || !reader.pass(waiting)? {
             return Ok(());
         }
-        course.pass()?;
+        expected_run.pass()?;
     }
 }
 
@@ -41,15 +41,15 @@ fn read_on(alloc: Global, reader: &mut Reader) -> Result<(), RecordFault>
 /// Reads the lines that are left one by one, beside the lawful history up to the first that differs, and says which it is.
 pub fn judge(
     alloc: Global,
-    course: &mut Course,
+    expected_run: &mut ExpectedRun,
     reader: &mut Reader,
 ) -> Result<Verdict, RecordFault>
-    requires { (bytes : List ℕ) × IsBeside bytes course.old reader.old }
-    ensures verdict { (bytes : List ℕ) → IsBeside bytes course.old reader.old → IfOk result (IsVerdictOfText bytes) }
-    ensures refused { (bytes : List ℕ) → IsBeside bytes course.old reader.old → IfErr result (λ fault. Refuses fault (answer bytes)) }
+    requires { (bytes : List ℕ) × IsBeside bytes expected_run.old reader.old }
+    ensures verdict { (bytes : List ℕ) → IsBeside bytes expected_run.old reader.old → IfOk result (IsVerdictOfText bytes) }
+    ensures refused { (bytes : List ℕ) → IsBeside bytes expected_run.old reader.old → IfErr result (λ fault. Refuses fault (answer bytes)) }
 {
     while let Some(line) = reader.next(alloc)? {
-        match course.take(reader.count, &line) {
+        match expected_run.take(reader.count, &line) {
             Ok(()) => {}
             Err(StepFault::Unlawful(fault)) => {
                 read_on(alloc, reader)?;
@@ -58,7 +58,7 @@ pub fn judge(
             Err(StepFault::NoMemory) => return Err(RecordFault::NoMemory),
         }
     }
-    match course.close(reader.count + 1) {
+    match expected_run.close(reader.count + 1) {
         Ok(()) => Ok(Verdict::Same),
         Err(fault) => Ok(Verdict::Differs(fault)),
     }

@@ -25,7 +25,7 @@ mod verdict;
 use beside::{judge, pass_alike};
 use ivs_base::NoMemory;
 use lawful_history::records_tell_one_history;
-use link_model::{Course, Run, StepFault};
+use link_model::{ExpectedRun, Run, StepFault};
 pub use link_model::{Law, Unlawful};
 use record_text::{Reader, RecordFault, Trace};
 use std::alloc::Global;
@@ -60,15 +60,15 @@ pub fn replay_text(alloc: Global, bytes: &[u8]) -> Result<Verdict, RecordFault>
     ensures refused { IfErr result (λ fault. Refuses fault (answer bytes.now)) }
 {
     let (version, scenario, mut reader) = Reader::begin(alloc, bytes)?;
-    let mut course = match Course::new(alloc, &scenario, version) {
-        Ok(course) => course,
+    let mut expected_run = match ExpectedRun::new(alloc, &scenario, version) {
+        Ok(expected_run) => expected_run,
         Err(_) => return Err(RecordFault::NoMemory),
     };
-    match pass_alike(&mut course, &mut reader) {
+    match pass_alike(&mut expected_run, &mut reader) {
         Ok(()) => {}
         Err(_) => return Err(RecordFault::NoMemory),
     }
-    judge(alloc, &mut course, &mut reader)
+    judge(alloc, &mut expected_run, &mut reader)
 }
 
 /// Is this the text of a record of either version with the lawful history of its scenario? NoMemory says that memory ran out.

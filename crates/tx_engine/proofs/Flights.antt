@@ -10,32 +10,32 @@ use Rattle.split_ring.specs.Frames.{start_of}
 use Rattle.split_ring.proofs.Bounds.{bounds}
 use Rattle.split_ring.proofs.Frames.{frames_lem, mod_apart}
 use Rattle.frame_slots.specs.declared.slots.Slot as slots
-use Rattle.frame_slots.specs.Turns.{Turn, has_room_in, slot_for, with_placed, with_freed, oldest_of}
-use Rattle.frame_slots.specs.Rings.{StandsFor, IsOldest}
+use Rattle.frame_slots.specs.Allocator.{Allocator, has_room_in, next_slot, with_placed, with_freed, oldest_of}
+use Rattle.frame_slots.specs.Refinement.{RefinesSession, IsOldest}
 use Rattle.frame_slots.proofs.Rings.{turns_lem}
 use Rattle.frame_slots.proofs.Fitting.{few_of}
 use Rattle.call_grammar.specs.Words.{words_for}
-use Rattle.tx_engine.specs.Sender.{KeepsFlight, HasFlight}
+use Rattle.tx_engine.specs.Sender.{FlightRefinesSession, HasFlight}
 use Rattle.tx_engine.proofs.Counting.{fewer}
 
 -- whatever lengths follow
-pub told_flight : (t : Turn) (lengths : List ℕ) (length_of others : ℕ → ℕ) (freed sent : ℕ) → ((j : ℕ) → j < sent → length_of j ≡ others j) → KeepsFlight t lengths length_of freed sent →
-    KeepsFlight t lengths others freed sent
+pub told_flight : (t : Allocator) (lengths : List ℕ) (length_of others : ℕ → ℕ) (freed sent : ℕ) → ((j : ℕ) → j < sent → length_of j ≡ others j) → FlightRefinesSession t lengths length_of freed sent →
+    FlightRefinesSession t lengths others freed sent
 told_flight t lengths length_of others freed sent same h = record {
-  stands = turns_lem.told t length_of others freed sent same h.stands;
+  refines = turns_lem.by_prefix t length_of others freed sent same h.refines;
   kept = λ k from below. h.kept k from below ∙ same k below;
 }
 
 -- a frame is placed, and its length is kept
-pub placed_flight : (t : Turn) (lengths : List ℕ) (length_of : ℕ → ℕ) (freed sent bytes : ℕ) → IsQueue t.sizes → length lengths ≡ limit_of t.sizes → KeepsFlight t lengths length_of freed sent →
-    length_of sent ≡ bytes → 14 ≤ bytes → bytes ≤ t.sizes.mtu + 18 → has_room_in t bytes ≡ true → KeepsFlight (with_placed t bytes) (slice_set lengths t.next bytes) length_of freed (sent + 1)
+pub placed_flight : (t : Allocator) (lengths : List ℕ) (length_of : ℕ → ℕ) (freed sent bytes : ℕ) → IsQueue t.sizes → length lengths ≡ limit_of t.sizes → FlightRefinesSession t lengths length_of freed sent →
+    length_of sent ≡ bytes → 14 ≤ bytes → bytes ≤ t.sizes.mtu + 18 → has_room_in t bytes ≡ true → FlightRefinesSession (with_placed t bytes) (slice_set lengths t.next bytes) length_of freed (sent + 1)
 placed_flight t lengths length_of freed sent bytes queue sized h is least most room = record {
-  stands = subst (λ n. StandsFor (with_placed t n) length_of freed (sent + 1)) is
-      (turns_lem.goes_on t length_of freed sent queue h.stands (omega (arith, is, least)) (omega (arith, is, most)) (subst (λ n. has_room_in t n ≡ true) (sym is) room));
+  refines = subst (λ n. RefinesSession (with_placed t n) length_of freed (sent + 1)) is
+      (turns_lem.goes_on t length_of freed sent queue h.refines (omega (arith, is, least)) (omega (arith, is, most)) (subst (λ n. has_room_in t n ≡ true) (sym is) room));
   kept = λ k from below. dite (ℕ_discrete k sent)
       (λ e. ap (λ j. slice_index (set lengths t.next bytes) (j % limit_of t.sizes)) e ∙
-      (ap (slice_index (set lengths t.next bytes)) (sym h.stands.next) ∙ (get_or-set_same lengths t.next bytes 0 next_below ∙ (sym is ∙ ap length_of (sym e)))))
-      (λ ne. get_or-set_other lengths t.next (k % limit_of t.sizes) bytes 0 (λ same. mod_apart (limit_of t.sizes) k sent some (omega arith) (near k from) (same ∙ h.stands.next)) ∙
+      (ap (slice_index (set lengths t.next bytes)) (sym h.refines.next) ∙ (get_or-set_same lengths t.next bytes 0 next_below ∙ (sym is ∙ ap length_of (sym e)))))
+      (λ ne. get_or-set_other lengths t.next (k % limit_of t.sizes) bytes 0 (λ same. mod_apart (limit_of t.sizes) k sent some (omega arith) (near k from) (same ∙ h.refines.next)) ∙
       h.kept k from (omega arith));
 }
   where
@@ -43,37 +43,37 @@ placed_flight t lengths length_of freed sent bytes queue sized h is least most r
     some = (bounds t.sizes queue).limit_least
 
     next_below : t.next < length lengths
-    next_below = let b = mod_below sent (limit_of t.sizes) some in let n = h.stands.next in omega (arith, b, n, sized)
+    next_below = let b = mod_below sent (limit_of t.sizes) some in let n = h.refines.next in omega (arith, b, n, sized)
 
     near : (k : ℕ) → freed ≤ k → sent < k + limit_of t.sizes
-    near k from = let few = few_of t bytes room in let all = h.stands.in_flight in omega (arith, few, all, from)
+    near k from = let few = few_of t bytes room in let all = h.refines.in_flight in omega (arith, few, all, from)
 
 -- the oldest one is freed
-pub freed_flight : (t : Turn) (lengths : List ℕ) (length_of : ℕ → ℕ) (freed sent bytes : ℕ) → KeepsFlight t lengths length_of freed sent → freed < sent → length_of freed ≡ bytes →
-    KeepsFlight (with_freed t bytes) lengths length_of (freed + 1) sent
+pub freed_flight : (t : Allocator) (lengths : List ℕ) (length_of : ℕ → ℕ) (freed sent bytes : ℕ) → FlightRefinesSession t lengths length_of freed sent → freed < sent → length_of freed ≡ bytes →
+    FlightRefinesSession (with_freed t bytes) lengths length_of (freed + 1) sent
 freed_flight t lengths length_of freed sent bytes h some is = record {
-  stands = subst (λ n. StandsFor (with_freed t n) length_of (freed + 1) sent) is (turns_lem.frees t length_of freed sent h.stands some);
+  refines = subst (λ n. RefinesSession (with_freed t n) length_of (freed + 1) sent) is (turns_lem.frees t length_of freed sent h.refines some);
   kept = λ k from below. h.kept k (omega arith) below;
 }
 
 -- the descriptor of the oldest frame, and its length
-pub oldest_of_flight : (t : Turn) (length_of : ℕ → ℕ) (freed sent : ℕ) → StandsFor t length_of freed sent → oldest_of t ≡ freed % limit_of t.sizes
+pub oldest_of_flight : (t : Allocator) (length_of : ℕ → ℕ) (freed sent : ℕ) → RefinesSession t length_of freed sent → oldest_of t ≡ freed % limit_of t.sizes
 oldest_of_flight t length_of freed sent h =
     let all = h.in_flight in let most = h.most in
     let left : sent - t.in_flight ≡ freed = omega arith in
     ap (λ n. (n + limit_of t.sizes - t.in_flight) % limit_of t.sizes) h.next ∙ (fewer sent (limit_of t.sizes) t.in_flight (omega arith) most ∙ ap (λ n. n % limit_of t.sizes) left)
 
-pub oldest_kept : (t : Turn) (lengths : List ℕ) (length_of : ℕ → ℕ) (freed sent : ℕ) → KeepsFlight t lengths length_of freed sent → freed < sent → slice_index lengths (oldest_of t) ≡ length_of freed
-oldest_kept t lengths length_of freed sent h some = ap (slice_index lengths) (oldest_of_flight t length_of freed sent h.stands) ∙ h.kept freed (omega arith) some
+pub oldest_kept : (t : Allocator) (lengths : List ℕ) (length_of : ℕ → ℕ) (freed sent : ℕ) → FlightRefinesSession t lengths length_of freed sent → freed < sent → slice_index lengths (oldest_of t) ≡ length_of freed
+oldest_kept t lengths length_of freed sent h some = ap (slice_index lengths) (oldest_of_flight t length_of freed sent h.refines) ∙ h.kept freed (omega arith) some
 
-pub oldest_is_kept : (t : Turn) (lengths : List ℕ) → HasFlight t lengths → 0 < t.in_flight → IsOldest t (slice_index lengths (oldest_of t))
+pub oldest_is_kept : (t : Allocator) (lengths : List ℕ) → HasFlight t lengths → 0 < t.in_flight → IsOldest t (slice_index lengths (oldest_of t))
 oldest_is_kept t lengths (length_of, freed, sent, h) some =
-    let all = h.stands.in_flight in
-    (length_of, freed, sent, h.stands, omega (arith, all, some), sym (oldest_kept t lengths length_of freed sent h (omega (arith, all, some))))
+    let all = h.refines.in_flight in
+    (length_of, freed, sent, h.refines, omega (arith, all, some), sym (oldest_kept t lengths length_of freed sent h (omega (arith, all, some))))
 
-pub flight_freed : (t : Turn) (lengths : List ℕ) → HasFlight t lengths → 0 < t.in_flight → HasFlight (with_freed t (slice_index lengths (oldest_of t))) lengths
+pub flight_freed : (t : Allocator) (lengths : List ℕ) → HasFlight t lengths → 0 < t.in_flight → HasFlight (with_freed t (slice_index lengths (oldest_of t))) lengths
 flight_freed t lengths (length_of, freed, sent, h) some =
-    let all = h.stands.in_flight in
+    let all = h.refines.in_flight in
     let lt : freed < sent = omega (arith, all, some) in
     (length_of, freed + 1, sent, freed_flight t lengths length_of freed sent _ h lt (sym (oldest_kept t lengths length_of freed sent h lt)))
 
@@ -87,7 +87,7 @@ next_is length_of sent bytes = ap (λ b. cond b bytes (length_of sent)) (eq-eqb 
 before_is : (length_of : ℕ → ℕ) (sent bytes k : ℕ) → k < sent → length_of k ≡ with_next length_of sent bytes k
 before_is length_of sent bytes k lt = sym (ap (λ b. cond b bytes (length_of k)) (ne_eqb k sent (λ e. omega arith)))
 
-pub flight_placed : (t : Turn) (lengths : List ℕ) (bytes : ℕ) → IsQueue t.sizes → length lengths ≡ limit_of t.sizes → HasFlight t lengths → 14 ≤ bytes → bytes ≤ t.sizes.mtu + 18 → has_room_in t bytes ≡ true →
+pub flight_placed : (t : Allocator) (lengths : List ℕ) (bytes : ℕ) → IsQueue t.sizes → length lengths ≡ limit_of t.sizes → HasFlight t lengths → 14 ≤ bytes → bytes ≤ t.sizes.mtu + 18 → has_room_in t bytes ≡ true →
     HasFlight (with_placed t bytes) (slice_set lengths t.next bytes)
 flight_placed t lengths bytes queue sized (length_of, freed, sent, h) least most room = (
   with_next length_of sent bytes,
@@ -98,14 +98,14 @@ flight_placed t lengths bytes queue sized (length_of, freed, sent, h) least most
 )
 
 -- the words of a placed frame stand inside the section
-pub slot_holds : (t : Turn) (lengths : List ℕ) (bytes : ℕ) → IsQueue t.sizes → HasFlight t lengths → 14 ≤ bytes → bytes ≤ t.sizes.mtu + 18 → has_room_in t bytes ≡ true →
-    ((slot_for t bytes).address % 4 ≡ 0) × ((slot_for t bytes).address + 4 * words_for bytes ≤ t.sizes.out)
+pub slot_holds : (t : Allocator) (lengths : List ℕ) (bytes : ℕ) → IsQueue t.sizes → HasFlight t lengths → 14 ≤ bytes → bytes ≤ t.sizes.mtu + 18 → has_room_in t bytes ≡ true →
+    ((next_slot t bytes).address % 4 ≡ 0) × ((next_slot t bytes).address + 4 * words_for bytes ≤ t.sizes.out)
 slot_holds t lengths bytes queue (length_of, freed, sent, h) least most room =
     let now = with_next length_of sent bytes in
     let is = next_is length_of sent bytes in
-    let told = told_flight t lengths length_of now freed sent (λ j lt. before_is length_of sent bytes j lt) h in
-    let place = turns_lem.places t now freed sent queue told.stands (omega (arith, is, least)) (omega (arith, is, most)) (subst (λ n. has_room_in t n ≡ true) (sym is) room) in
-    let address : (slot_for t bytes).address ≡ start_of t.sizes now sent = ap (λ n. (slot_for t n).address) (sym is) ∙ ap (λ (s : slots.Slot). s.address) place in
+    let place_after_index = told_flight t lengths length_of now freed sent (λ j lt. before_is length_of sent bytes j lt) h in
+    let place = turns_lem.places t now freed sent queue place_after_index.refines (omega (arith, is, least)) (omega (arith, is, most)) (subst (λ n. has_room_in t n ≡ true) (sym is) room) in
+    let address : (next_slot t bytes).address ≡ start_of t.sizes now sent = ap (λ n. (next_slot t n).address) (sym is) ∙ ap (λ (s : slots.Slot). s.address) place in
     let placed = frames_lem.placed t.sizes now sent queue in
     let even = placed.even in
     let holds = placed.holds (omega (arith, is, most)) in

@@ -6,7 +6,7 @@ pub mod Reading
 pub mod Fields
 pub mod Writing
 pub mod Keeping
-pub mod Filling
+pub mod WritingFrameWord
 pub mod Entering
 pub mod Padding
 pub mod Stretching

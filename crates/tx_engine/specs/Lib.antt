@@ -1,5 +1,5 @@
 pub mod Sender
-pub mod Reads
+pub mod Continuations
 pub mod Ahead
-pub mod Stands
-pub mod Kept
+pub mod Refinement
+pub mod Representation

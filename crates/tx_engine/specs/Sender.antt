@@ -4,11 +4,11 @@ use Rattle.split_ring.specs.declared.steps.Access.{Access}
 use Rattle.split_ring.specs.declared.steps.Access.TheVariants as access
 use Rattle.split_ring.specs.Layout.{Sizes, IsQueue, HasBounds, size_of, limit_of}
 use Rattle.frame_slots.specs.declared.slots.Slot as slots
-use Rattle.frame_slots.specs.Turns.{Turn}
-use Rattle.frame_slots.specs.Rings.{StandsFor}
+use Rattle.frame_slots.specs.Allocator.{Allocator}
+use Rattle.frame_slots.specs.Refinement.{RefinesSession}
 use Rattle.call_grammar.specs.Words.{words_for, with_entry}
 use Rattle.tx_engine.specs.declared.place.Place.{Place}
-use Rattle.tx_engine.specs.declared.place.Place.TheVariants.{Closed, AtUsedIndex, AtUsedId, Filling, WritingLow, WritingHigh, WritingLength, WritingFlags, WritingEntry, WritingIndex}
+use Rattle.tx_engine.specs.declared.place.Place.TheVariants.{Closed, ReadingUsedIndex, ReadingUsedId, WritingFrameWord, WritingDescAddressLow, WritingDescAddressHigh, WritingDescLength, WritingDescFlags, WritingAvailEntry, WritingAvailIndex}
 
 -- the sizes of the queue, the first words of the two sections, and whom it rings by which vector; the frames accepted modulo 65,536, the next
 -- descriptor and the frames in flight, with their bytes of the ring and, by descriptor, their lengths; the own copy of the entry words; the
@@ -31,17 +31,17 @@ pub record Sender : Type 0 where
   pub place : Place
 
 -- its slots
-abbrev pub turn_of : Sender → Turn
-turn_of tx = record { sizes = tx.sizes; next = tx.next; in_flight = tx.in_flight; head = tx.head; tail = tx.tail; left = tx.left }
+abbrev pub allocator_of : Sender → Allocator
+allocator_of tx = record { sizes = tx.sizes; next = tx.next; in_flight = tx.in_flight; head = tx.head; tail = tx.tail; left = tx.left }
 
 -- the slots stand for the frames from `freed` on and below `sent` of a session with these lengths, and the length of each is kept by its descriptor
-pub record KeepsFlight (t : Turn) (lengths : List ℕ) (length_of : ℕ → ℕ) (freed sent : ℕ) : Type 0 where
-  pub stands : StandsFor t length_of freed sent
+pub record FlightRefinesSession (t : Allocator) (lengths : List ℕ) (length_of : ℕ → ℕ) (freed sent : ℕ) : Type 0 where
+  pub refines : RefinesSession t length_of freed sent
   pub kept : (k : ℕ) → freed ≤ k → k < sent → slice_index lengths (k % limit_of t.sizes) ≡ length_of k
 
 -- so it is for some session
-abbrev pub HasFlight : Turn → List ℕ → Type 0
-HasFlight t lengths = (length_of : ℕ → ℕ) × (freed : ℕ) × (sent : ℕ) × KeepsFlight t lengths length_of freed sent
+abbrev pub HasFlight : Allocator → List ℕ → Type 0
+HasFlight t lengths = (length_of : ℕ → ℕ) × (freed : ℕ) × (sent : ℕ) × FlightRefinesSession t lengths length_of freed sent
 
 -- an offer is open
 abbrev pub is_open : Place → Bool
@@ -50,8 +50,8 @@ is_open _ = true
 
 -- how many of the coming accesses write the words that are left of the frame, or the four words of its descriptor
 abbrev pub writes_ahead : Place → ℕ
-writes_ahead (Filling slot at more) = more + 1
-writes_ahead (WritingLow slot) = 4
+writes_ahead (WritingFrameWord slot at more) = more + 1
+writes_ahead (WritingDescAddressLow slot) = 4
 writes_ahead _ = 0
 
 -- a frame that may be offered
@@ -66,15 +66,15 @@ HasSlot tx slot =
 
 -- what holds at a place of the offer
 abbrev pub IsPlace : Sender → Place → Type 0
-IsPlace tx AtUsedIndex = IsFrame tx.sizes tx.frame
-IsPlace tx (AtUsedId more) = (more < tx.in_flight) × IsFrame tx.sizes tx.frame
-IsPlace tx (Filling slot at more) = HasSlot tx slot × (at + more + 1 ≡ words_for (length tx.frame))
-IsPlace tx (WritingLow slot) = HasSlot tx slot
-IsPlace tx (WritingHigh slot) = HasSlot tx slot
-IsPlace tx (WritingLength slot) = HasSlot tx slot
-IsPlace tx (WritingFlags slot) = HasSlot tx slot
-IsPlace tx (WritingEntry slot) = HasSlot tx slot
-IsPlace tx WritingIndex = 0 < tx.in_flight
+IsPlace tx ReadingUsedIndex = IsFrame tx.sizes tx.frame
+IsPlace tx (ReadingUsedId more) = (more < tx.in_flight) × IsFrame tx.sizes tx.frame
+IsPlace tx (WritingFrameWord slot at more) = HasSlot tx slot × (at + more + 1 ≡ words_for (length tx.frame))
+IsPlace tx (WritingDescAddressLow slot) = HasSlot tx slot
+IsPlace tx (WritingDescAddressHigh slot) = HasSlot tx slot
+IsPlace tx (WritingDescLength slot) = HasSlot tx slot
+IsPlace tx (WritingDescFlags slot) = HasSlot tx slot
+IsPlace tx (WritingAvailEntry slot) = HasSlot tx slot
+IsPlace tx WritingAvailIndex = 0 < tx.in_flight
 IsPlace tx _ = Unit {0}
 
 -- both sections end at or before word number 4,194,304, the entry words are half as many as the entries, and a length is kept for each descriptor
@@ -88,7 +88,7 @@ pub record IsSender (tx : Sender) : Type 0 where
   pub next : tx.next < limit_of tx.sizes
   pub in_flight : tx.in_flight ≤ limit_of tx.sizes
   pub lengths : length tx.lengths ≡ limit_of tx.sizes
-  pub flight : HasFlight (turn_of tx) tx.lengths
+  pub flight : HasFlight (allocator_of tx) tx.lengths
   pub place : IsPlace tx tx.place
 
 -- the word of the next entry where that names this descriptor, with the own copy of the other half

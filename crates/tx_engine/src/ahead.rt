@@ -2,7 +2,7 @@
 
 /// Some words that come one after the other in the region.
 #[derive(Clone, Copy, Debug, PartialEq, Eq)]
-pub struct Stretch {
+pub struct Burst {
     /// The number of the first word, from the base of the region.
     pub word: u32,
     /// How many words these are.
@@ -11,11 +11,11 @@ pub struct Stretch {
 
 /// The words that an offer writes before its index, from a word of the frame on, in their order.
 #[derive(Clone, Copy, Debug, PartialEq, Eq)]
-pub struct Stretches {
+pub struct Bursts {
     /// Those that are left of the frame.
-    pub frame: Stretch,
+    pub frame: Burst,
     /// The four of its descriptor.
-    pub descriptor: Stretch,
+    pub descriptor: Burst,
     /// The one with its entry.
-    pub entry: Stretch,
+    pub entry: Burst,
 }

@@ -19,5 +19,5 @@ mod ahead;
 mod place;
 mod tx;
 
-pub use ahead::{Stretch, Stretches};
-pub use tx::{Tx, closed_stays};
+pub use ahead::{Burst, Bursts};
+pub use tx::{Tx, idle_engine_outlives_steps};

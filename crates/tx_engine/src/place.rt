@@ -1,7 +1,7 @@
 //! Where an offer is.
 ghost use Rattle.std.specs.Prelude.{◌≡◌, ◌+◌, ◌-◌, ◌<◌, ◌≤◌, ◌++◌, length};
 ghost use Rattle.split_ring.specs.Layout.{limit_of};
-ghost use Rattle.tx_engine.specs.Reads.{GoesOn, described, full_notes, told};
+ghost use Rattle.tx_engine.specs.Continuations.{GoesOn, descriptor_place_of, full_notes, place_after_index};
 
 use frame_slots::{Slot, Slots};
 use split_ring::steps::{Note, Notes};
@@ -18,14 +18,14 @@ pub enum Place {
     /// Before the State step of a refusal.
     Refusing,
     /// Before the read of the used index.
-    AtUsedIndex,
+    ReadingUsedIndex,
     /// Before the read of the oldest frame's id, with so many more ids to come.
-    AtUsedId {
+    ReadingUsedId {
         /// How many ids come after this one.
         more: u32,
     },
     /// Before the write of a word of the frame.
-    Filling {
+    WritingFrameWord {
         /// The slot of the frame.
         slot: Slot,
         /// The number of the word in the frame.
@@ -34,19 +34,19 @@ pub enum Place {
         more: u32,
     },
     /// Before the write of the low word of the descriptor's address.
-    WritingLow(Slot),
+    WritingDescAddressLow(Slot),
     /// Before the write of its high word.
-    WritingHigh(Slot),
+    WritingDescAddressHigh(Slot),
     /// Before the write of the descriptor's length.
-    WritingLength(Slot),
+    WritingDescLength(Slot),
     /// Before the write of the descriptor's flags.
-    WritingFlags(Slot),
+    WritingDescFlags(Slot),
     /// Before the write of the entry.
-    WritingEntry(Slot),
+    WritingAvailEntry(Slot),
     /// Before the write of the index.
-    WritingIndex,
+    WritingAvailIndex,
     /// Before the read of the other's event, in a link with events.
-    AtEvent,
+    ReadingAvailEvent,
     /// Before the doorbell.
     Ringing,
 }
@@ -62,14 +62,14 @@ pub fn note_full(place: Place, notes: &mut Notes)
 }
 
 /// The place before word `at` of the frame in its slot, where so many words are to come, or after its last word.
-pub fn filling(slot: Slot, at: u32, count: u32) -> Place
-    ensures word { 0 < count → result ≡ Place.Filling slot at (count - 1) }
-    ensures after { count ≡ 0 → result ≡ Place.WritingLow slot }
+pub fn frame_place(slot: Slot, at: u32, count: u32) -> Place
+    ensures word { 0 < count → result ≡ Place.WritingFrameWord slot at (count - 1) }
+    ensures after { count ≡ 0 → result ≡ Place.WritingDescAddressLow slot }
 {
     if count == 0 {
-        return Place::WritingLow(slot);
+        return Place::WritingDescAddressLow(slot);
     }
-    Place::Filling {
+    Place::WritingFrameWord {
         slot,
         at,
         more: count - 1,
@@ -77,24 +77,24 @@ pub fn filling(slot: Slot, at: u32, count: u32) -> Place
 }
 
 /// The place after so many writes of a descriptor's words.
-pub fn describing(slot: Slot, count: u32) -> Place
-    ensures { result ≡ described slot count }
+pub fn descriptor_place(slot: Slot, count: u32) -> Place
+    ensures { result ≡ descriptor_place_of slot count }
 {
     match count {
-        0 => Place::WritingLow(slot),
-        1 => Place::WritingHigh(slot),
-        2 => Place::WritingLength(slot),
-        3 => Place::WritingFlags(slot),
-        _ => Place::WritingEntry(slot),
+        0 => Place::WritingDescAddressLow(slot),
+        1 => Place::WritingDescAddressHigh(slot),
+        2 => Place::WritingDescLength(slot),
+        3 => Place::WritingDescFlags(slot),
+        _ => Place::WritingAvailEntry(slot),
     }
 }
 
 /// The place after the write of the index, in a link with events or without them.
-pub fn told(events: bool) -> Place
-    ensures { result ≡ told events }
+pub fn place_after_index(events: bool) -> Place
+    ensures { result ≡ place_after_index events }
 {
     if events {
-        Place::AtEvent
+        Place::ReadingAvailEvent
     } else {
         Place::Ringing
     }
@@ -109,12 +109,12 @@ pub fn offer_after_ids(slots: &mut Slots, lengths: &mut [u32], bytes: u32, ids: 
     ensures { GoesOn slots.old lengths.old bytes ids result slots.new lengths.new }
 {
     if ids > 0 {
-        return Place::AtUsedId { more: ids - 1 };
+        return Place::ReadingUsedId { more: ids - 1 };
     }
     match slots.place(bytes) {
         Some(slot) => {
             lengths[slot.descriptor as usize] = bytes;
-            filling(slot, 0, bytes.div_ceil(4))
+            frame_place(slot, 0, bytes.div_ceil(4))
         }
         None => Place::Closed,
     }

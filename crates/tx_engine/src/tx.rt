@@ -2,20 +2,22 @@
 ghost use Rattle.std.specs.Prelude.{◌≡◌, ℕ, ◌+◌, ◌-◌, ◌*◌, ◌%◌, ◌<◌, ◌≤◌, ◌^◌, IfOk, IfSome, None, true, false, List, [], ◌∷◌, ◌++◌, length, take, replicate};
 ghost use Rattle.split_ring.specs.Layout.{size_of, limit_of};
 ghost use Rattle.call_grammar.specs.Ends.{End};
-ghost use Rattle.call_grammar.specs.Ticks.{Who};
+ghost use Rattle.call_grammar.specs.Ticks.{EndConfig};
 ghost use Rattle.call_grammar.specs.Calls.{Offer};
 ghost use Rattle.call_grammar.specs.Places as laws;
-ghost use Rattle.call_grammar.specs.Reach.{HasSections, InReach};
+ghost use Rattle.call_grammar.specs.Reach.{HasSections, IsPermittedAccess};
 ghost use Rattle.call_grammar.specs.Words.{words_for, frame_word, word_bytes};
-ghost use Rattle.call_grammar.specs.Stretches.{Each, WritesOn};
+ghost use Rattle.call_grammar.specs.Bursts.{StepsThrough, WritesBurst};
 ghost use Rattle.call_grammar.specs.Orders.{word_kind};
 ghost use Rattle.link_handshake.specs.declared.Phase.TheVariants.{Run};
 ghost use Rattle.tx_engine.specs.Sender.{IsSender, fresh_sender, is_open, writes_ahead, IsFrame, IsPlace, IsInReach, entry_word_of};
-ghost use Rattle.tx_engine.specs.Ahead.{stretches_of, words_of, listed, last_words, WritesAll};
-ghost use Rattle.tx_engine.specs.Stands.{StandsAt, Takes, TakesOn, IsMadeFor, IsFreshSession, ClosedStays};
+ghost use Rattle.tx_engine.specs.Ahead.{bursts_of, words_of, listed, last_words, WritesAll};
+ghost use Rattle.tx_engine.specs.Refinement.{RefinesAt, TakesStep, StaysOpen, IsMadeFor, IsFreshSession, IdleEngineOutlivesSteps};
 
-use crate::ahead::{Stretch, Stretches};
-use crate::place::{Place, describing, filling, note_full, offer_after_ids, told};
+use crate::ahead::{Burst, Bursts};
+use crate::place::{
+    Place, descriptor_place, frame_place, note_full, offer_after_ids, place_after_index,
+};
 use frame_slots::{Slot, Slots};
 use ivs_base::{NoMemory, plus, word_of};
 use split_ring::steps::{Access, Note, Notes, WordKind, leaving};
@@ -45,14 +47,14 @@ pub struct Tx {
 }
 
 impl Model for Tx {
-    ghost use Rattle.tx_engine.specs.Kept.{sender_of, IsKept};
+    ghost use Rattle.tx_engine.specs.Representation.{sender_of, IsWellFormed};
     ghost use Rattle.tx_engine.specs.Sender.{Sender};
 
     ghost Value = { Sender };
 
     ghost view = { sender_of };
 
-    ghost invariant = { IsKept };
+    ghost invariant = { IsWellFormed };
 }
 
 impl Tx {
@@ -70,7 +72,7 @@ impl Tx {
         requires own { 4 * own + queue.now.out ≤ 2 ^ 24 }
         requires theirs { 4 * theirs + queue.now.out ≤ 2 ^ 24 }
         ensures value { IfOk result (λ tx. tx ≡ fresh_sender queue.now own theirs target vector) }
-        ensures stands { IfOk result (λ tx. (who : Who) (end : End) → IsMadeFor tx who → IsFreshSession who end → StandsAt tx who end laws.Closed) }
+        ensures refines { IfOk result (λ tx. (config : EndConfig) (end : End) → IsMadeFor tx config → IsFreshSession config end → RefinesAt tx config end laws.Closed) }
     {
         let lengths = Vec::from_elem(alloc, 0, queue.limit() as usize)?;
         let entries = Vec::from_elem(alloc, 0, (queue.size() / 2) as usize)?;
@@ -95,7 +97,7 @@ impl Tx {
     pub fn busy(&self) -> bool
         ensures open { result ≡ is_open self.now.place }
         ensures bounds { IsSender self.now }
-        ensures place { (who : Who) (end : End) (place : laws.Place) → StandsAt self.now who end place → result ≡ laws.is_open place }
+        ensures place { (config : EndConfig) (end : End) (place : laws.Place) → RefinesAt self.now config end place → result ≡ laws.is_open place }
     {
         !matches!(self.place, Place::Closed)
     }
@@ -119,57 +121,63 @@ impl Tx {
     pub fn begin(&mut self, frame: &[u8])
         requires closed { is_open self.old.place ≡ false }
         requires frame { IsFrame self.old.sizes frame.now }
-        ensures stands { (who : Who) (end : End) → StandsAt self.old who end laws.Closed → end.handshake.phase ≡ Run →
-            StandsAt self.new who end (laws.first_place who end (Offer frame.now)) }
-        ensures value { self.new ≡ record self.old { frame = frame.now; place = Place.AtUsedIndex } }
+        ensures refines { (config : EndConfig) (end : End) → RefinesAt self.old config end laws.Closed → end.handshake.phase ≡ Run →
+            RefinesAt self.new config end (laws.first_place config end (Offer frame.now)) }
+        ensures value { self.new ≡ record self.old { frame = frame.now; place = Place.ReadingUsedIndex } }
     {
         put_first(&mut self.buffer, frame);
         self.length = frame.len() as u32;
-        self.place = Place::AtUsedIndex;
+        self.place = Place::ReadingUsedIndex;
     }
 
     /// Opens an offer of the frame of the last one since `reset` again, which isn't copied. The end is in RUN.
     pub fn begin_again(&mut self)
         requires closed { is_open self.old.place ≡ false }
         requires some { 14 ≤ length self.old.frame }
-        ensures stands { (who : Who) (end : End) → StandsAt self.old who end laws.Closed → end.handshake.phase ≡ Run →
-            StandsAt self.new who end (laws.first_place who end (Offer self.old.frame)) }
-        ensures value { self.new ≡ record self.old { place = Place.AtUsedIndex } }
+        ensures refines { (config : EndConfig) (end : End) → RefinesAt self.old config end laws.Closed → end.handshake.phase ≡ Run →
+            RefinesAt self.new config end (laws.first_place config end (Offer self.old.frame)) }
+        ensures value { self.new ≡ record self.old { place = Place.ReadingUsedIndex } }
     {
-        self.place = Place::AtUsedIndex;
+        self.place = Place::ReadingUsedIndex;
     }
 
     /// The next access of the open offer.
     pub fn next(&self) -> Access
         requires { is_open self.now.place ≡ true }
-        ensures access { (who : Who) (end : End) (place : laws.Place) → StandsAt self.now who end place → result ≡ laws.access_at who place }
+        ensures access { (config : EndConfig) (end : End) (place : laws.Place) → RefinesAt self.now config end place → result ≡ laws.access_at config place }
         ensures reach { IsInReach self.now result }
-        ensures lawful { (who : Who) → IsMadeFor self.now who → HasSections who → InReach who result }
+        ensures lawful { (config : EndConfig) → IsMadeFor self.now config → HasSections config → IsPermittedAccess config result }
     {
         let queue = &self.queue;
         match self.place {
-            Place::AtUsedIndex => self.read(queue.used_word()),
-            Place::AtUsedId { .. } => self.read(queue.used_id(u32::from(self.freed()))),
-            Place::Filling { slot, at, .. } => self.write(
+            Place::ReadingUsedIndex => self.read(queue.used_word()),
+            Place::ReadingUsedId { .. } => self.read(queue.used_id(u32::from(self.freed()))),
+            Place::WritingFrameWord { slot, at, .. } => self.write(
                 slot.address / 4 + at,
                 self.frame_word(at),
             ),
-            Place::WritingLow(slot) => self.write(queue.descriptor(slot.descriptor), slot.address),
-            Place::WritingHigh(slot) => self.write(queue.descriptor(slot.descriptor) + 1, 0),
-            Place::WritingLength(slot) => self.write(
+            Place::WritingDescAddressLow(slot) => self.write(
+                queue.descriptor(slot.descriptor),
+                slot.address,
+            ),
+            Place::WritingDescAddressHigh(slot) => self.write(
+                queue.descriptor(slot.descriptor) + 1,
+                0,
+            ),
+            Place::WritingDescLength(slot) => self.write(
                 queue.descriptor(slot.descriptor) + 2,
                 self.length,
             ),
-            Place::WritingFlags(slot) => self.write(queue.descriptor(slot.descriptor) + 3, 0),
-            Place::WritingEntry(slot) => {
+            Place::WritingDescFlags(slot) => self.write(queue.descriptor(slot.descriptor) + 3, 0),
+            Place::WritingAvailEntry(slot) => {
                 let entry = queue.entry_word(u32::from(self.accepted));
                 self.write(entry, self.entry_word(slot.descriptor))
             }
-            Place::WritingIndex => {
+            Place::WritingAvailIndex => {
                 let index = u32::from(plus(self.accepted, 1));
                 self.write(queue.avail_word(), 65_536 * index)
             }
-            Place::AtEvent => self.read(queue.avail_event_word()),
+            Place::ReadingAvailEvent => self.read(queue.avail_event_word()),
             Place::Ringing => Access::Ring {
                 target: self.target,
                 vector: self.vector,
@@ -182,7 +190,7 @@ impl Tx {
     /// Takes the step of the access that `next` gave, with the value that a read gave.
     pub fn took(&mut self, value: u32) -> Notes
         requires { is_open self.old.place ≡ true }
-        ensures { Takes self.old value result.items self.new }
+        ensures { TakesStep self.old value result.items self.new }
     {
         let mut notes = Notes::new();
         self.took_into(value, &mut notes);
@@ -193,19 +201,23 @@ impl Tx {
     pub fn took_into(&mut self, value: u32, notes: &mut Notes)
         requires open { is_open self.old.place ≡ true }
         requires empty { notes.old.items ≡ [] }
-        ensures { Takes self.old value notes.new.items self.new }
+        ensures { TakesStep self.old value notes.new.items self.new }
     {
         match self.place {
-            Place::AtUsedIndex => self.took_index(value, notes),
-            Place::AtUsedId { more } => self.took_id(more, value, notes),
-            Place::Filling { slot, at, more } => self.go_on(filling(slot, at + 1, more)),
-            Place::WritingLow(slot) => self.go_on(Place::WritingHigh(slot)),
-            Place::WritingHigh(slot) => self.go_on(Place::WritingLength(slot)),
-            Place::WritingLength(slot) => self.go_on(Place::WritingFlags(slot)),
-            Place::WritingFlags(slot) => self.go_on(Place::WritingEntry(slot)),
-            Place::WritingEntry(slot) => self.enter(slot),
-            Place::WritingIndex => self.wrote_index(notes),
-            Place::AtEvent => self.took_event(value, notes),
+            Place::ReadingUsedIndex => self.took_index(value, notes),
+            Place::ReadingUsedId { more } => self.took_id(more, value, notes),
+            Place::WritingFrameWord { slot, at, more } => self.go_on(frame_place(
+                slot,
+                at + 1,
+                more,
+            )),
+            Place::WritingDescAddressLow(slot) => self.go_on(Place::WritingDescAddressHigh(slot)),
+            Place::WritingDescAddressHigh(slot) => self.go_on(Place::WritingDescLength(slot)),
+            Place::WritingDescLength(slot) => self.go_on(Place::WritingDescFlags(slot)),
+            Place::WritingDescFlags(slot) => self.go_on(Place::WritingAvailEntry(slot)),
+            Place::WritingAvailEntry(slot) => self.write_avail_entry(slot),
+            Place::WritingAvailIndex => self.wrote_index(notes),
+            Place::ReadingAvailEvent => self.took_event(value, notes),
             Place::Ringing => self.end(notes),
             Place::Refusing => self.end(notes),
             Place::Closed => unreachable!(),
@@ -214,12 +226,12 @@ impl Tx {
 
     /// What the word of the next access is to the order of memory.
     pub fn word_kind(&self) -> WordKind
-        ensures { (who : Who) (end : End) (place : laws.Place) → StandsAt self.now who end place → result ≡ word_kind place }
+        ensures { (config : EndConfig) (end : End) (place : laws.Place) → RefinesAt self.now config end place → result ≡ word_kind place }
     {
         match self.place {
-            Place::AtUsedIndex => WordKind::IndexRead,
-            Place::WritingIndex => WordKind::IndexWrite,
-            Place::AtEvent => WordKind::EventRead,
+            Place::ReadingUsedIndex => WordKind::IndexRead,
+            Place::WritingAvailIndex => WordKind::IndexWrite,
+            Place::ReadingAvailEvent => WordKind::EventRead,
             _ => WordKind::Plain,
         }
     }
@@ -230,8 +242,8 @@ impl Tx {
         ensures { result ≡ writes_ahead self.now.place }
     {
         match self.place {
-            Place::Filling { more, .. } => more + 1,
-            Place::WritingLow(_) => 4,
+            Place::WritingFrameWord { more, .. } => more + 1,
+            Place::WritingDescAddressLow(_) => 4,
             _ => 0,
         }
     }
@@ -240,33 +252,33 @@ impl Tx {
     pub fn words(&self, into: &mut [u8])
         requires whole { length into.old % 4 ≡ 0 }
         requires within { length into.old ≤ 4 * writes_ahead self.now.place }
-        ensures writes { (who : Who) (end : End) (place : laws.Place) (word value : ℕ) → StandsAt self.now who end place →
-            laws.access_at who place ≡ Access.Write word value → WritesOn who place word into.new }
+        ensures writes { (config : EndConfig) (end : End) (place : laws.Place) (word value : ℕ) → RefinesAt self.now config end place →
+            laws.access_at config place ≡ Access.Write word value → WritesBurst config place word into.new }
         ensures sized { length into.new ≡ length into.old }
     {
         match self.place {
-            Place::Filling { at, .. } => {
+            Place::WritingFrameWord { at, .. } => {
                 let length = self.length as usize;
                 let start = 4 * at as usize;
                 copy_padded(into, &self.buffer[start..length]);
             }
-            Place::WritingLow(slot) => put_descriptor(into, slot.address, self.length),
+            Place::WritingDescAddressLow(slot) => put_descriptor(into, slot.address, self.length),
             _ => {}
         }
     }
 
     /// Takes the steps of so many of the writes that `writes_ahead` tells at once. It is the same as `took` so many times.
-    pub fn took_written(&mut self, count: u32)
+    pub fn took_writes(&mut self, count: u32)
         requires some { 0 < count }
         requires within { count ≤ writes_ahead self.old.place }
-        ensures { (values : List ℕ) → length values ≡ count → Each TakesOn self.old values [] self.new }
+        ensures { (values : List ℕ) → length values ≡ count → StepsThrough StaysOpen self.old values [] self.new }
     {
         match self.place {
-            Place::Filling { slot, at, more } => {
-                self.place = filling(slot, at + count, more + 1 - count);
+            Place::WritingFrameWord { slot, at, more } => {
+                self.place = frame_place(slot, at + count, more + 1 - count);
             }
-            Place::WritingLow(slot) => {
-                self.place = describing(slot, count);
+            Place::WritingDescAddressLow(slot) => {
+                self.place = descriptor_place(slot, count);
             }
             _ => unreachable!(),
         }
@@ -274,28 +286,28 @@ impl Tx {
 
     /// Which words are written before the index: those that are left of the frame, those of its descriptor and that of its entry, one behind
     /// the other and with no note. None where no word of the frame is next.
-    pub fn stretches(&self) -> Option<Stretches>
-        ensures { result ≡ stretches_of self.now }
+    pub fn bursts(&self) -> Option<Bursts>
+        ensures { result ≡ bursts_of self.now }
     {
-        let Place::Filling { slot, at, more } = self.place else {
+        let Place::WritingFrameWord { slot, at, more } = self.place else {
             return None;
         };
         let queue = &self.queue;
-        Some(Stretches {
-            frame: self.stretch(slot.address / 4 + at, more + 1),
-            descriptor: self.stretch(queue.descriptor(slot.descriptor), 4),
-            entry: self.stretch(queue.entry_word(u32::from(self.accepted)), 1),
+        Some(Bursts {
+            frame: self.burst(slot.address / 4 + at, more + 1),
+            descriptor: self.burst(queue.descriptor(slot.descriptor), 4),
+            entry: self.burst(queue.entry_word(u32::from(self.accepted)), 1),
         })
     }
 
-    /// Puts all the words that `stretches` tells into `into`, each as its four bytes, the lowest first.
-    pub fn stretch_words(&self, into: &mut [u8])
-        requires sized { length into.old ≡ 4 * words_of (stretches_of self.now) }
-        ensures writes { (who : Who) (end : End) (place : laws.Place) → StandsAt self.now who end place →
-            IfSome (stretches_of self.now) (λ stretches. WritesAll who place (listed stretches) into.new) }
+    /// Puts all the words that `bursts` tells into `into`, each as its four bytes, the lowest first.
+    pub fn burst_words(&self, into: &mut [u8])
+        requires sized { length into.old ≡ 4 * words_of (bursts_of self.now) }
+        ensures writes { (config : EndConfig) (end : End) (place : laws.Place) → RefinesAt self.now config end place →
+            IfSome (bursts_of self.now) (λ bursts. WritesAll config place (listed bursts) into.new) }
         ensures sized { length into.new ≡ length into.old }
     {
-        let Place::Filling { slot, at, .. } = self.place else {
+        let Place::WritingFrameWord { slot, at, .. } = self.place else {
             return;
         };
         put_all(
@@ -307,33 +319,33 @@ impl Tx {
         );
     }
 
-    /// Puts the words of the descriptor and of the entry that `stretches` tells into `into`, each as its four bytes, the lowest first.
+    /// Puts the words of the descriptor and of the entry that `bursts` tells into `into`, each as its four bytes, the lowest first.
     ///
     /// The words of the frame are the last ones of the frame that was offered, with 0 after its last byte: who has that frame writes them from
     /// there. Where no word of the frame is next nothing is put.
     pub fn tail_words(&self, into: &mut [u8])
         requires sized { length into.old ≡ 20 }
-        ensures writes { (who : Who) (end : End) (place : laws.Place) → StandsAt self.now who end place →
-            IfSome (stretches_of self.now) (λ stretches. WritesAll who place (listed stretches) (last_words self.now.frame stretches.frame.count ++ into.new)) }
-        ensures untouched { stretches_of self.now ≡ None → into.new ≡ into.old }
+        ensures writes { (config : EndConfig) (end : End) (place : laws.Place) → RefinesAt self.now config end place →
+            IfSome (bursts_of self.now) (λ bursts. WritesAll config place (listed bursts) (last_words self.now.frame bursts.frame.count ++ into.new)) }
+        ensures untouched { bursts_of self.now ≡ None → into.new ≡ into.old }
         ensures sized { length into.new ≡ length into.old }
     {
-        let Place::Filling { slot, .. } = self.place else {
+        let Place::WritingFrameWord { slot, .. } = self.place else {
             return;
         };
         let entry = self.entry_word(slot.descriptor);
         put_tail(into, slot.address, self.length, entry);
     }
 
-    /// Takes the steps of all the writes that `stretches` tells at once. It is the same as `took` so many times.
-    pub fn took_stretches(&mut self)
-        requires { 0 < words_of (stretches_of self.old) }
-        ensures { (values : List ℕ) → length values ≡ words_of (stretches_of self.old) → Each TakesOn self.old values [] self.new }
+    /// Takes the steps of all the writes that `bursts` tells at once. It is the same as `took` so many times.
+    pub fn took_bursts(&mut self)
+        requires { 0 < words_of (bursts_of self.old) }
+        ensures { (values : List ℕ) → length values ≡ words_of (bursts_of self.old) → StepsThrough StaysOpen self.old values [] self.new }
     {
         match self.place {
-            Place::Filling { slot, .. } => {
-                self.place = Place::WritingEntry(slot);
-                self.enter(slot);
+            Place::WritingFrameWord { slot, .. } => {
+                self.place = Place::WritingAvailEntry(slot);
+                self.write_avail_entry(slot);
             }
             _ => unreachable!(),
         }
@@ -342,7 +354,7 @@ impl Tx {
     /// Forgets the offer, the frames and the entries: a session begins.
     pub fn reset(&mut self)
         ensures value { self.new ≡ fresh_sender self.old.sizes self.old.own self.old.theirs self.old.target self.old.vector }
-        ensures stands { (who : Who) (end : End) → IsMadeFor self.old who → IsFreshSession who end → StandsAt self.new who end laws.Closed }
+        ensures refines { (config : EndConfig) (end : End) → IsMadeFor self.old config → IsFreshSession config end → RefinesAt self.new config end laws.Closed }
     {
         self.accepted = 0;
         self.slots.reset();
@@ -369,11 +381,11 @@ impl Tx {
     }
 
     /// So many words of the own section from this one on.
-    fn stretch(&self, word: u32, count: u32) -> Stretch
+    fn burst(&self, word: u32, count: u32) -> Burst
         requires { 4 * word + 4 ≤ self.now.sizes.out }
         ensures { result ≡ record { word = self.now.own + word; count = count } }
     {
-        Stretch {
+        Burst {
             word: self.own + word,
             count,
         }
@@ -426,31 +438,31 @@ impl Tx {
     }
 
     /// Goes past the write of the entry: its word goes into the own copy.
-    fn enter(&mut self, slot: Slot)
-        requires { self.old.place ≡ Place.WritingEntry slot }
-        ensures { (value : ℕ) → TakesOn self.old value [] self.new }
+    fn write_avail_entry(&mut self, slot: Slot)
+        requires { self.old.place ≡ Place.WritingAvailEntry slot }
+        ensures { (value : ℕ) → StaysOpen self.old value [] self.new }
     {
         let at = (self.entry() / 2) as usize;
         self.entries[at] = self.entry_word(slot.descriptor);
-        self.place = Place::WritingIndex;
+        self.place = Place::WritingAvailIndex;
     }
 
     /// Takes the write of the index, with which the frame is accepted.
     fn wrote_index(&mut self, notes: &mut Notes)
-        requires place { self.old.place ≡ Place.WritingIndex }
+        requires place { self.old.place ≡ Place.WritingAvailIndex }
         requires empty { notes.old.items ≡ [] }
-        ensures { (value : ℕ) → Takes self.old value notes.new.items self.new }
+        ensures { (value : ℕ) → TakesStep self.old value notes.new.items self.new }
     {
         self.accepted = plus(self.accepted, 1);
-        self.place = told(self.queue.has_events());
+        self.place = place_after_index(self.queue.has_events());
         notes.push(Note::Accept);
     }
 
     /// Takes the other's event: the doorbell comes next where it asks for the frame that was accepted just now.
     fn took_event(&mut self, value: u32, notes: &mut Notes)
-        requires place { self.old.place ≡ Place.AtEvent }
+        requires place { self.old.place ≡ Place.ReadingAvailEvent }
         requires empty { notes.old.items ≡ [] }
-        ensures { Takes self.old value notes.new.items self.new }
+        ensures { TakesStep self.old value notes.new.items self.new }
     {
         let event = (value % 65_536) as u16;
         let before = self.accepted.wrapping_sub(1);
@@ -473,9 +485,9 @@ impl Tx {
 
     /// Takes the used index.
     fn took_index(&mut self, value: u32, notes: &mut Notes)
-        requires place { self.old.place ≡ Place.AtUsedIndex }
+        requires place { self.old.place ≡ Place.ReadingUsedIndex }
         requires empty { notes.old.items ≡ [] }
-        ensures { Takes self.old value notes.new.items self.new }
+        ensures { TakesStep self.old value notes.new.items self.new }
     {
         let index = (value / 65_536) as u16;
         let freed = self.freed();
@@ -493,9 +505,9 @@ impl Tx {
 
     /// Takes the id of the oldest frame in flight.
     fn took_id(&mut self, more: u32, id: u32, notes: &mut Notes)
-        requires place { self.old.place ≡ Place.AtUsedId more }
+        requires place { self.old.place ≡ Place.ReadingUsedId more }
         requires empty { notes.old.items ≡ [] }
-        ensures { Takes self.old id notes.new.items self.new }
+        ensures { TakesStep self.old id notes.new.items self.new }
     {
         let oldest = self.slots.oldest();
         if let Err(refused) = self.queue.check_id(oldest, id) {
@@ -579,6 +591,6 @@ fn put_all(into: &mut [u8], frame: &[u8], address: u32, bytes: u32, entry: u32)
 }
 
 /// Law: a closed sender stands for an end as long as its session goes on: Ticks, Stops and Polls change nothing of it.
-pub fn closed_stays()
-    ensures { ClosedStays }
+pub fn idle_engine_outlives_steps()
+    ensures { IdleEngineOutlivesSteps }
 {}

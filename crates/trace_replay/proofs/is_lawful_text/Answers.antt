@@ -1,7 +1,7 @@
 use Rattle.std.proofs.Common.{List, subst}
 use Rattle.lawful_history.specs.declared.line.Line.{Line}
 use Rattle.record_text.specs.Spelling.{IsSpelling}
-use Rattle.sim_world.specs.Telling.{lawful_record}
+use Rattle.sim_world.specs.RecordWriting.{lawful_record}
 use Rattle.trace_replay.proofs.is_lawful_text.Goals as goal
 
 pub returns-in-Ok-Same : goal.returns-in-Ok-Same

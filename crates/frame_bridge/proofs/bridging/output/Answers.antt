@@ -3,7 +3,7 @@ use Rattle.std.proofs.lemmas.Result.{IfOk-weaker}
 use Rattle.bridge_text.specs.Spelling.{world_of}
 use Rattle.frame_bridge.specs.Run.{World, started, schedule, ran}
 use Rattle.frame_bridge.specs.Output.{IsOutput, output_of}
-use Rattle.frame_bridge.specs.Held.{IsThere}
+use Rattle.frame_bridge.specs.Refinement.{IsThere}
 use Rattle.frame_bridge.proofs.Worlds.{started_going}
 use Rattle.frame_bridge.proofs.Telling.{is_output}
 use Rattle.frame_bridge.proofs.bridging.output.Goals as goal
@@ -14,7 +14,7 @@ rounds-requires c =
     let there : IsThere script.sent script.ports (started script.sent) c.send.new.self = record {
       few = (c.requires.least, c.requires.most);
       going = started_going (world_of script) c.requires;
-      stands = c.in_ok-send.ensures script.ports c.in_ok-run.ensures;
+      refines = c.in_ok-send.ensures script.ports c.in_ok-run.ensures;
     } in
     (script.sent, script.ports, started script.sent, there)
 
@@ -24,7 +24,7 @@ finish-requires c =
     let there : IsThere script.sent script.ports (started script.sent) c.send.new.self = record {
       few = (c.requires.least, c.requires.most);
       going = started_going (world_of script) c.requires;
-      stands = c.in_ok-send.ensures script.ports c.in_ok-run.ensures;
+      refines = c.in_ok-send.ensures script.ports c.in_ok-run.ensures;
     } in
     (script.sent, script.ports, ran (started script.sent) (schedule script.rounds script.ports), c.in_ok-rounds.ensures script.sent script.ports (started script.sent) there)
 
@@ -34,7 +34,7 @@ returns c =
     let there : IsThere script.sent script.ports (started script.sent) c.send.new.self = record {
       few = (c.requires.least, c.requires.most);
       going = started_going (world_of script) c.requires;
-      stands = c.in_ok-send.ensures script.ports c.in_ok-run.ensures;
+      refines = c.in_ok-send.ensures script.ports c.in_ok-run.ensures;
     } in
     let w : World = ran (started script.sent) (schedule script.rounds script.ports) in
     let end : IsThere script.sent script.ports w c.rounds.new.self = c.in_ok-rounds.ensures script.sent script.ports (started script.sent) there in

@@ -1,6 +1,6 @@
 use Rattle.std.proofs.Common.{◌≡◌, ◌++◌, ℕ, List, length, arith, ap, subst, ◌∙◌}
 use Rattle.std.specs.List.{flat_map}
-use Rattle.line_text.specs.Rows.{text_of}
+use Rattle.line_format.specs.Rows.{text_of}
 use Rattle.frame_bridge.specs.Forwarding.{first_ports}
 use Rattle.frame_bridge.specs.Output.{pieces_of, port_rows}
 use Rattle.frame_bridge.proofs.There.{get_at}

@@ -1,10 +1,10 @@
 use Rattle.std.proofs.Common.{◌≡◌, ◌++◌}
 use Rattle.std.specs.List.{flat_map}
-use Rattle.line_text.specs.Rows.{text_of}
+use Rattle.line_format.specs.Rows.{text_of}
 use Rattle.frame_bridge.specs.Forwarding.{first_ports}
 use Rattle.frame_bridge.specs.Run.{World}
 use Rattle.frame_bridge.specs.Output.{pieces_of, port_rows}
-use Rattle.frame_bridge.specs.Held.{ArePorts}
+use Rattle.frame_bridge.specs.Refinement.{ArePorts}
 use Rattle.frame_bridge.proofs.bridging.put_ports.Given as goal
 
 -- the ports so far

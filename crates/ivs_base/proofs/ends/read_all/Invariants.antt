@@ -1,5 +1,5 @@
 use Rattle.std.proofs.Common.{◌≡◌, ◌+◌, ◌-◌, ◌≤◌, length}
-use Rattle.ivs_base.specs.Ends.{Gave}
+use Rattle.ivs_base.specs.SourceAndSink.{Gave}
 use Rattle.ivs_base.proofs.ends.read_all.Given as goal
 
 abbrev pub invariant-loop-chunk : goal.invariant-loop-chunk

@@ -1,5 +1,5 @@
 use Rattle.std.proofs.Common.{◌≡◌, length, ◌+◌, ◌-◌, ◌≤◌, take}
-use Rattle.ivs_base.specs.Ends.{Took}
+use Rattle.ivs_base.specs.SourceAndSink.{Took}
 use Rattle.ivs_base.proofs.ends.write_whole.Given as goal
 
 abbrev pub invariant-loop-at : goal.invariant-loop-at

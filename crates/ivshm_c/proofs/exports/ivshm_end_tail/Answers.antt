@@ -1,8 +1,8 @@
 use Rattle.std.proofs.Common.{subst, sym, IfSome}
-use Rattle.ivshm_c.specs.Answers.{TellsTail}
+use Rattle.ivshm_c.specs.Answers.{GivesTail}
 use Rattle.ivshm_c.proofs.exports.ivshm_end_tail.Goals as goal
 
 pub returns-clause-words : goal.returns-clause-words
 returns-clause-words c =
-    subst (λ p. IfSome p (λ port. TellsTail port c.args.told.now c.tail-status.new.told c.args.room.now c.tail-status.new.room)) (sym c.in-Some.ensures.port)
-    (subst (λ port. TellsTail port c.args.told.now c.tail-status.new.told c.args.room.now c.tail-status.new.room) c.deref.ensures c.tail-status.ensures.words)
+    subst (λ p. IfSome p (λ port. GivesTail port c.args.told.now c.tail-status.new.told c.args.room.now c.tail-status.new.room)) (sym c.in-Some.ensures.port)
+    (subst (λ port. GivesTail port c.args.told.now c.tail-status.new.told c.args.room.now c.tail-status.new.room) c.deref.ensures c.tail-status.ensures.words)

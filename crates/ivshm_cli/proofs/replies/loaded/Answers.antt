@@ -3,7 +3,7 @@ use Rattle.scenario_text.specs.Scenario.{World}
 use Rattle.scenario_text.specs.Spelling.{world_of}
 use Rattle.scenario_text.specs.Loads.{load_world}
 use Rattle.lawful_history.specs.declared.line.Line.{Line}
-use Rattle.lawful_history.specs.Sessions.{told_in}
+use Rattle.lawful_history.specs.Sessions.{recorded_in}
 use Rattle.lawful_history.specs.Lawful.{IsLawfulIn}
 use Rattle.lawful_history.specs.History.{history}
 use Rattle.ivshm_cli.specs.Load.{summary_of}
@@ -14,7 +14,7 @@ pub returns : goal.returns
 returns c =
     let count = c.args.count in
     let world = world_of c.in_ok-scenario.scenario in
-    let lines : List Line = told_in world 2 (history world) in
+    let lines : List Line = recorded_in world 2 (history world) in
     let is : world ≡ load_world count = c.in_ok-scenario.ensures in
     record {
       history = lines;

@@ -1,13 +1,13 @@
 use Rattle.std.proofs.Common.{List, ◌≡◌, ◌∙◌, sym, ap, subst, Ok}
 use Rattle.scenario_text.specs.Spelling.{world_of}
 use Rattle.lawful_history.specs.declared.line.Line.{Line}
-use Rattle.lawful_history.specs.Sessions.{told_in}
+use Rattle.lawful_history.specs.Sessions.{recorded_in}
 use Rattle.lawful_history.specs.Lawful.{IsLawfulIn}
 use Rattle.record_text.specs.Spelling.{Record, spelling}
-use Rattle.sim_world.specs.Telling.{lawful_record}
+use Rattle.sim_world.specs.RecordWriting.{lawful_record}
 use Rattle.trace_replay.specs.declared.verdict.Verdict.{Verdict}
 use Rattle.trace_replay.specs.Verdict.{IsVerdict}
-use Rattle.ivshm_cli.specs.declared.words.Form.TheVariants.{Renew}
+use Rattle.ivshm_cli.specs.declared.words.Command.TheVariants.{Renew}
 use Rattle.ivshm_cli.specs.declared.replies.Reply.{Reply}
 use Rattle.ivshm_cli.specs.Replay.{Spells, IsRenewed}
 use Rattle.ivshm_cli.specs.Forms.{Replies}
@@ -21,9 +21,9 @@ returns-in-Same-clause-verdict c =
     let world = world_of trace.scenario in
     let told : IsLawfulIn world trace.version trace.lines = subst (λ (v : Verdict). IsVerdict world trace.version trace.lines v) c.in-Same.is c.in_ok-replay.ensures in
     let again : IsLawfulIn world 2 (lawful_record 2 world).lines = c.in_ok-simulate_text-in-Same.ensures.lawful in
-    let lines : (lawful_record 2 world).lines ≡ told_in world 2 told.0 =
-    again.2 ∙ ap (told_in world 2) (sym (c.one_history.ensures world told.0 again.0 told.1 again.1)) in
-    let is : lawful_record 2 world ≡ record { version = 2; world = world; lines = told_in world 2 told.0 } =
+    let lines : (lawful_record 2 world).lines ≡ recorded_in world 2 told.0 =
+    again.2 ∙ ap (recorded_in world 2) (sym (c.one_history.ensures world told.0 again.0 told.1 again.1)) in
+    let is : lawful_record 2 world ≡ record { version = 2; world = world; lines = recorded_in world 2 told.0 } =
     ap (λ (ls : List Line). record { version = 2; world = world; lines = ls }) lines in
     let renewed : IsRenewed bytes text = record {
       world = world;

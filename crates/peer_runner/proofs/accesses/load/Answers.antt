@@ -1,8 +1,8 @@
 use Rattle.std.proofs.Common.{rules, ◌≡◌, true, length, ap, arith, subst, sym}
 use Rattle.split_ring.specs.declared.steps.Access.TheVariants as access
-use Rattle.peer_runner.specs.Held.{Held}
-use Rattle.peer_runner.specs.Keys.{honest_of}
-use Rattle.peer_runner.specs.Standings.{standing, IsNext}
+use Rattle.peer_runner.specs.PassView.{PassView}
+use Rattle.peer_runner.specs.RunSetups.{honest_of}
+use Rattle.peer_runner.specs.DerivedStates.{derived_state, IsNext}
 use Rattle.peer_runner.specs.Actions.{accesses_in}
 use Rattle.peer_runner.specs.Rules.{front}
 use Rattle.peer_runner.proofs.Seats.{load_allowed}
@@ -10,4 +10,4 @@ use Rattle.peer_runner.proofs.accesses.load.Goals as goal
 
 pub load-requires : goal.load-requires
 load-requires g c = let key = c.args.words.now.shared.key in let e = ap (λ h. length h.lists) c.pass.view_is in
-    (search rules, search rules, load_allowed key _ _ _ _ _ _ _ (omega arith) c.requires.of.1 (subst (λ (h : Held). honest_of key h.from ≡ true → IsNext key h.from (standing key h.from (accesses_in (front h.lists))) g.B.Begins.call (access.Read c.args.word)) (sym c.pass.view_is) c.requires.next))
+    (search rules, search rules, load_allowed key _ _ _ _ _ _ _ (omega arith) c.requires.of.1 (subst (λ (h : PassView). honest_of key h.from ≡ true → IsNext key h.from (derived_state key h.from (accesses_in (front h.lists))) g.B.Begins.call (access.Read c.args.word)) (sym c.pass.view_is) c.requires.next))

@@ -1,10 +1,10 @@
 use Rattle.std.proofs.Common.{rules, ◌≡◌, inr, true, ◌<◌, length, ap, arith, subst, sym, ◌∙◌}
 use Rattle.section_map.specs.Geometry.{word_count}
 use Rattle.split_ring.specs.declared.steps.Access.TheVariants as access
-use Rattle.ends_pair.specs.Steps.{Stored}
-use Rattle.peer_runner.specs.Held.{Held}
-use Rattle.peer_runner.specs.Keys.{honest_of}
-use Rattle.peer_runner.specs.Standings.{taken, standing, IsNext}
+use Rattle.link_invariant.specs.Steps.{Stored}
+use Rattle.peer_runner.specs.PassView.{PassView}
+use Rattle.peer_runner.specs.RunSetups.{honest_of}
+use Rattle.peer_runner.specs.DerivedStates.{taken, derived_state, IsNext}
 use Rattle.peer_runner.specs.Actions.{accesses_in}
 use Rattle.peer_runner.specs.Rules.{front}
 use Rattle.peer_runner.proofs.Keys.{within}
@@ -18,5 +18,5 @@ store-requires g c = let key = c.args.words.now.shared.key in let e = ap (λ h. 
       search rules,
       omega arith,
       store_allowed key (taken g.B.Begins.call (access.State c.args.state) 0) _ _ _ _ _ _ _ (omega arith) (inr mine) tt (search rules) (λ m. tt) (λ m a s. subst (λ p. Stored m a p c.args.state) mine s)
-          (subst (λ (h : Held). honest_of key h.from ≡ true → IsNext key h.from (standing key h.from (accesses_in (front h.lists))) g.B.Begins.call (access.State c.args.state)) (sym c.pass.view_is) c.requires.next),
+          (subst (λ (h : PassView). honest_of key h.from ≡ true → IsNext key h.from (derived_state key h.from (accesses_in (front h.lists))) g.B.Begins.call (access.State c.args.state)) (sym c.pass.view_is) c.requires.next),
     )

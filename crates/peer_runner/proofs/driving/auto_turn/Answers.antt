@@ -1,14 +1,14 @@
 use Rattle.std.proofs.Common.{◌≡◌, ◌+◌, ◌++◌, true, false, refl, sym, ap, ◌∙◌, subst, arith, append-nil}
 use Rattle.std.specs.Prelude.{Some, None}
 use Rattle.call_grammar.specs.Places.{access_at}
-use Rattle.peer_runner.specs.Held.{Held}
-use Rattle.peer_runner.specs.Keys.{who_in}
-use Rattle.peer_runner.specs.Ways.{route_to, is_guarded, way_in}
+use Rattle.peer_runner.specs.PassView.{PassView}
+use Rattle.peer_runner.specs.RunSetups.{config_in}
+use Rattle.peer_runner.specs.DoorbellPaths.{route_to, is_guarded, doorbell_path_in}
 use Rattle.peer_runner.specs.Turns.{Looks, looks_after}
 use Rattle.peer_runner.specs.Runners.{has_finished, place_in, IsDone, due_of, looks_now, looked_on, due_word, turn_met, met_on, turned, turn_on, IsAutoPeer, Turns}
-use Rattle.peer_runner.specs.Courses.{by_look, by_word, by_step}
+use Rattle.peer_runner.specs.Trajectories.{by_look, by_word, by_step}
 use Rattle.peer_runner.proofs.Turning.{bytes_in, turn_looked, meets_at, opened_at, turn_met as met_there}
-use Rattle.peer_runner.proofs.Looking.{looks_at, looks_shut, still_shut}
+use Rattle.peer_runner.proofs.Looks.{looks_at, looks_shut, still_shut}
 use Rattle.peer_runner.proofs.Runs.{turned_turns, turned_spans, met_opened, counted_of, ends_where, err_free}
 use Rattle.peer_runner.proofs.Courses.{course_on, course_still, told_further, met_silent, seated, few_opened}
 use Rattle.peer_runner.proofs.driving.auto_turn.Goals as goal
@@ -22,47 +22,47 @@ look_turn-requires-clause-own g c = let need = c.requires.course in let r = need
 pub returns-then-is_look_next : goal.returns-then-is_look_next
 returns-then-is_look_next g c = record {
   course = λ plan spans r on left told. let key = c.args.words.now.shared.key in let me = c.args.me in let routes = c.args.routes.now in let peer = c.args.peer.now in
-      let dues = c.looks_due-due.ensures.due (who_in key me) r.end r.place r.auto on.there.stands.stands on.is.planned in
-      let looks : looks_now (route_to routes me) (due_of (who_in key me) r) r.looks ≡ true = looks_at c.route_to.result (route_to routes me) c.looks_due-due.result (due_of (who_in key me) r) peer.looks r.looks c.is_look_next.result c.is_look_next.ensures.value c.route_to.ensures dues (sym on.is.looks) ∙ c.if-is_look_next.true in
-      let still = still_shut key me routes r peer.end on.there.stands (looks_shut (who_in key me) (route_to routes me) r looks) in let took = c.in_ok-look_turn.ensures in let next = looked_on r took.0 in
+      let dues = c.looks_due-due.ensures.due (config_in key me) r.end r.place r.auto on.there.refines.refines on.is.planned in
+      let looks : looks_now (route_to routes me) (due_of (config_in key me) r) r.looks ≡ true = looks_at c.route_to.result (route_to routes me) c.looks_due-due.result (due_of (config_in key me) r) peer.looks r.looks c.is_look_next.result c.is_look_next.ensures.value c.route_to.ensures dues (sym on.is.looks) ∙ c.if-is_look_next.true in
+      let still = still_shut key me routes r peer.end on.there.refines (looks_shut (config_in key me) (route_to routes me) r looks) in let took = c.in_ok-look_turn.ensures in let next = looked_on r took.0 in
       let is : IsAutoPeer _ next = record { planned = on.is.planned; looks = took.2 ∙ ap (λ n. looks_after n took.0) on.is.looks; ringing = on.is.ringing; opened = on.is.opened; met = on.is.met } in
       let there = turn_looked key me routes r c.args.pass.now c.look_turn.new.pass peer.end took.0 took.1 on.there still in
-      (next, course_on _ key me routes plan spans r next c.args.pass.now c.look_turn.new.pass peer _ on (by_look took.0 left looks) there is (ap (λ (h : Held). h.table_id) took.1), (told_further me r.turns next.turns (Looks took.0) c.args.lines.now c.look_turn.new.lines refl told took.3, refl));
+      (next, course_on _ key me routes plan spans r next c.args.pass.now c.look_turn.new.pass peer _ on (by_look took.0 left looks) there is (ap (λ (h : PassView). h.table_id) took.1), (told_further me r.turns next.turns (Looks took.0) c.args.lines.now c.look_turn.new.lines refl told took.3, refl));
 }
 
 pub returns-in_err-look_turn : goal.returns-in_err-look_turn
 returns-in_err-look_turn g c = record {
   course = λ plan spans r on left told. let key = c.args.words.now.shared.key in let me = c.args.me in let routes = c.args.routes.now in let peer = c.args.peer.now in
-      let dues = c.looks_due-due.ensures.due (who_in key me) r.end r.place r.auto on.there.stands.stands on.is.planned in
-      let looks : looks_now (route_to routes me) (due_of (who_in key me) r) r.looks ≡ true = looks_at c.route_to.result (route_to routes me) c.looks_due-due.result (due_of (who_in key me) r) peer.looks r.looks c.is_look_next.result c.is_look_next.ensures.value c.route_to.ensures dues (sym on.is.looks) ∙ c.if-is_look_next.true in
-      let still = still_shut key me routes r peer.end on.there.stands (looks_shut (who_in key me) (route_to routes me) r looks) in let took = c.in_err-look_turn.ensures in let next = looked_on r took.0 in
+      let dues = c.looks_due-due.ensures.due (config_in key me) r.end r.place r.auto on.there.refines.refines on.is.planned in
+      let looks : looks_now (route_to routes me) (due_of (config_in key me) r) r.looks ≡ true = looks_at c.route_to.result (route_to routes me) c.looks_due-due.result (due_of (config_in key me) r) peer.looks r.looks c.is_look_next.result c.is_look_next.ensures.value c.route_to.ensures dues (sym on.is.looks) ∙ c.if-is_look_next.true in
+      let still = still_shut key me routes r peer.end on.there.refines (looks_shut (config_in key me) (route_to routes me) r looks) in let took = c.in_err-look_turn.ensures in let next = looked_on r took.0 in
       let is : IsAutoPeer _ next = record { planned = on.is.planned; looks = took.2 ∙ ap (λ n. looks_after n took.0) on.is.looks; ringing = on.is.ringing; opened = on.is.opened; met = on.is.met } in
       let there = turn_looked key me routes r c.args.pass.now c.look_turn.new.pass peer.end took.0 took.1 on.there still in
-      (next, course_on _ key me routes plan spans r next c.args.pass.now c.look_turn.new.pass peer _ on (by_look took.0 left looks) there is (ap (λ (h : Held). h.table_id) took.1), err_free _ c.from_residual.result c.from_residual.ensures.0);
+      (next, course_on _ key me routes plan spans r next c.args.pass.now c.look_turn.new.pass peer _ on (by_look took.0 left looks) there is (ap (λ (h : PassView). h.table_id) took.1), err_free _ c.from_residual.result c.from_residual.ensures.0);
 }
 
-pub meet-requires-clause-place : goal.meet-requires-clause-place
-meet-requires-clause-place g c = let need = c.requires.course in let r = need.2 in let on = need.4 in
-    let due : due_word r.place r.met ≡ Some c.in-Some.word = ap (due_word r.place) (sym on.is.met) ∙ (sym (c.word_due.ensures _ r.end r.place on.there.stands.stands) ∙ c.in-Some.is) in meets_at _ c.args.me c.args.routes.now r c.args.pass.now c.args.peer.now.end c.in-Some.word on.there due
+pub exchange_session_number-requires-clause-place : goal.exchange_session_number-requires-clause-place
+exchange_session_number-requires-clause-place g c = let need = c.requires.course in let r = need.2 in let on = need.4 in
+    let due : due_word r.place r.met ≡ Some c.in-Some.word = ap (due_word r.place) (sym on.is.met) ∙ (sym (c.word_due.ensures _ r.end r.place on.there.refines.refines) ∙ c.in-Some.is) in meets_at _ c.args.me c.args.routes.now r c.args.pass.now c.args.peer.now.end c.in-Some.word on.there due
 
-pub meet-requires-clause-opened : goal.meet-requires-clause-opened
-meet-requires-clause-opened g c = let need = c.requires.course in let r = need.2 in let on = need.4 in let few = few_opened need.1 r (counted_of _ c.args.me c.args.routes.now need.0 need.1 r on.comes) need.5 need.3 in
+pub exchange_session_number-requires-clause-opened : goal.exchange_session_number-requires-clause-opened
+exchange_session_number-requires-clause-opened g c = let need = c.requires.course in let r = need.2 in let on = need.4 in let few = few_opened need.1 r (counted_of _ c.args.me c.args.routes.now need.0 need.1 r on.comes) need.5 need.3 in
     let same = on.is.opened in (on.is.opened ∙ opened_at _ c.args.me c.args.routes.now r c.args.pass.now c.args.peer.now.end on.there, omega arith)
 
-pub meet-requires-clause-of : goal.meet-requires-clause-of
-meet-requires-clause-of g c = let need = c.requires.course in let r = need.2 in let on = need.4 in seated _ _ c.args.me c.args.routes.now need.0 need.1 r c.args.pass.now c.args.peer.now on
+pub exchange_session_number-requires-clause-of : goal.exchange_session_number-requires-clause-of
+exchange_session_number-requires-clause-of g c = let need = c.requires.course in let r = need.2 in let on = need.4 in seated _ _ c.args.me c.args.routes.now need.0 need.1 r c.args.pass.now c.args.peer.now on
 
 pub returns-in-Some : goal.returns-in-Some
 returns-in-Some g c = record {
   course = λ plan spans r on left told. let key = c.args.words.now.shared.key in let me = c.args.me in let routes = c.args.routes.now in let peer = c.args.peer.now in
-      let dues = c.looks_due-due.ensures.due (who_in key me) r.end r.place r.auto on.there.stands.stands on.is.planned in
-      let first : looks_now (route_to routes me) (due_of (who_in key me) r) r.looks ≡ false = looks_at c.route_to.result (route_to routes me) c.looks_due-due.result (due_of (who_in key me) r) peer.looks r.looks c.is_look_next.result c.is_look_next.ensures.value c.route_to.ensures dues (sym on.is.looks) ∙ c.if-is_look_next.false in
-      let due : due_word r.place r.met ≡ Some c.in-Some.word = ap (due_word r.place) (sym on.is.met) ∙ (sym (c.word_due.ensures _ r.end r.place on.there.stands.stands) ∙ c.in-Some.is) in
-      let word = c.in-Some.word in let number = c.meet.result in let next = met_on word r number in
+      let dues = c.looks_due-due.ensures.due (config_in key me) r.end r.place r.auto on.there.refines.refines on.is.planned in
+      let first : looks_now (route_to routes me) (due_of (config_in key me) r) r.looks ≡ false = looks_at c.route_to.result (route_to routes me) c.looks_due-due.result (due_of (config_in key me) r) peer.looks r.looks c.is_look_next.result c.is_look_next.ensures.value c.route_to.ensures dues (sym on.is.looks) ∙ c.if-is_look_next.false in
+      let due : due_word r.place r.met ≡ Some c.in-Some.word = ap (due_word r.place) (sym on.is.met) ∙ (sym (c.word_due.ensures _ r.end r.place on.there.refines.refines) ∙ c.in-Some.is) in
+      let word = c.in-Some.word in let number = c.exchange_session_number.result in let next = met_on word r number in
       let is : IsAutoPeer _ next = record { planned = on.is.planned; looks = on.is.looks; ringing = on.is.ringing; opened = on.is.opened ∙ sym (met_opened word r.numbers number); met = refl } in
-      let there = met_there key me routes word r c.args.pass.now c.meet.new.pass peer.end number c.requires.honest.1 c.meet.ensures.0 on.there due in (
+      let there = met_there key me routes word r c.args.pass.now c.exchange_session_number.new.pass peer.end number c.requires.honest.1 c.exchange_session_number.ensures.0 on.there due in (
         next,
-        course_on _ key me routes plan spans r next c.args.pass.now c.meet.new.pass peer _ on (by_word word number (record { left = left; first = first }) due (λ e. c.meet.ensures.1 e ∙ ap (λ n. n + 1) on.is.opened)) there is (ap (λ (h : Held). h.table_id) c.meet.ensures.0),
+        course_on _ key me routes plan spans r next c.args.pass.now c.exchange_session_number.new.pass peer _ on (by_word word number (record { left = left; first = first }) due (λ e. c.exchange_session_number.ensures.1 e ∙ ap (λ n. n + 1) on.is.opened)) there is (ap (λ (h : PassView). h.table_id) c.exchange_session_number.ensures.0),
         (told_further me r.turns next.turns (turn_met word number) c.args.lines.now c.args.lines.now refl told (sym (append-nil c.args.lines.now) ∙ ap (λ ls. c.args.lines.now ++ ls) (sym (met_silent me number word))), refl),
       );
 }
@@ -70,9 +70,9 @@ returns-in-Some g c = record {
 pub returns-then-is_finished : goal.returns-then-is_finished
 returns-then-is_finished g c = record {
   course = λ plan spans r on left told.
-      let matches = c.choose-choice.ensures.chosen _ r.end r.place r.auto on.there.stands.stands on.is.planned in
+      let matches = c.choose-choice.ensures.chosen _ r.end r.place r.auto on.there.refines.refines on.is.planned in
       let is : has_finished r ≡ true = ends_where _ _ _ matches ∙ (sym c.is_finished.ensures ∙ c.if-is_finished.true) in
-      let planned = c.choose-choice.ensures.plan _ r.end r.place r.auto on.there.stands.stands on.is.planned in
+      let planned = c.choose-choice.ensures.plan _ r.end r.place r.auto on.there.refines.refines on.is.planned in
       (r, course_still _ _ c.args.me c.args.routes.now plan spans r c.args.pass.now c.args.peer.now c.choose-choice.new.auto on is planned, (told, (refl, is)));
 }
 
@@ -84,10 +84,10 @@ take_turn-requires-clause-few g c = let need = c.requires.course in let r = need
 
 pub take_turn-requires-clause-turns : goal.take_turn-requires-clause-turns
 take_turn-requires-clause-turns g c = let need = c.requires.course in let r = need.2 in let on = need.4 in
-    let due : due_word r.place r.met ≡ None = ap (due_word r.place) (sym on.is.met) ∙ (sym (c.word_due.ensures _ r.end r.place on.there.stands.stands) ∙ c.in_default.is) in
-    let matches = c.choose-choice.ensures.chosen _ r.end r.place r.auto on.there.stands.stands on.is.planned in
+    let due : due_word r.place r.met ≡ None = ap (due_word r.place) (sym on.is.met) ∙ (sym (c.word_due.ensures _ r.end r.place on.there.refines.refines) ∙ c.in_default.is) in
+    let matches = c.choose-choice.ensures.chosen _ r.end r.place r.auto on.there.refines.refines on.is.planned in
     let goes : has_finished r ≡ false = ends_where _ _ _ matches ∙ (sym c.is_finished.ensures ∙ c.if-is_finished.false) in
-    let planned = c.choose-choice.ensures.plan _ r.end r.place r.auto on.there.stands.stands on.is.planned in
+    let planned = c.choose-choice.ensures.plan _ r.end r.place r.auto on.there.refines.refines on.is.planned in
     let turns : Turns _ c.args.me c.args.routes.now r c.choose-choice.result c.args.pass.now (record (c.args.peer.now) { auto = c.choose-choice.new.auto }) = record {
       there = on.there;
       is = record { planned = planned; looks = on.is.looks; ringing = on.is.ringing; opened = on.is.opened; met = on.is.met };
@@ -101,12 +101,12 @@ take_turn-requires-clause-turns g c = let need = c.requires.course in let r = ne
 pub returns-in_err-take_turn : goal.returns-in_err-take_turn
 returns-in_err-take_turn g c = record {
   course = λ plan spans r on left told. let key = c.args.words.now.shared.key in let me = c.args.me in let routes = c.args.routes.now in let peer = c.args.peer.now in
-      let dues = c.looks_due-due.ensures.due (who_in key me) r.end r.place r.auto on.there.stands.stands on.is.planned in
-      let first : looks_now (route_to routes me) (due_of (who_in key me) r) r.looks ≡ false = looks_at c.route_to.result (route_to routes me) c.looks_due-due.result (due_of (who_in key me) r) peer.looks r.looks c.is_look_next.result c.is_look_next.ensures.value c.route_to.ensures dues (sym on.is.looks) ∙ c.if-is_look_next.false in
-      let due : due_word r.place r.met ≡ None = ap (due_word r.place) (sym on.is.met) ∙ (sym (c.word_due.ensures _ r.end r.place on.there.stands.stands) ∙ c.in_default.is) in
-      let matches = c.choose-choice.ensures.chosen _ r.end r.place r.auto on.there.stands.stands on.is.planned in
+      let dues = c.looks_due-due.ensures.due (config_in key me) r.end r.place r.auto on.there.refines.refines on.is.planned in
+      let first : looks_now (route_to routes me) (due_of (config_in key me) r) r.looks ≡ false = looks_at c.route_to.result (route_to routes me) c.looks_due-due.result (due_of (config_in key me) r) peer.looks r.looks c.is_look_next.result c.is_look_next.ensures.value c.route_to.ensures dues (sym on.is.looks) ∙ c.if-is_look_next.false in
+      let due : due_word r.place r.met ≡ None = ap (due_word r.place) (sym on.is.met) ∙ (sym (c.word_due.ensures _ r.end r.place on.there.refines.refines) ∙ c.in_default.is) in
+      let matches = c.choose-choice.ensures.chosen _ r.end r.place r.auto on.there.refines.refines on.is.planned in
       let goes : has_finished r ≡ false = ends_where _ _ _ matches ∙ (sym c.is_finished.ensures ∙ c.if-is_finished.false) in
-      let planned = c.choose-choice.ensures.plan _ r.end r.place r.auto on.there.stands.stands on.is.planned in
+      let planned = c.choose-choice.ensures.plan _ r.end r.place r.auto on.there.refines.refines on.is.planned in
       let turns : Turns _ c.args.me c.args.routes.now r c.choose-choice.result c.args.pass.now (record (c.args.peer.now) { auto = c.choose-choice.new.auto }) = record {
         there = on.there;
         is = record { planned = planned; looks = on.is.looks; ringing = on.is.ringing; opened = on.is.opened; met = on.is.met };
@@ -115,8 +115,8 @@ returns-in_err-take_turn g c = record {
         goes = goes;
         word = due;
       } in
-      let took = c.in_err-take_turn.ensures.turned r turns in let done = took.0 in let next = turned routes (who_in key me) r done in
-      let is_done = subst (λ b. IsDone b (is_guarded (way_in routes (access_at (who_in key me) (place_in (who_in key me) r)))) done) on.is.ringing took.1 in
+      let took = c.in_err-take_turn.ensures.turned r turns in let done = took.0 in let next = turned routes (config_in key me) r done in
+      let is_done = subst (λ b. IsDone b (is_guarded (doorbell_path_in routes (access_at (config_in key me) (place_in (config_in key me) r)))) done) on.is.ringing took.1 in
       let bytes = bytes_in key me routes r c.choose-choice.result c.args.pass.now (record peer { auto = c.choose-choice.new.auto }) turns in (
         next,
         course_on _ key me routes plan spans r next c.args.pass.now c.take_turn.new.pass peer c.take_turn.new.peer on (by_step done (record { left = left; first = first }) due goes is_done bytes) took.2 took.3 c.take_turn.ensures.id,
@@ -127,12 +127,12 @@ returns-in_err-take_turn g c = record {
 pub returns : goal.returns
 returns g c = record {
   course = λ plan spans r on left told. let key = c.args.words.now.shared.key in let me = c.args.me in let routes = c.args.routes.now in let peer = c.args.peer.now in
-      let dues = c.looks_due-due.ensures.due (who_in key me) r.end r.place r.auto on.there.stands.stands on.is.planned in
-      let first : looks_now (route_to routes me) (due_of (who_in key me) r) r.looks ≡ false = looks_at c.route_to.result (route_to routes me) c.looks_due-due.result (due_of (who_in key me) r) peer.looks r.looks c.is_look_next.result c.is_look_next.ensures.value c.route_to.ensures dues (sym on.is.looks) ∙ c.if-is_look_next.false in
-      let due : due_word r.place r.met ≡ None = ap (due_word r.place) (sym on.is.met) ∙ (sym (c.word_due.ensures _ r.end r.place on.there.stands.stands) ∙ c.in_default.is) in
-      let matches = c.choose-choice.ensures.chosen _ r.end r.place r.auto on.there.stands.stands on.is.planned in
+      let dues = c.looks_due-due.ensures.due (config_in key me) r.end r.place r.auto on.there.refines.refines on.is.planned in
+      let first : looks_now (route_to routes me) (due_of (config_in key me) r) r.looks ≡ false = looks_at c.route_to.result (route_to routes me) c.looks_due-due.result (due_of (config_in key me) r) peer.looks r.looks c.is_look_next.result c.is_look_next.ensures.value c.route_to.ensures dues (sym on.is.looks) ∙ c.if-is_look_next.false in
+      let due : due_word r.place r.met ≡ None = ap (due_word r.place) (sym on.is.met) ∙ (sym (c.word_due.ensures _ r.end r.place on.there.refines.refines) ∙ c.in_default.is) in
+      let matches = c.choose-choice.ensures.chosen _ r.end r.place r.auto on.there.refines.refines on.is.planned in
       let goes : has_finished r ≡ false = ends_where _ _ _ matches ∙ (sym c.is_finished.ensures ∙ c.if-is_finished.false) in
-      let planned = c.choose-choice.ensures.plan _ r.end r.place r.auto on.there.stands.stands on.is.planned in
+      let planned = c.choose-choice.ensures.plan _ r.end r.place r.auto on.there.refines.refines on.is.planned in
       let turns : Turns _ c.args.me c.args.routes.now r c.choose-choice.result c.args.pass.now (record (c.args.peer.now) { auto = c.choose-choice.new.auto }) = record {
         there = on.there;
         is = record { planned = planned; looks = on.is.looks; ringing = on.is.ringing; opened = on.is.opened; met = on.is.met };
@@ -141,11 +141,11 @@ returns g c = record {
         goes = goes;
         word = due;
       } in
-      let took = c.in_ok-take_turn.ensures.turned r turns in let done = took.0 in let next = turned routes (who_in key me) r done in
-      let is_done = subst (λ b. IsDone b (is_guarded (way_in routes (access_at (who_in key me) (place_in (who_in key me) r)))) done) on.is.ringing took.1 in
+      let took = c.in_ok-take_turn.ensures.turned r turns in let done = took.0 in let next = turned routes (config_in key me) r done in
+      let is_done = subst (λ b. IsDone b (is_guarded (doorbell_path_in routes (access_at (config_in key me) (place_in (config_in key me) r)))) done) on.is.ringing took.1 in
       let bytes = bytes_in key me routes r c.choose-choice.result c.args.pass.now (record peer { auto = c.choose-choice.new.auto }) turns in (
         next,
         course_on _ key me routes plan spans r next c.args.pass.now c.take_turn.new.pass peer c.take_turn.new.peer on (by_step done (record { left = left; first = first }) due goes is_done bytes) took.2 took.3 c.take_turn.ensures.id,
-        (told_further me r.turns next.turns (turn_on (who_in key me) r done) c.args.lines.now c.take_turn.new.lines (turned_turns routes (who_in key me) r done) told took.4, turned_spans routes (who_in key me) r done),
+        (told_further me r.turns next.turns (turn_on (config_in key me) r done) c.args.lines.now c.take_turn.new.lines (turned_turns routes (config_in key me) r done) told took.4, turned_spans routes (config_in key me) r done),
       );
 }

@@ -2,7 +2,7 @@ use Rattle.std.proofs.Common.{◌≡◌, ◌∷◌, suc, ◌+◌, false, ◌∙�
 use Rattle.std.specs.Prelude.{drop, slice_index}
 use Rattle.record_text.specs.OwnLines.{AreOwn}
 use Rattle.peer_runner.specs.Turns.{all_turns}
-use Rattle.peer_runner.specs.Runners.{beginning, has_finished}
+use Rattle.peer_runner.specs.Runners.{initial_runner, has_finished}
 use Rattle.peer_runner.proofs.Runs.{told_none, counted_of, far_of, ends_where}
 use Rattle.peer_runner.proofs.Courses.{course_first, seated, most_turns, due_over, due_next, IsAt, same_at, enters_first, enters_later, ends_spent, ends_finished, drove_err, drove_ok}
 use Rattle.peer_runner.proofs.driving.drive_auto.Goals as goal
@@ -10,7 +10,7 @@ use Rattle.peer_runner.proofs.driving.drive_auto.Goals.{then-k-gt0+in_ok-auto_re
 
 pub loop-k-init : goal.loop-k-init
 loop-k-init g c = let p = c.args.peer in record {
-  r = beginning p.auto.frames p.auto.expected c.args.spans.now;
+  r = initial_runner p.auto.frames p.auto.expected c.args.spans.now;
   on = course_first _ _ c.args.me c.args.routes.now c.args.spans.now c.args.pass.now p c.requires.of c.requires.alone.0 c.requires.alone.1 c.requires.drives c.requires.fresh;
   holds = refl;
   turns_are = refl;
@@ -82,7 +82,7 @@ returns g c = let id = c.args.words.now.shared.table_id in let key = c.args.word
           (ends_finished id key me routes plan spans k c.loop-k.pass w.auto_restart.new.pass c.loop-k.peer w.auto_restart.new.peer c.loop-k.turns c.loop-k.lines w.auto_restart.new.lines w.in_ok-auto_restart.field-0 before w.if-not-branch.true
           (w.in_ok-auto_restart.ensures.course routes plan spans before.r before.on (due_over spans k before.r before.holds w.if-k-gt0.true w.loop-k-test.true) before.told))
     ] in
-    let matches = c.choose-choice.ensures.chosen _ at.r.end at.r.place at.r.auto at.on.there.stands.stands at.on.is.planned in
+    let matches = c.choose-choice.ensures.chosen _ at.r.end at.r.place at.r.auto at.on.there.refines.refines at.on.is.planned in
     drove_ok id key me routes plan spans c.places_follow_trees.ensures c.args.pass.now c.loop-k-test.pass c.loop-k-test.peer c.loop-k.turns c.loop-k-test.lines _ c.requires.of at refl refl refl (c.is_finished.ensures ∙ sym (ends_where _ _ _ matches))
 
 pub invariant_of-result : goal.invariant_of-result

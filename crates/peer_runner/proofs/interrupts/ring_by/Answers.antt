@@ -1,6 +1,6 @@
 use Rattle.std.proofs.Common.{rules, length, ap, arith, subst, sym}
 use Rattle.std.proofs.lemmas.Nat.{one_shl}
-use Rattle.peer_runner.specs.Held.{Held}
+use Rattle.peer_runner.specs.PassView.{PassView}
 use Rattle.peer_runner.specs.Rules.{front}
 use Rattle.peer_runner.specs.Interrupts.{IsOneShot, MayRing}
 use Rattle.peer_runner.proofs.Seats.{ring_allowed}
@@ -11,5 +11,5 @@ fetch_or-requires g c = let key = c.args.words.now.shared.key in let size = ap (
   search rules,
   omega arith,
   ring_allowed key g.M.Play.then c.args.target c.args.bit _ _ _ _ _ _ _ c.requires.tells c.requires.target.1 (one_shl c.args.bit 64 c.requires.target.1) (omega arith) (omega arith) (omega arith)
-      (subst (λ (h : Held). IsOneShot key c.args.target → MayRing c.args.target (front h.lists)) (sym c.pass.view_is) c.requires.may),
+      (subst (λ (h : PassView). IsOneShot key c.args.target → MayRing c.args.target (front h.lists)) (sym c.pass.view_is) c.requires.may),
 )

@@ -1,6 +1,6 @@
 use Rattle.std.proofs.Common.{rules, ◌≡◌, ◌/◌, ◌∷◌, [], ◌++◌, replicate, sym, ap, ◌∙◌, arith, length-append}
 use Rattle.scenario_text.specs.Spelling.{world_of}
-use Rattle.peer_runner.specs.Held.{Held}
+use Rattle.peer_runner.specs.PassView.{PassView}
 use Rattle.peer_runner.specs.Passes.{held}
 use Rattle.peer_runner.proofs.Ranging.{lower_of, lower_whole, upper_of, upper_whole, range_none, range_pass, one_ranged, both_ranged, both_pass}
 use Rattle.peer_runner.proofs.peers.+fn-run_range-join+arg2+fn-run_range-join+arg3+run_range.Goals as goal
@@ -26,7 +26,7 @@ join-first-requires-after_bounds g t c = λ κs ls. ((search rules, (λ a m. m, 
 
 pub returns : goal.returns
 returns g t c = let first = c.join-first.ensures.first in let second = c.join-first.ensures.second in let key = c.args.words.now.shared.key in
-    let id = ap (λ (h : Held). h.table_id) c.split_pass-upper.ensures.left in let other = ap (λ (h : Held). h.table_id) c.split_pass-upper.ensures.right in
+    let id = ap (λ (h : PassView). h.table_id) c.split_pass-upper.ensures.left in let other = ap (λ (h : PassView). h.table_id) c.split_pass-upper.ensures.right in
     let size = first.2 in let more = second.2 in (
       first.0 ++ second.0,
       both_pass _ _ c.args.from _ first.0 second.0 _ _ c.join_pass.new.pass (id ∙ sym other) first.1 second.1 c.join_pass.ensures ∙ ap (λ i. held i c.args.from (first.0 ++ second.0)) id,

@@ -2,7 +2,7 @@ use Rattle.std.proofs.Common.{◌≡◌, ℕ, ◌<◌, length}
 use Rattle.doorbell_irq.specs.Routes.{IsRoute}
 use Rattle.lawful_history.specs.Device.{devices_of}
 use Rattle.scenario_text.specs.Spelling.{world_of}
-use Rattle.peer_runner.specs.Ways.{events_of, route_to}
+use Rattle.peer_runner.specs.DoorbellPaths.{events_of, route_to}
 use Rattle.peer_runner.proofs.routes.routes_of.Given as goal
 
 -- the routes so far

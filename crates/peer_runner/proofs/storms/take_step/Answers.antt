@@ -2,8 +2,8 @@ use Rattle.std.proofs.Common.{◌≡◌, List, ◌++◌, sym, ap, ◌∙◌, sub
 use Rattle.std.specs.Prelude.{OnOk}
 use Rattle.split_ring.specs.declared.steps.Access.{Access}
 use Rattle.lawful_history.specs.declared.line.Line.{Line}
-use Rattle.peer_runner.specs.Keys.{world_in}
-use Rattle.peer_runner.specs.Ways.{is_guarded, way_in}
+use Rattle.peer_runner.specs.RunSetups.{world_in}
+use Rattle.peer_runner.specs.DoorbellPaths.{is_guarded, doorbell_path_in}
 use Rattle.peer_runner.specs.Rules.{front}
 use Rattle.peer_runner.specs.Runners.{done_of, IsDone, MayRingBy, made}
 use Rattle.peer_runner.proofs.Storming.{drawn_access, drawn_told, storm_after_turn}
@@ -19,11 +19,11 @@ make-done-requires-clause-rings c = let draws = c.step-access.ensures.step (worl
 pub returns : goal.returns
 returns c = let draws = c.step-access.ensures.step (world_in c.args.words.now.shared.key) c.requires.storm in let same = sym (drawn_access _ c.step-access.result draws.is) in let routes = c.args.routes.now in (
   c.make-done.result,
-  subst (λ (a : Access). IsDone c.args.ringing.now (is_guarded (way_in routes a)) c.make-done.result) same c.make-done.ensures.done,
+  subst (λ (a : Access). IsDone c.args.ringing.now (is_guarded (doorbell_path_in routes a)) c.make-done.result) same c.make-done.ensures.done,
   c.make-done.ensures.value,
   c.make-done.ensures.pass ∙ ap (λ (a : Access). made c.args.pass.now (done_of routes _ a c.make-done.result)) same,
   storm_after_turn c.args.storm.now c.step-access.new.self c.after.result c.make-done.result c.step-access.ensures.after c.after.ensures,
-  c.holds_on.ensures,
+  c.awaits_ring.ensures,
   (λ held. subst (λ (a : Access). MayRingBy routes a (front c.make-done.new.pass.lists)) same (c.make-done.ensures.rings held)),
-  subst (λ (ls : List Line). OnOk c.tell_drawn.result (c.tell_drawn.new.lines ≡ c.args.lines.now ++ ls)) (drawn_told _ _ c.step-access.result c.make-done.result draws.is) c.tell_drawn.ensures,
+  subst (λ (ls : List Line). OnOk c.record_storm_write.result (c.record_storm_write.new.lines ≡ c.args.lines.now ++ ls)) (drawn_told _ _ c.step-access.result c.make-done.result draws.is) c.record_storm_write.ensures,
 )

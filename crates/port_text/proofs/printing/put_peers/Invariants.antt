@@ -1,5 +1,5 @@
 use Rattle.std.proofs.Common.{◌≡◌, ◌++◌, take}
-use Rattle.line_text.specs.Rows.{text_of}
+use Rattle.line_format.specs.Rows.{text_of}
 use Rattle.port_text.specs.Table.{pieces_of}
 use Rattle.port_text.specs.Spelling.{rows_of_peers}
 use Rattle.port_text.proofs.printing.put_peers.Given as goal

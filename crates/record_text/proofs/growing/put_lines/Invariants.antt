@@ -1,5 +1,5 @@
 use Rattle.std.proofs.Common.{◌≡◌, ◌++◌, take, map}
-use Rattle.line_text.specs.Rows.{text_of}
+use Rattle.line_format.specs.Rows.{text_of}
 use Rattle.record_text.specs.Table.{pieces_of}
 use Rattle.record_text.specs.LineRows.{row_of_line}
 use Rattle.record_text.specs.Spelling.{AllFit}

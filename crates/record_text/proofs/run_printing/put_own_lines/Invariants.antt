@@ -1,5 +1,5 @@
 use Rattle.std.proofs.Common.{◌≡◌, ◌++◌, take, map}
-use Rattle.line_text.specs.Rows.{text_of}
+use Rattle.line_format.specs.Rows.{text_of}
 use Rattle.record_text.specs.RunTable.{run_pieces_of}
 use Rattle.record_text.specs.RunSpelling.{own_row}
 use Rattle.record_text.specs.Spelling.{AllFit}

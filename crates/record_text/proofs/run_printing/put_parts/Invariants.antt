@@ -1,6 +1,6 @@
 use Rattle.std.proofs.Common.{◌≡◌, ◌++◌, take, map, length}
 use Rattle.std.specs.Prelude.{All}
-use Rattle.line_text.specs.Rows.{text_of}
+use Rattle.line_format.specs.Rows.{text_of}
 use Rattle.record_text.specs.OwnParts.{part_of}
 use Rattle.record_text.specs.RunTable.{run_pieces_of}
 use Rattle.record_text.specs.RunSpelling.{IsPart, rows_of_parts}

@@ -3,7 +3,7 @@ use Rattle.lawful_history.specs.declared.line.Line.{Line}
 use Rattle.lawful_history.specs.Frames.{HaveFrames}
 use Rattle.lawful_history.specs.Sides.{world_of}
 use Rattle.lawful_history.specs.Schedule.{schedule}
-use Rattle.stage.proofs.Runs.{one_act, act_at, losses_few}
+use Rattle.simulator.proofs.Runs.{one_act, act_at, losses_few}
 use Rattle.sim_world.specs.Playing.{output_of}
 use Rattle.sim_world.proofs.Histories.{heard_whole}
 use Rattle.sim_world.proofs.playing.play.Goals as goal
@@ -29,12 +29,12 @@ loop-act-preserved g c =
     let inside = rw c.items-act-items.ensures at c.loop-act-test.true in
     let at = rw c.items-act-items.ensures at c.act-item.is in
     let next = c.in_ok-play_act.ensures c.args.listener.now world c.args.version (schedule (take i world.acts)) (act_at world i c.act-item.result c.args.scenario.now.world inside at) c.loop-act.invariant in
-    record { gone = next.gone; runs = one_act world (output_of c.args.version next.gone) world.acts i c.act-item.result c.play_act.new.stage inside at next.runs; lines = next.lines }
+    record { gone = next.gone; runs = one_act world (output_of c.args.version next.gone) world.acts i c.act-item.result c.play_act.new.simulator inside at next.runs; lines = next.lines }
 
 pub returns : goal.returns
 returns g c =
     let world = world_of c.args.scenario.now in
-    let heard = c.loop-act.invariant in
+    let received = c.loop-act.invariant in
     let end = rw c.items-act-items.ensures at c.loop-act-test.false in
-    let same = heard_whole world c.args.version heard.gone c.loop-act.act-index c.loop-act.stage end heard.runs in
-    subst (λ (lines : List Line). g.L.Listener.heard c.args.listener.now c.hear.new.self lines) (ap (λ (lines : List Line). heard.gone ++ lines) c.lines-last.ensures ∙ same) (c.in_ok-hear.ensures c.args.listener.now heard.gone heard.lines (subst (λ (lines : List Line). HaveFrames lines) (sym c.lines-last.ensures) heard.runs.after.log.frames))
+    let same = heard_whole world c.args.version received.gone c.loop-act.act-index c.loop-act.simulator end received.runs in
+    subst (λ (lines : List Line). g.L.Listener.received c.args.listener.now c.take_lines.new.self lines) (ap (λ (lines : List Line). received.gone ++ lines) c.lines-last.ensures ∙ same) (c.in_ok-take_lines.ensures c.args.listener.now received.gone received.lines (subst (λ (lines : List Line). HaveFrames lines) (sym c.lines-last.ensures) received.runs.after.log.frames))

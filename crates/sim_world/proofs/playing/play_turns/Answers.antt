@@ -1,11 +1,11 @@
 use Rattle.std.proofs.Common.{◌≡◌, ℕ, ◌+◌, List, ◌∷◌, ◌++◌, [], replicate, arith, append_assoc, ap, ◌∙◌}
 use Rattle.std.proofs.lemmas.List.{append-nil, replicate-append-replicate}
-use Rattle.lawful_history.specs.Schedule.{Turned}
+use Rattle.lawful_history.specs.Schedule.{TurnTaken}
 use Rattle.sim_world.specs.Playing.{output_of}
 use Rattle.sim_world.proofs.playing.play_turns.Goals as goal
 
 pub loop-k-init : goal.loop-k-init
-loop-k-init g c = λ began world version events there heard. rw append-nil heard
+loop-k-init g c = λ began world version events there received. rw append-nil received
 
 pub turn-requires : goal.turn-requires
 turn-requires g c =
@@ -17,10 +17,10 @@ one_more : {A : Type 0} (xs : List A) (n : ℕ) (x : A) → (xs ++ replicate n x
 one_more xs n x = append_assoc xs (replicate n x) (x ∷ []) ∙ ap (λ r. xs ++ r) (replicate-append-replicate n 1 x)
 
 pub loop-k-preserved : goal.loop-k-preserved
-loop-k-preserved g c = λ began world version events there heard.
-    let so_far = c.loop-k.invariant began world version events there heard in
-    rw (← one_more events c.loop-k._k (Turned c.args.peer))
-    (c.in_ok-tell_many.ensures began world version _ (record { gone = so_far.gone; runs = c.in_ok-turn.ensures world (output_of version so_far.gone) _ there so_far.runs; lines = so_far.lines }))
+loop-k-preserved g c = λ began world version events there received.
+    let so_far = c.loop-k.invariant began world version events there received in
+    rw (← one_more events c.loop-k._k (TurnTaken c.args.peer))
+    (c.in_ok-pass_on_many.ensures began world version _ (record { gone = so_far.gone; runs = c.in_ok-turn.ensures world (output_of version so_far.gone) _ there so_far.runs; lines = so_far.lines }))
 
 pub returns : goal.returns
-returns g c = λ began world version events there heard. let all : c.loop-k._k ≡ c.args.steps = omega arith in rw all at (c.loop-k.invariant began world version events there heard)
+returns g c = λ began world version events there received. let all : c.loop-k._k ≡ c.args.steps = omega arith in rw all at (c.loop-k.invariant began world version events there received)

@@ -2,7 +2,7 @@ use Rattle.std.proofs.Common.{List, take, rules, sym, subst, arith}
 use Rattle.std.proofs.lemmas.List.{take_all}
 use Rattle.split_ring.specs.declared.steps.Note.{Note}
 use Rattle.lawful_history.specs.Peers.{Auto, counted_all}
-use Rattle.link_endpoint.specs.Stands.{marks_between}
+use Rattle.link_endpoint.specs.Refinement.{marks_between}
 use Rattle.step_lines.specs.Plans.{IsPlanOf}
 use Rattle.step_lines.proofs.Marks.{one_count}
 use Rattle.step_lines.proofs.notes.count_notes.Goals as goal

@@ -1,6 +1,6 @@
 use Rattle.std.proofs.Common.{ℕ, List, take}
 use Rattle.lawful_history.specs.Peers.{Auto, counted_all}
-use Rattle.link_endpoint.specs.Stands.{marks_between}
+use Rattle.link_endpoint.specs.Refinement.{marks_between}
 use Rattle.step_lines.specs.Plans.{IsPlanOf}
 use Rattle.step_lines.proofs.notes.count_notes.Given as goal
 

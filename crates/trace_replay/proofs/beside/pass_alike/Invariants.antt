@@ -4,8 +4,8 @@ use Rattle.trace_replay.proofs.beside.pass_alike.Given as goal
 
 abbrev pub invariant-loop-waiting : goal.invariant-loop-waiting
 invariant-loop-waiting l = record {
-  beside : (bytes : List ℕ) → IsBeside bytes l.initial.course l.initial.reader → IsBeside bytes l.course l.reader;
-  some : (bytes : List ℕ) × IsBeside bytes l.course l.reader;
+  beside : (bytes : List ℕ) → IsBeside bytes l.initial.expected_run l.initial.reader → IsBeside bytes l.expected_run l.reader;
+  some : (bytes : List ℕ) × IsBeside bytes l.expected_run l.reader;
 }
 
 abbrev pub decreases-loop-waiting : goal.decreases-loop-waiting

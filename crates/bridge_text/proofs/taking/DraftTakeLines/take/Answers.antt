@@ -1,6 +1,6 @@
 use Rattle.std.proofs.Common.{sym, refl}
-use Rattle.line_text.specs.Forms.{fields_of}
-use Rattle.line_text.proofs.TableLaws.{no_form}
+use Rattle.line_format.specs.Forms.{fields_of}
+use Rattle.line_format.proofs.TableLaws.{no_form}
 use Rattle.bridge_text.specs.Table.{pieces_of, all_forms}
 use Rattle.bridge_text.specs.Judge.{step}
 use Rattle.bridge_text.proofs.TableLaws.{is_table}

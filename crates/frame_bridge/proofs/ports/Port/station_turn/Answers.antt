@@ -1,21 +1,21 @@
 use Rattle.std.proofs.Common.{ℕ, ◌++◌, List, refl, ap, ◌∙◌}
-use Rattle.line_text.specs.Rows.{line_of_row}
+use Rattle.line_format.specs.Rows.{line_of_row}
 use Rattle.link_endpoint.specs.Engine.{delivered}
 use Rattle.frame_bridge.specs.Output.{pieces_of, out_row}
-use Rattle.frame_bridge.specs.Held.{if_told}
+use Rattle.frame_bridge.specs.Refinement.{delivered_if}
 use Rattle.frame_bridge.proofs.PortTurns.{station_told, station_quiet}
 use Rattle.frame_bridge.proofs.ports.Port.station_turn.Goals as goal
 
 pub returns-in_ok-put : goal.returns-in_ok-put
-returns-in_ok-put c = λ link forwarded stands.
-    station_told link forwarded c.args.self.now _ (delivered c.take_turn.new.self.end) stands (c.take_turn.ensures.words link stands.station stands.region)
-    (c.take_turn.ensures.party link stands.station stands.region)
-    (c.take_turn.ensures.told link stands.station stands.region ∙ ap (λ b. if_told b (delivered c.take_turn.new.self.end)) c.if-take_turn.true)
+returns-in_ok-put c = λ link forwarded refines.
+    station_told link forwarded c.args.self.now _ (delivered c.take_turn.new.self.end) refines (c.take_turn.ensures.words link refines.station refines.region)
+    (c.take_turn.ensures.party link refines.station refines.region)
+    (c.take_turn.ensures.told link refines.station refines.region ∙ ap (λ b. delivered_if b (delivered c.take_turn.new.self.end)) c.if-take_turn.true)
     refl (c.in_ok-put.ensures ∙ ap (λ (frame : List ℕ). c.args.self.now.outs.items ++ line_of_row pieces_of (out_row frame)) c.delivered.ensures) c.saturating_add-self.ensures refl
 
 pub returns-else-take_turn : goal.returns-else-take_turn
-returns-else-take_turn c = λ link forwarded stands.
-    station_quiet link forwarded c.args.self.now _ (delivered c.take_turn.new.self.end) stands (c.take_turn.ensures.words link stands.station stands.region)
-    (c.take_turn.ensures.party link stands.station stands.region)
-    (c.take_turn.ensures.told link stands.station stands.region ∙ ap (λ b. if_told b (delivered c.take_turn.new.self.end)) c.if-take_turn.false)
+returns-else-take_turn c = λ link forwarded refines.
+    station_quiet link forwarded c.args.self.now _ (delivered c.take_turn.new.self.end) refines (c.take_turn.ensures.words link refines.station refines.region)
+    (c.take_turn.ensures.party link refines.station refines.region)
+    (c.take_turn.ensures.told link refines.station refines.region ∙ ap (λ b. delivered_if b (delivered c.take_turn.new.self.end)) c.if-take_turn.false)
     refl refl refl refl

@@ -1,6 +1,6 @@
 use Rattle.std.proofs.Common.{◌≡◌, ℕ, List, sym, subst, arith}
 use Rattle.frame_bridge.specs.Run.{World, Turn, turn, times, ran}
-use Rattle.frame_bridge.specs.Held.{IsThere}
+use Rattle.frame_bridge.specs.Refinement.{IsThere}
 use Rattle.frame_bridge.proofs.Schedules.{ran_append, times_none, times_more}
 use Rattle.frame_bridge.proofs.run.Run.port_turns.Goals as goal
 

@@ -1,7 +1,7 @@
 use Rattle.std.proofs.Common.{ℕ, List}
 use Rattle.bridge_text.specs.declared.scripts.Sent.{Sent}
 use Rattle.frame_bridge.specs.Run.{World, turn, times, ran}
-use Rattle.frame_bridge.specs.Held.{IsThere}
+use Rattle.frame_bridge.specs.Refinement.{IsThere}
 use Rattle.frame_bridge.proofs.run.Run.port_turns.Given as goal
 
 -- the turns of the station so far

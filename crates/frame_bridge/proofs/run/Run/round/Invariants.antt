@@ -3,7 +3,7 @@ use Rattle.std.specs.List.{flat_map}
 use Rattle.bridge_text.specs.declared.scripts.Sent.{Sent}
 use Rattle.frame_bridge.specs.Forwarding.{first_ports}
 use Rattle.frame_bridge.specs.Run.{World, turns_of, ran}
-use Rattle.frame_bridge.specs.Held.{IsThere}
+use Rattle.frame_bridge.specs.Refinement.{IsThere}
 use Rattle.frame_bridge.proofs.run.Run.round.Given as goal
 
 -- the ports so far

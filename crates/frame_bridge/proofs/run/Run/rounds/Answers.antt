@@ -1,6 +1,6 @@
 use Rattle.std.proofs.Common.{◌≡◌, ℕ, subst, arith}
 use Rattle.frame_bridge.specs.Run.{World, schedule, ran}
-use Rattle.frame_bridge.specs.Held.{IsThere}
+use Rattle.frame_bridge.specs.Refinement.{IsThere}
 use Rattle.frame_bridge.proofs.Schedules.{rounds_more}
 use Rattle.frame_bridge.proofs.run.Run.rounds.Goals as goal
 

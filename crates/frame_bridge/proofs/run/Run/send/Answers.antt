@@ -4,7 +4,7 @@ use Rattle.std.proofs.lemmas.Iterator.Adapters.{YieldsList-from_vec}
 use Rattle.std.proofs.lemmas.Iterator.Consumers.{YieldsList-turn, YieldsList-end}
 use Rattle.bridge_text.specs.declared.scripts.Sent.{Sent}
 use Rattle.frame_bridge.specs.Run.{frames_of, started}
-use Rattle.frame_bridge.specs.Held.{RunStands}
+use Rattle.frame_bridge.specs.Refinement.{RunRefines}
 use Rattle.frame_bridge.proofs.There.{get_at}
 use Rattle.frame_bridge.proofs.Starting.{sent_stands, map_same}
 use Rattle.frame_bridge.proofs.run.Run.send.Goals as goal
@@ -31,10 +31,10 @@ loop-one-preserved c =
     let here = get_at c.loop-one.self.ports.items c.in-Some.one.port c.index_mut-port.result.now below c.index_mut-port.ensures.value in
     record {
       long = length-set c.loop-one.self.ports.items c.in-Some.one.port c.send.new.self ∙ c.loop-one.invariant.long;
-      stands = λ ports start.
-          let stands = c.loop-one.invariant.stands ports start in
-          sent_stands ports c.loop-one.yielded c.loop-one.self _ c.in-Some.one c.send.new.self stands (omega (arith, below, stands.long))
-          (c.in_ok-send.ensures (frames_of c.in-Some.one.port c.loop-one.yielded) (stands.each c.in-Some.one.port c.index_mut-port.result.now here)) refl refl refl;
+      refines = λ ports start.
+          let refines = c.loop-one.invariant.refines ports start in
+          sent_stands ports c.loop-one.yielded c.loop-one.self _ c.in-Some.one c.send.new.self refines (omega (arith, below, refines.long))
+          (c.in_ok-send.ensures (frames_of c.in-Some.one.port c.loop-one.yielded) (refines.each c.in-Some.one.port c.index_mut-port.result.now here)) refl refl refl;
     }
 
 pub returns : goal.returns
@@ -44,4 +44,4 @@ returns c = λ ports start.
     given.1 ∙ (c.into_items-one-items.result.ok.0 ∙ ap length c.into_items-one-items.ensures) in
     let road = YieldsList-from_vec {s = c.into_iter-one-iterator.result} c.args.sent (given.0 ∙ c.into_items-one-items.ensures) long in
     let end = YieldsList-end road c.loop-one.yielded c.loop-one.one-iterator c.loop-one.yielded_by c.next.result c.next.new.self c.in-None.is c.next.ensures.steps in
-    subst (λ (l : List Sent). RunStands ports (started l) c.loop-one.self) (sym (map_same c.loop-one.yielded) ∙ end.0) (c.loop-one.invariant.stands ports start)
+    subst (λ (l : List Sent). RunRefines ports (started l) c.loop-one.self) (sym (map_same c.loop-one.yielded) ∙ end.0) (c.loop-one.invariant.refines ports start)

@@ -1,11 +1,11 @@
 use Rattle.std.proofs.Common.{◌≡◌, ℕ, length, []}
 use Rattle.frame_bridge.specs.Run.{started}
-use Rattle.frame_bridge.specs.Held.{RunStands}
+use Rattle.frame_bridge.specs.Refinement.{RunRefines}
 use Rattle.frame_bridge.proofs.run.Run.send.Given as goal
 
 -- the frames so far are given out
 abbrev pub invariant-loop-one : goal.invariant-loop-one
 invariant-loop-one l = record {
   long : length l.self.ports.items ≡ length l.fn.self.ports.items;
-  stands : (ports : ℕ) → RunStands ports (started []) l.fn.self → RunStands ports (started l.yielded) l.self;
+  refines : (ports : ℕ) → RunRefines ports (started []) l.fn.self → RunRefines ports (started l.yielded) l.self;
 }

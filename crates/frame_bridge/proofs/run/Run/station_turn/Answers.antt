@@ -10,7 +10,7 @@ station_turn-requires c =
     let ports = c.requires.1 in
     let w = c.requires.2 in
     let there = c.requires.3 in
-    let below : c.args.port < length c.args.self.now.ports.items = omega (arith, c.requires.4, there.stands.long) in
+    let below : c.args.port < length c.args.self.now.ports.items = omega (arith, c.requires.4, there.refines.long) in
     let here = get_at c.args.self.now.ports.items c.args.port c.index_mut-port.result.now below c.index_mut-port.ensures.value in (
       w.links c.args.port,
       forward w.arrivals c.args.port,
@@ -20,9 +20,9 @@ station_turn-requires c =
 
 pub returns : goal.returns
 returns c = λ sent ports w there.
-    let long : length c.args.self.now.ports.items ≡ c.requires.1 = c.requires.3.stands.long in
+    let long : length c.args.self.now.ports.items ≡ c.requires.1 = c.requires.3.refines.long in
     let below : c.args.port < length c.args.self.now.ports.items = omega (arith, c.requires.4, long) in
     let here = get_at c.args.self.now.ports.items c.args.port c.index_mut-port.result.now below c.index_mut-port.ensures.value in
     on_ok_weaker c.station_turn.result
-    (λ stands. station_there sent ports w c.args.self.now _ c.args.port c.station_turn.new.self there (omega (arith, below, there.stands.long)) stands refl refl refl)
+    (λ refines. station_there sent ports w c.args.self.now _ c.args.port c.station_turn.new.self there (omega (arith, below, there.refines.long)) refines refl refl refl)
     (c.station_turn.ensures (w.links c.args.port) (forward w.arrivals c.args.port) (port_in sent ports w c.args.self.now c.args.port c.index_mut-port.result.now there here))

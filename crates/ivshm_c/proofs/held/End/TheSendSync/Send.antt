@@ -13,16 +13,16 @@ use Rattle.std.proofs.Crossing as heap
 use Rattle.std_alloc.proofs.SendSync.{quiet, lies}
 use Rattle.std.specs.declared.alloc.Global.{Global}
 use Rattle.std.proofs.alloc.Global.TheSendSync as handle
-use Rattle.ivshm_c.specs.declared.port.Port.{Port}
-use Rattle.ivshm_c.specs.contracts.port.Port as boxed
-use Rattle.ivshm_c.specs.Held.{held}
+use Rattle.ivshm_c.specs.declared.end_state.EndState.{EndState}
+use Rattle.ivshm_c.specs.contracts.end_state.EndState as boxed
+use Rattle.ivshm_c.specs.Handle.{held}
 use Rattle.ivshm_c.specs.contracts.held.End.{the_row, the_type}
 
 -- a port may go to another thread, since its endpoint may
 sent : IsSend boxed.the_row
 sent = recorded_send (boxed.the_field).row _ _ boxed.the_type.to_one (struct_send (plain_shape boxed.the_type) (endpoint_sent, (search sendable depth 16, tt)))
 
-held_keyless : (at : Ptr) (alloc : Global) (port : Option Port) → Keyless (held at alloc port)
+held_keyless : (at : Ptr) (alloc : Global) (port : Option EndState) → Keyless (held at alloc port)
 held_keyless at alloc None = λ _. tt
 held_keyless at alloc (Some port) = (lies boxed.the_row sent at port, heap.frees.frees alloc (raw (lone boxed.the_row.mir)) at)
 

@@ -19,8 +19,8 @@ use denote.Steps.{nothing}
 use denote.Triple.Walked.{Stays, stay_dropped, walk_of, Goes-dropped}
 use Rattle.std.proofs.alloc.Global.TheLaws as heap_laws
 use Rattle.std.proofs.raw_atomic.Walks.{proved_at, leaves}
-use Rattle.ivshm_c.specs.declared.port.Port.{Port}
-use Rattle.loose_box.proofs.Values.{both}
+use Rattle.ivshm_c.specs.declared.end_state.EndState.{EndState}
+use Rattle.raw_box.proofs.Values.{both}
 use Rattle.ivshm_c.proofs.Words.{Z, global_out, null_good, null_in}
 use Rattle.ivshm_c.specs.contracts.held.End.empty.{ended, clauses}
 use Rattle.ivshm_c.specs.contracts.held.End.empty.Key.{name as #self}
@@ -34,7 +34,7 @@ empty_spec 𝓤 𝓛 𝓜 𝓡 wired =
     proved_at 𝓛 ended hs c 𝓜 𝓡 (Goes-dropped 𝓛 0 (plain (λ _. Z)) yes (λ κs x f. refl), tt) #self code.function (code.unfolded 𝓤 H 𝓜 𝓡 wired) (λ z are.
     let a = z.0.3.0 in let Post : Val → SProp 𝓤 = (walk_of 𝓛 ended hs c).post z in let Run : List Val → SProp 𝓤 = λ ws. WpFn 𝓤 H 𝓣.C 𝓣.Λ code.function ws Post in
     qed 𝓛 ((‵ ftrue ⊛ ‵ (owns (types_at ended.signature.params z.0.0) z.0.3 z.0.4)) ∷ raw ((c z.0.0 z.0.3).requires z.1) ∷ []) ∵ split ! $ move ! (1 ∷ []) $ fsplit ! $
-    global_out ! a z.0.4.0 (λ h ws fits. let w : Val = both vnull h in let None' : Option Port = None in
+    global_out ! a z.0.4.0 (λ h ws fits. let w : Val = both vnull h in let None' : Option EndState = None in
     suffices ! (Run (h ∷ [])) (subst (λ (us : List Val). ent 𝓤 (Run (h ∷ [])) (Run us)) (sym (λ i. ws i ++ [])) (id⊢ 𝓤 (Run (h ∷ [])))) $
     enter ! 𝓣.C 𝓣.Λ code.function (h ∷ []) Post $ alloc_all ! (λ l. pass_all ! refl (fits, tt) $
     sets ! (agg ! (and_then ! (lit ! tt) (and_then ! (get ! refl) (no_more !)))) refl (null_good h fits) $

@@ -26,7 +26,7 @@ use Rattle.std.proofs.alloc.Global.TheLaws as heap_laws
 use Rattle.std.specs.contracts.impls.GlobalAllocator.TheImpl.{ghosts}
 use Rattle.std.proofs.raw_atomic.Walks.{proved_at, leaves}
 use Rattle.std_alloc.proofs.ResultValues.{and_tt}
-use Rattle.loose_box.proofs.Values.{both, Loose, loose_good, loose_in}
+use Rattle.raw_box.proofs.Values.{both, Loose, loose_good, loose_in}
 use Rattle.ivshm_c.proofs.Words.{R, Z, Hd, handle_out, null_good}
 use Rattle.ivshm_c.specs.contracts.held.End.into_loose.{ended, clauses}
 use Rattle.ivshm_c.specs.contracts.held.End.into_loose.Key.{name as #self}

@@ -20,7 +20,7 @@ use denote.Triple.Walked.{Stays, stay_dropped, walk_of, Goes-dropped}
 use Rattle.std.proofs.alloc.Global.TheLaws as heap_laws
 use Rattle.std.specs.contracts.impls.GlobalAllocator.TheImpl.{ghosts}
 use Rattle.std.proofs.raw_atomic.Walks.{proved_at, leaves}
-use Rattle.loose_box.proofs.Values.{both, Loose, loose_good, loose_out}
+use Rattle.raw_box.proofs.Values.{both, Loose, loose_good, loose_out}
 use Rattle.ivshm_c.proofs.Words.{R, Z, handle_in}
 use Rattle.ivshm_c.specs.contracts.held.End.of.{ended, clauses}
 use Rattle.ivshm_c.specs.contracts.held.End.of.Key.{name as #self}

@@ -3,14 +3,14 @@ use Rattle.std.proofs.lemmas.Grind.{common_steps}
 use Rattle.call_grammar.specs.Places as places
 use Rattle.call_grammar.specs.Calls.{Poll}
 use Rattle.link_endpoint.proofs.Opening.{closed_at}
-use Rattle.link_endpoint.specs.Kept.{seen}
+use Rattle.link_endpoint.specs.Representation.{seen}
 use Rattle.link_endpoint.proofs.endpoint.Endpoint.begin.Goals as goal
 
 pub invariant_of-self-then-eq : goal.invariant_of-self-then-eq
 invariant_of-self-then-eq c =
     let kept = c.self.invariant in
-    let who = (seen c.self.inside).who in
-    let closed : kept.at ≡ places.Closed = closed_at (seen c.self.inside) who kept.end kept.at (grind (arith, common_steps)) kept.stands in
+    let config = (seen c.self.inside).config in
+    let closed : kept.at ≡ places.Closed = closed_at (seen c.self.inside) config kept.end kept.at (grind (arith, common_steps)) kept.refines in
     record {
       sections = kept.sections;
       own_room = kept.own_room;
@@ -20,6 +20,6 @@ invariant_of-self-then-eq c =
       mark = grind (arith, common_steps);
       left = grind (arith, common_steps);
       end = kept.end;
-      at = places.first_place who kept.end Poll;
-      stands = grind (arith, common_steps);
+      at = places.first_place config kept.end Poll;
+      refines = grind (arith, common_steps);
     }

@@ -4,22 +4,22 @@ use Rattle.call_grammar.specs.Ends.{fresh}
 use Rattle.call_grammar.specs.Places as places
 use Rattle.link_endpoint.specs.declared.place.Place.TheVariants.{Closed}
 use Rattle.link_endpoint.specs.declared.endpoint.Endpoint.TheInside.{Inside}
-use Rattle.link_endpoint.specs.Engine.{who_of, fresh_engine}
-use Rattle.link_endpoint.specs.Kept.{seen}
-use Rattle.link_endpoint.specs.Stands.{StandsAt}
+use Rattle.link_endpoint.specs.Engine.{config_of, fresh_engine}
+use Rattle.link_endpoint.specs.Representation.{seen}
+use Rattle.link_endpoint.specs.Refinement.{RefinesAt}
 use Rattle.link_endpoint.proofs.Starting.{fresh_stands}
 use Rattle.link_endpoint.proofs.endpoint.Endpoint.new.Goals as goal
 
 inside : goal.In_ok-new-2 → Inside
 inside c = record { other = c.if-me-eq0.other; own = c.section_start-own.result; words = c.out_words-words.result; handshake = c.new.result; refused = None; place = Closed; tx = c.in_ok-new.field-0; rx = c.in_ok-new-2.field-0 }
 
-value : (c : goal.In_ok-new-2) → seen (inside c) ≡ fresh_engine (who_of c.args.geometry.now c.args.queue.now c.args.me c.args.traffic)
+value : (c : goal.In_ok-new-2) → seen (inside c) ≡ fresh_engine (config_of c.args.geometry.now c.args.queue.now c.args.me c.args.traffic)
 unfolding inside
 value c = grind (arith, common_steps)
 
-pub returns-clause-stands : goal.returns-clause-stands
+pub returns-clause-refines : goal.returns-clause-refines
 unfolding inside
-returns-clause-stands c = subst (λ e. StandsAt e (who_of c.args.geometry.now c.args.queue.now c.args.me c.args.traffic) fresh places.Closed) (sym (value c)) (fresh_stands _)
+returns-clause-refines c = subst (λ e. RefinesAt e (config_of c.args.geometry.now c.args.queue.now c.args.me c.args.traffic) fresh places.Closed) (sym (value c)) (fresh_stands _)
 
 pub invariant_of-result : goal.invariant_of-result
 unfolding inside
@@ -33,5 +33,5 @@ invariant_of-result c = record {
   left = grind (arith, common_steps);
   end = fresh;
   at = places.Closed;
-  stands = subst (λ e. StandsAt e e.who fresh places.Closed) (sym (value c)) (fresh_stands _);
+  refines = subst (λ e. RefinesAt e e.config fresh places.Closed) (sym (value c)) (fresh_stands _);
 }

@@ -1,6 +1,6 @@
 use Rattle.std.proofs.Common.{subst, ap, sym, ◌∙◌}
-use Rattle.link_endpoint.specs.Stands.{StandsAt}
-use Rattle.link_endpoint.specs.Kept.{seen}
+use Rattle.link_endpoint.specs.Refinement.{RefinesAt}
+use Rattle.link_endpoint.specs.Representation.{seen}
 use Rattle.link_endpoint.specs.Orders.{order_of}
 use Rattle.link_endpoint.specs.declared.place.Place.TheVariants.{Offering, Polling}
 use Rattle.link_endpoint.proofs.Opening.{at_place}
@@ -9,13 +9,13 @@ use Rattle.link_endpoint.proofs.InOrder.{offer_order, poll_order}
 use Rattle.link_endpoint.proofs.endpoint.Endpoint.order.Goals as goal
 
 pub returns-in-Offering : goal.returns-in-Offering
-returns-in-Offering c = λ who end place stands.
-    let inside = subst (λ e. StandsAt e who end place) (sym c.self.view_is) stands in
-    let at = at_place Offering (seen c.self.inside) who end place c.in-Offering.is inside in
-    c.order_of.ensures ∙ ap order_of (c.word_kind.ensures who end place at.1) ∙ offer_order place (offer_at c.self.inside.tx who end place at.1 at.0)
+returns-in-Offering c = λ config end place refines.
+    let inside = subst (λ e. RefinesAt e config end place) (sym c.self.view_is) refines in
+    let at = at_place Offering (seen c.self.inside) config end place c.in-Offering.is inside in
+    c.order_of.ensures ∙ ap order_of (c.word_kind.ensures config end place at.1) ∙ offer_order place (offer_at c.self.inside.tx config end place at.1 at.0)
 
 pub returns-in-Polling : goal.returns-in-Polling
-returns-in-Polling c = λ who end place stands.
-    let inside = subst (λ e. StandsAt e who end place) (sym c.self.view_is) stands in
-    let at = at_place Polling (seen c.self.inside) who end place c.in-Polling.is inside in
-    c.order_of-in-Polling.ensures ∙ ap order_of (c.word_kind-in-Polling.ensures who end place at.2) ∙ poll_order place (poll_at c.self.inside.rx who end place at.2 at.0)
+returns-in-Polling c = λ config end place refines.
+    let inside = subst (λ e. RefinesAt e config end place) (sym c.self.view_is) refines in
+    let at = at_place Polling (seen c.self.inside) config end place c.in-Polling.is inside in
+    c.order_of-in-Polling.ensures ∙ ap order_of (c.word_kind-in-Polling.ensures config end place at.2) ∙ poll_order place (poll_at c.self.inside.rx config end place at.2 at.0)

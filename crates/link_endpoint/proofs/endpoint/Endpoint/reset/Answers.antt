@@ -17,5 +17,5 @@ invariant_of-self c =
       left = grind (arith, common_steps);
       end = after_reset kept.end;
       at = places.Closed;
-      stands = grind (arith, common_steps);
+      refines = grind (arith, common_steps);
     }

@@ -1,17 +1,17 @@
 use Rattle.std.proofs.Common.{◌≡◌, ◌+◌, ℕ, List, [], length, ap, sym, ◌∙◌, arith}
-use Rattle.call_grammar.specs.Stretches.{Each}
+use Rattle.call_grammar.specs.Bursts.{StepsThrough}
 use Rattle.link_endpoint.specs.declared.place.Place.TheVariants.{Clearing}
 use Rattle.link_endpoint.specs.Engine.{Engine}
-use Rattle.link_endpoint.specs.Kept.{seen}
-use Rattle.link_endpoint.specs.Stretches.{IsTaken}
+use Rattle.link_endpoint.specs.Representation.{seen}
+use Rattle.link_endpoint.specs.Bursts.{IsTaken}
 use Rattle.link_endpoint.proofs.Stretching.{clears_some, kept_placed, some_values}
 use Rattle.link_endpoint.proofs.endpoint.Endpoint.took_clears.Goals as goal
 
-steps : (c : goal.After-self-1) (values : List ℕ) → length values ≡ c.args.count → Each IsTaken (seen c.self.inside) values [] (seen (record (c.self.inside) { place = c.clearing-self-inside.result }))
+steps : (c : goal.After-self-1) (values : List ℕ) → length values ≡ c.args.count → StepsThrough IsTaken (seen c.self.inside) values [] (seen (record (c.self.inside) { place = c.clearing-self-inside.result }))
 steps c values count =
     let i = c.self.inside in
     let here : i.place ≡ Clearing c.args.at c.args.then = ap (λ (e : Engine). e.place) c.self.view_is ∙ c.requires.place in
-    let room : c.args.self.now.who.own + c.args.self.now.who.words ≡ i.own + i.words = ap (λ (e : Engine). e.who.own + e.who.words) (sym c.self.view_is) in
+    let room : c.args.self.now.config.own + c.args.self.now.config.words ≡ i.own + i.words = ap (λ (e : Engine). e.config.own + e.config.words) (sym c.self.view_is) in
     clears_some (seen i) c.args.at c.args.then c.args.count c.clearing-self-inside.result values here c.requires.some (omega (arith, c.requires.within, room)) count c.clearing-self-inside.ensures.word c.clearing-self-inside.ensures.after
 
 pub returns : goal.returns

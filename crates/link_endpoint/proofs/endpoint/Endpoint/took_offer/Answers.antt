@@ -2,8 +2,8 @@ use Rattle.std.proofs.Common.{◌≡◌, subst, sym, ◌∙◌, refl, None, Some
 use Rattle.std.proofs.lemmas.Grind.{common_steps}
 use Rattle.link_endpoint.specs.declared.place.Place.TheVariants.{Closed, Refusing, Offering}
 use Rattle.link_endpoint.specs.Engine.{refused_after}
-use Rattle.link_endpoint.specs.Kept.{seen}
-use Rattle.link_endpoint.specs.Stands.{Takes}
+use Rattle.link_endpoint.specs.Representation.{seen}
+use Rattle.link_endpoint.specs.Refinement.{Takes}
 use Rattle.link_endpoint.proofs.Seen.{KeepsNumbers, seen_sent, kept_sent}
 use Rattle.link_endpoint.proofs.Away.{none_left, away_refused, away_none}
 use Rattle.link_endpoint.proofs.Sending.{takes_refused, takes_end, takes_on}
@@ -17,7 +17,7 @@ refused c =
     let keeps : KeepsNumbers i.tx c.took_into.new.self = grind (arith, common_steps, c.took_into.ensures.kept) in
     let found : refused_after c.took_into.new.notes.items None ≡ Some c.in-Some.refused = sym c.refused_in.ensures ∙ c.in-Some.is in
     let offers : i.place ≡ Offering = grind (arith, common_steps) in
-    let taken = takes_refused (seen i) c.args.value c.took_into.new.notes.items c.took_into.new.self c.in-Some.refused (seen i).who kept.end kept.at offers c.took_into.ensures kept.stands found in
+    let taken = takes_refused (seen i) c.args.value c.took_into.new.notes.items c.took_into.new.self c.in-Some.refused (seen i).config kept.end kept.at offers c.took_into.ensures kept.refines found in
     (keeps, subst (λ e. Takes (seen i) c.args.value c.took_into.new.notes.items e) (seen_sent i c.took_into.new.self (Some c.in-Some.refused) Refusing keeps) taken)
 
 pub returns-in-Some-clause-steps : goal.returns-in-Some-clause-steps
@@ -34,7 +34,7 @@ over c =
     let keeps : KeepsNumbers i.tx c.took_into.new.self = grind (arith, common_steps, c.took_into.ensures.kept) in
     let none : refused_after c.took_into.new.notes.items None ≡ None = sym c.refused_in.ensures ∙ c.in_default.is in
     let offers : i.place ≡ Offering = grind (arith, common_steps) in
-    let taken = takes_end (seen i) c.args.value c.took_into.new.notes.items c.took_into.new.self c.busy.result (seen i).who kept.end kept.at offers c.took_into.ensures kept.stands none c.busy.ensures.bounds c.busy.ensures.place c.if-not-busy.true in
+    let taken = takes_end (seen i) c.args.value c.took_into.new.notes.items c.took_into.new.self c.busy.result (seen i).config kept.end kept.at offers c.took_into.ensures kept.refines none c.busy.ensures.bounds c.busy.ensures.place c.if-not-busy.true in
     (keeps, subst (λ e. Takes (seen i) c.args.value c.took_into.new.notes.items e) (seen_sent i c.took_into.new.self i.refused Closed keeps) taken)
 
 pub returns-then-not-busy-clause-steps : goal.returns-then-not-busy-clause-steps
@@ -48,7 +48,7 @@ going c =
     let keeps : KeepsNumbers i.tx c.took_into.new.self = grind (arith, common_steps, c.took_into.ensures.kept) in
     let none : refused_after c.took_into.new.notes.items None ≡ None = sym c.refused_in.ensures ∙ c.in_default.is in
     let offers : i.place ≡ Offering = grind (arith, common_steps) in
-    let taken = takes_on (seen i) c.args.value c.took_into.new.notes.items c.took_into.new.self c.busy.result (seen i).who kept.end kept.at offers c.took_into.ensures kept.stands none c.busy.ensures.bounds c.busy.ensures.place c.if-not-busy.false in
+    let taken = takes_on (seen i) c.args.value c.took_into.new.notes.items c.took_into.new.self c.busy.result (seen i).config kept.end kept.at offers c.took_into.ensures kept.refines none c.busy.ensures.bounds c.busy.ensures.place c.if-not-busy.false in
     (keeps, subst (λ e. Takes (seen i) c.args.value c.took_into.new.notes.items e) (seen_sent i c.took_into.new.self i.refused i.place keeps) taken)
 
 pub returns-else-not-busy-clause-steps : goal.returns-else-not-busy-clause-steps

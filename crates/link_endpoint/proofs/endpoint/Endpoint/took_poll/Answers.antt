@@ -2,8 +2,8 @@ use Rattle.std.proofs.Common.{◌≡◌, sym, ◌∙◌, refl, None, Some, arith
 use Rattle.std.proofs.lemmas.Grind.{common_steps}
 use Rattle.link_endpoint.specs.declared.place.Place.TheVariants.{Closed, Refusing, Polling}
 use Rattle.link_endpoint.specs.Engine.{refused_after}
-use Rattle.link_endpoint.specs.Kept.{seen}
-use Rattle.link_endpoint.specs.Stands.{Takes}
+use Rattle.link_endpoint.specs.Representation.{seen}
+use Rattle.link_endpoint.specs.Refinement.{Takes}
 use Rattle.link_endpoint.proofs.Seen.{kept_received}
 use Rattle.link_endpoint.proofs.Away.{none_left, away_refused, away_none}
 use Rattle.link_endpoint.proofs.Receiving.{takes_refused, takes_end, takes_on}
@@ -16,7 +16,7 @@ refused c =
     let kept = c.self.invariant in
     let found : refused_after c.took_into.new.notes.items None ≡ Some c.in-Some.refused = sym c.refused_in.ensures ∙ c.in-Some.is in
     let polls : i.place ≡ Polling = grind (arith, common_steps) in
-    takes_refused (seen i) c.args.value c.took_into.new.notes.items c.took_into.new.self c.in-Some.refused (seen i).who kept.end kept.at polls c.took_into.ensures.steps kept.stands found
+    takes_refused (seen i) c.args.value c.took_into.new.notes.items c.took_into.new.self c.in-Some.refused (seen i).config kept.end kept.at polls c.took_into.ensures.steps kept.refines found
 
 pub returns-in-Some-clause-steps : goal.returns-in-Some-clause-steps
 returns-in-Some-clause-steps c = rw (← c.self.view_is) (refused c)
@@ -31,7 +31,7 @@ over c =
     let kept = c.self.invariant in
     let none : refused_after c.took_into.new.notes.items None ≡ None = sym c.refused_in.ensures ∙ c.in_default.is in
     let polls : i.place ≡ Polling = grind (arith, common_steps) in
-    takes_end (seen i) c.args.value c.took_into.new.notes.items c.took_into.new.self c.busy.result (seen i).who kept.end kept.at polls c.took_into.ensures.steps kept.stands none c.busy.ensures.open c.if-not-busy.true
+    takes_end (seen i) c.args.value c.took_into.new.notes.items c.took_into.new.self c.busy.result (seen i).config kept.end kept.at polls c.took_into.ensures.steps kept.refines none c.busy.ensures.open c.if-not-busy.true
 
 pub returns-then-not-busy-clause-steps : goal.returns-then-not-busy-clause-steps
 returns-then-not-busy-clause-steps c = rw (← c.self.view_is) (over c)
@@ -43,7 +43,7 @@ going c =
     let kept = c.self.invariant in
     let none : refused_after c.took_into.new.notes.items None ≡ None = sym c.refused_in.ensures ∙ c.in_default.is in
     let polls : i.place ≡ Polling = grind (arith, common_steps) in
-    takes_on (seen i) c.args.value c.took_into.new.notes.items c.took_into.new.self c.busy.result (seen i).who kept.end kept.at polls c.took_into.ensures.steps kept.stands none c.busy.ensures.open c.if-not-busy.false
+    takes_on (seen i) c.args.value c.took_into.new.notes.items c.took_into.new.self c.busy.result (seen i).config kept.end kept.at polls c.took_into.ensures.steps kept.refines none c.busy.ensures.open c.if-not-busy.false
 
 pub returns-else-not-busy-clause-steps : goal.returns-else-not-busy-clause-steps
 returns-else-not-busy-clause-steps c = rw (← c.self.view_is) (going c)

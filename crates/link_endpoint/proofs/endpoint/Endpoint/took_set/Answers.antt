@@ -4,9 +4,9 @@ use Rattle.split_ring.specs.declared.steps.Note.TheVariants as note
 use Rattle.call_grammar.specs.Ends.{end_after}
 use Rattle.call_grammar.specs.Places as places
 use Rattle.link_endpoint.specs.declared.place.Place.TheVariants.{Closed}
-use Rattle.link_endpoint.specs.Kept.{seen}
-use Rattle.link_endpoint.specs.Stands.{Takes}
-use Rattle.link_endpoint.proofs.Setting.{sets_other}
+use Rattle.link_endpoint.specs.Representation.{seen}
+use Rattle.link_endpoint.specs.Refinement.{Takes}
+use Rattle.link_endpoint.proofs.WritingState.{sets_other}
 use Rattle.link_endpoint.proofs.endpoint.Endpoint.took_set.Goals as goal
 
 taken : (c : goal.After-push) (value : ℕ) → Takes (seen c.self.inside) value (note.Over ∷ []) (record (seen c.self.inside) { phase = c.enter.new.self.phase; place = Closed })
@@ -18,7 +18,7 @@ returns-clause-steps c = λ value. rw (← c.self.view_is, c.push.ensures.items,
 pub invariant_of-self : goal.invariant_of-self
 invariant_of-self c =
     let kept = c.self.invariant in
-    let who = (seen c.self.inside).who in
+    let config = (seen c.self.inside).config in
     record {
       sections = kept.sections;
       own_room = kept.own_room;
@@ -27,7 +27,7 @@ invariant_of-self c =
       receiver = kept.receiver;
       mark = grind (arith, common_steps);
       left = grind (arith, common_steps);
-      end = end_after kept.end (places.step_at who kept.at 0);
-      at = places.next_place who kept.at 0;
-      stands = (taken c 0).stands who kept.end kept.at kept.stands;
+      end = end_after kept.end (places.step_at config kept.at 0);
+      at = places.next_place config kept.at 0;
+      refines = (taken c 0).refines config kept.end kept.at kept.refines;
     }

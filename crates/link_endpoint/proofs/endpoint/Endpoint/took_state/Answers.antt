@@ -2,13 +2,13 @@ use Rattle.std.proofs.Common.{arith}
 use Rattle.std.proofs.lemmas.Grind.{common_steps}
 use Rattle.call_grammar.specs.Ends.{end_after}
 use Rattle.call_grammar.specs.Places as places
-use Rattle.link_endpoint.specs.Kept.{seen}
+use Rattle.link_endpoint.specs.Representation.{seen}
 use Rattle.link_endpoint.proofs.endpoint.Endpoint.took_state.Goals as goal
 
 pub invariant_of-self : goal.invariant_of-self
 invariant_of-self c =
     let kept = c.self.invariant in
-    let who = (seen c.self.inside).who in
+    let config = (seen c.self.inside).config in
     record {
       sections = kept.sections;
       own_room = kept.own_room;
@@ -17,7 +17,7 @@ invariant_of-self c =
       receiver = kept.receiver;
       mark = grind (arith, common_steps);
       left = grind (arith, common_steps);
-      end = end_after kept.end (places.step_at who kept.at c.args.value);
-      at = places.next_place who kept.at c.args.value;
-      stands = grind (arith, common_steps);
+      end = end_after kept.end (places.step_at config kept.at c.args.value);
+      at = places.next_place config kept.at c.args.value;
+      refines = grind (arith, common_steps);
     }

@@ -1,6 +1,6 @@
 use Rattle.std.proofs.Common.{◌≡◌, ◌+◌, true, false, arith}
-use Rattle.line_text.specs.declared.reading.TextFault.TheVariants as texts
-use Rattle.line_text.proofs.ReadingLaws.{no_end, wrong_line, good_line}
+use Rattle.line_format.specs.declared.reading.TextFault.TheVariants as texts
+use Rattle.line_format.proofs.ReadingLaws.{no_end, wrong_line, good_line}
 use Rattle.scenario_text.specs.Drafts.{so_far}
 use Rattle.record_text.specs.Judge.{machine, reading}
 use Rattle.record_text.specs.Drafts.{part_so_far}

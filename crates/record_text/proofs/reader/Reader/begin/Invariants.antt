@@ -1,6 +1,6 @@
 use Rattle.std.proofs.Common.{◌≡◌, ◌+◌, ◌≤◌, [], length, false}
-use Rattle.line_text.specs.Forms.{cuts}
-use Rattle.line_text.specs.Machine.{read_pieces}
+use Rattle.line_format.specs.Forms.{cuts}
+use Rattle.line_format.specs.Machine.{read_pieces}
 use Rattle.record_text.specs.Judge.{is_whole, machine, reading}
 use Rattle.record_text.specs.Drafts.{part_so_far}
 use Rattle.record_text.proofs.BackLaws.{GoodPart}

@@ -1,7 +1,7 @@
 use Rattle.std.proofs.Common.{◌+◌, [], ◌∷◌, arith, length-append}
 use Rattle.std.proofs.lemmas.Grind.{common_steps}
-use Rattle.line_text.specs.declared.reading.TextFault.TheVariants as texts
-use Rattle.line_text.proofs.ReadingLaws.{no_end}
+use Rattle.line_format.specs.declared.reading.TextFault.TheVariants as texts
+use Rattle.line_format.proofs.ReadingLaws.{no_end}
 use Rattle.record_text.specs.declared.faults.RecordCause.TheVariants.{BadCount}
 use Rattle.record_text.specs.Judge.{InHistory, machine, reading}
 use Rattle.record_text.proofs.ReaderLaws.{refused, is_record, wrong_there, one_more, ends_there, goes_on_after, right_count, wrong_count}

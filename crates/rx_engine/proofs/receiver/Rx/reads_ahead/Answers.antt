@@ -3,6 +3,6 @@ use Rattle.std.proofs.lemmas.Grind.{common_steps}
 use Rattle.rx_engine.proofs.Stretching.{reads_on}
 use Rattle.rx_engine.proofs.receiver.Rx.reads_ahead.Goals as goal
 
-pub returns-in-AtWord-clause-reads : goal.returns-in-AtWord-clause-reads
-returns-in-AtWord-clause-reads c = λ who end place word stands first.
-    reads_on _ who end place word c.in-AtWord.more c.in-AtWord.entry c.in-AtWord.address c.in-AtWord.bytes c.in-AtWord.at _ (grind (arith, common_steps)) (grind (arith, common_steps)) stands first
+pub returns-in-ReadingFrameWord-clause-reads : goal.returns-in-ReadingFrameWord-clause-reads
+returns-in-ReadingFrameWord-clause-reads c = λ config end place word refines first.
+    reads_on _ config end place word c.in-ReadingFrameWord.more c.in-ReadingFrameWord.entry c.in-ReadingFrameWord.address c.in-ReadingFrameWord.bytes c.in-ReadingFrameWord.at _ (grind (arith, common_steps)) (grind (arith, common_steps)) refines first

@@ -2,18 +2,18 @@ use Rattle.std.proofs.Common.{◌≡◌, ◌%◌, ap, arith}
 use Rattle.std.proofs.lemmas.Grind.{common_steps}
 use Rattle.split_ring.specs.Layout.{size_of}
 use Rattle.rx_engine.specs.Receiver.{is_open_at}
-use Rattle.rx_engine.specs.Stands.{Counts}
+use Rattle.rx_engine.specs.Refinement.{CountsMatch}
 use Rattle.rx_engine.proofs.Numbers.{ring_parity}
 use Rattle.rx_engine.proofs.receiver.Rx.took_entry.Goals as goal
 
 pub returns-in-Err-clause-steps : goal.returns-in-Err-clause-steps
-returns-in-Err-clause-steps c = λ who end place stands.
-    let counts : Counts c.args.self.now end = stands.busy (ap is_open_at c.requires.place) in
+returns-in-Err-clause-steps c = λ config end place refines.
+    let counts : CountsMatch c.args.self.now end = refines.busy (ap is_open_at c.requires.place) in
     let parity : end.returned % 65536 % 2 ≡ end.returned % size_of c.self.inside.queue % 2 = ring_parity end.returned _ c.self.invariant.bounds.size_whole in
     grind (arith, common_steps)
 
 pub returns-in-Ok-clause-steps : goal.returns-in-Ok-clause-steps
-returns-in-Ok-clause-steps c = λ who end place stands.
-    let counts : Counts c.args.self.now end = stands.busy (ap is_open_at c.requires.place) in
+returns-in-Ok-clause-steps c = λ config end place refines.
+    let counts : CountsMatch c.args.self.now end = refines.busy (ap is_open_at c.requires.place) in
     let parity : end.returned % 65536 % 2 ≡ end.returned % size_of c.self.inside.queue % 2 = ring_parity end.returned _ c.self.invariant.bounds.size_whole in
     grind (arith, common_steps)

@@ -4,7 +4,7 @@ use Rattle.call_grammar.specs.Words.{words_for}
 use Rattle.rx_engine.proofs.receiver.Rx.took_flags.Goals as goal
 
 pub returns-in-Ok-clause-steps : goal.returns-in-Ok-clause-steps
-returns-in-Ok-clause-steps c = λ who end place stands.
+returns-in-Ok-clause-steps c = λ config end place refines.
     let least : 14 ≤ c.args.bytes = grind (arith, common_steps) in
     let some : words_for c.args.bytes ≡ suc (words_for c.args.bytes - (0 + 1)) = omega arith in
     grind (arith, common_steps)

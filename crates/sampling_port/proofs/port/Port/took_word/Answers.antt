@@ -5,7 +5,7 @@ use Rattle.call_grammar.specs.Words.{word_bytes}
 use Rattle.sampling_port.specs.Views.{PortView, IsPlace}
 use Rattle.sampling_port.specs.declared.place.Place.{Place}
 use Rattle.sampling_port.specs.declared.place.Place.TheVariants.{AtWord}
-use Rattle.sampling_port.specs.Kept.{seen}
+use Rattle.sampling_port.specs.Representation.{seen}
 use Rattle.sampling_port.proofs.Hands.{first_bytes}
 use Rattle.sampling_port.proofs.port.Port.took_word.Goals as goal
 

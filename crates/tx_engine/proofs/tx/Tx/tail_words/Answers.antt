@@ -1,10 +1,10 @@
 use Rattle.std.proofs.Common.{subst, ◌≡◌, ◌+◌, ◌<◌, ◌++◌, length, take, ap, arith, ◌∙◌, sym, refl, IfSome}
 use Rattle.call_grammar.specs.Words.{words_for, word_bytes}
-use Rattle.tx_engine.specs.declared.place.Place.TheVariants.{Filling}
+use Rattle.tx_engine.specs.declared.place.Place.TheVariants.{WritingFrameWord}
 use Rattle.tx_engine.specs.Sender.{Sender, entry_word_of}
-use Rattle.tx_engine.specs.Ahead.{stretches_at, stretches_of, listed, last_words, WritesAll}
-use Rattle.tx_engine.specs.Kept.{sender_of}
-use Rattle.tx_engine.specs.Stands.{StandsAt}
+use Rattle.tx_engine.specs.Ahead.{bursts_at, bursts_of, listed, last_words, WritesAll}
+use Rattle.tx_engine.specs.Representation.{sender_of}
+use Rattle.tx_engine.specs.Refinement.{RefinesAt}
 use Rattle.tx_engine.proofs.Fields.{place_holds, length_is}
 use Rattle.tx_engine.proofs.Stretching.{descriptor_bytes}
 use Rattle.tx_engine.proofs.Padding.{last_sized, last_word}
@@ -12,15 +12,15 @@ use Rattle.tx_engine.proofs.Together.{writes_all}
 use Rattle.tx_engine.proofs.tx.Tx.tail_words.Goals as goal
 
 pub returns-clause-writes : goal.returns-clause-writes
-returns-clause-writes c = λ who end place stands.
+returns-clause-writes c = λ config end place refines.
     let t = c.self.inside in
     let tx = sender_of t in
-    let slot = c.in-Filling.slot in
-    let at = c.in-Filling.at in
-    let more = c.in-Filling.more in
+    let slot = c.in-WritingFrameWord.slot in
+    let at = c.in-WritingFrameWord.at in
+    let more = c.in-WritingFrameWord.more in
     let kept = c.self.invariant in
-    let holds = place_holds t (Filling slot at more) kept c.in-Filling.is in
-    let inside = subst (λ s. StandsAt s who end place) (sym c.self.view_is) stands in
+    let holds = place_holds t (WritingFrameWord slot at more) kept c.in-WritingFrameWord.is in
+    let inside = subst (λ s. RefinesAt s config end place) (sym c.self.view_is) refines in
     let tail = c.put_tail.new.into in
     let frame = last_words tx.frame (more + 1) in
     let entry = word_bytes c.entry_word-entry.result in
@@ -28,9 +28,9 @@ returns-clause-writes c = λ who end place stands.
     let whole : at + (more + 1) ≡ words_for (length tx.frame) = omega (arith, holds.1) in
     let bounds = holds.0.3 in
     let section = kept.sender.queue.section in
-    let all = writes_all tx who end place slot at more _ frame (take 16 (descriptor_bytes slot.address t.length)) entry (frame ++ tail) kept.sender c.in-Filling.is
+    let all = writes_all tx config end place slot at more _ frame (take 16 (descriptor_bytes slot.address t.length)) entry (frame ++ tail) kept.sender c.in-WritingFrameWord.is
     (omega (arith, bounds, section)) (omega (arith, length_is t kept, kept.length, kept.sender.queue.mtu_most)) (subst (λ m. m < 4294967296) entry_is c.entry_word-entry.type_inv)
     (last_sized tx.frame (more + 1) (omega (arith, whole))) (λ j within. last_word tx.frame at (more + 1) j whole) (ap (λ m. take 16 (descriptor_bytes slot.address m)) (sym (length_is t kept))) (ap word_bytes entry_is)
     (ap (λ b. frame ++ b) c.put_tail.ensures) inside refl in
-    subst (λ (s : Sender). IfSome (stretches_of s) (λ stretches. WritesAll who place (listed stretches) (last_words s.frame stretches.frame.count ++ tail))) c.self.view_is
-    (subst (λ p. IfSome (stretches_at p tx) (λ stretches. WritesAll who place (listed stretches) (last_words tx.frame stretches.frame.count ++ tail))) (sym c.in-Filling.is) all)
+    subst (λ (s : Sender). IfSome (bursts_of s) (λ bursts. WritesAll config place (listed bursts) (last_words s.frame bursts.frame.count ++ tail))) c.self.view_is
+    (subst (λ p. IfSome (bursts_at p tx) (λ bursts. WritesAll config place (listed bursts) (last_words tx.frame bursts.frame.count ++ tail))) (sym c.in-WritingFrameWord.is) all)

@@ -2,8 +2,8 @@ use Rattle.std.proofs.Common.{◌≡◌, ◌+◌, ◌-◌, ◌%◌, List, [], �
 use Rattle.split_ring.specs.declared.steps.Note.{Note}
 use Rattle.split_ring.specs.declared.steps.Note.TheVariants.{Reclaim}
 use Rattle.tx_engine.specs.Sender.{Sender}
-use Rattle.tx_engine.specs.Reads.{GoesOn, full_notes}
-use Rattle.tx_engine.specs.Stands.{Takes}
+use Rattle.tx_engine.specs.Continuations.{GoesOn, full_notes}
+use Rattle.tx_engine.specs.Refinement.{TakesStep}
 use Rattle.tx_engine.proofs.Keeping.{seen_written, index_kept}
 use Rattle.tx_engine.proofs.Fields.{index_step}
 use Rattle.tx_engine.proofs.tx.Tx.took_index.Goals as goal
@@ -18,7 +18,7 @@ returns-in-Ok c =
     let on = subst (λ l. GoesOn c.self.inside.slots l c.self.inside.length c.in-Ok.count c.offer_after_ids-self-inside.result c.offer_after_ids-self-inside.new.slots c.offer_after_ids-self-inside.new.lengths)
     c.deref_mut.ensures.value c.offer_after_ids-self-inside.ensures in
     let sized = c.offer_after_ids-self-inside.auto.lengths ∙ c.deref_mut.ensures.len in
-    subst (Takes c.args.self.now c.args.value c.note_full.new.notes.items) (seen_written c.self.inside c.offer_after_ids-self-inside.result c.offer_after_ids-self-inside.new.slots c.offer_after_ids-self-inside.new.lengths sized)
+    subst (TakesStep c.args.self.now c.args.value c.note_full.new.notes.items) (seen_written c.self.inside c.offer_after_ids-self-inside.result c.offer_after_ids-self-inside.new.slots c.offer_after_ids-self-inside.new.lengths sized)
     (index_step c.self.inside _ c.args.value c.in-Ok.count _ _ _ _ _ _ c.self.view_is c.self.invariant here freed c.in_flight-in_flight.ensures.count c.in-Ok.ensures.inside.0 c.in-Ok.ensures.inside.1 on notes_are)
 
 pub invariant_of-self : goal.invariant_of-self

@@ -1,8 +1,0 @@
--- The bytes of a frame.
-use Rattle.std.specs.Prelude.{ℕ, ◌≡◌, ◌<◌, List, length, All}
-use Rattle.call_grammar.specs.Words.{words_for, frame_in}
-use Rattle.ends_pair.specs.Ground.{first_words}
-
--- a frame that is read by its words is delivered by the bytes by which it was offered
-abbrev pub FramesComeWhole : Type 0
-FramesComeWhole = (frame : List ℕ) → All (λ byte. byte < 256) frame → frame_in (length frame) (first_words frame (words_for (length frame))) ≡ frame

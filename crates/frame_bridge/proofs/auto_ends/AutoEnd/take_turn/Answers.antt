@@ -1,0 +1,47 @@
+use Rattle.std.proofs.Common.{◌≡◌, false, sym, ap, subst, ◌∙◌}
+use Rattle.std.specs.List.{list_any}
+use Rattle.call_grammar.specs.Places.{is_open}
+use Rattle.link_invariant.specs.LinkConfig.{config_of}
+use Rattle.frame_bridge.specs.Links.{link_config, AutoEnd, Link, opened, value_in}
+use Rattle.frame_bridge.specs.Refinement.{AutoEndRefines, RegionRefines, is_delivery}
+use Rattle.frame_bridge.proofs.Turns.{Took, still, turned_closed, party_turned, told_turned, words_turned}
+use Rattle.frame_bridge.proofs.auto_ends.AutoEnd.take_turn.Goals as goal
+
+pub returns-then-not-busy-clause-party : goal.returns-then-not-busy-clause-party
+returns-then-not-busy-clause-party c = λ link refines region.
+    let config = config_of link_config c.args.me in
+    let party : AutoEnd = opened config (link.parties c.args.me) in
+    let next : AutoEndRefines c.args.me party c.open.new.self = c.open.ensures (link.parties c.args.me) refines in
+    let closed : is_open party.place ≡ false = sym (c.busy.ensures.open config party.end party.place next.end) ∙ c.if-not-busy.true in
+    subst (λ (p : AutoEnd). AutoEndRefines c.args.me p c.open.new.self)
+    (still config (link.parties c.args.me) closed ∙ ap (λ (l : Link). l.parties c.args.me) (sym (turned_closed c.args.me link closed))) next
+
+taken : (c : goal.After-delivers) (link : Link) → AutoEndRefines c.args.me (link.parties c.args.me) c.args.self.now → RegionRefines link.memory c.args.region.now →
+    Took c.args.me link c.open.new.self c.perform-value.result c.took-notes.result.items (record { end = c.took-notes.new.self; auto = c.count_notes.new.auto })
+taken c link refines region =
+    let config = config_of link_config c.args.me in
+    let party : AutoEnd = opened config (link.parties c.args.me) in
+    let next : AutoEndRefines c.args.me party c.open.new.self = c.open.ensures (link.parties c.args.me) refines in
+    record {
+      refines = next;
+      opens = sym (c.busy.ensures.open config party.end party.place next.end) ∙ c.if-not-busy.false;
+      takes = c.took-notes.ensures.steps;
+      reads = c.perform-value.ensures.value link.memory region ∙ ap (value_in link.memory) (c.next-access.ensures.access config party.end party.place next.end);
+      counts = λ p one other is. rw c.as_slice.ensures.value at (c.count_notes.ensures p one other is);
+    }
+
+pub returns-clause-party : goal.returns-clause-party
+returns-clause-party c = λ link refines region.
+    party_turned c.args.me link c.open.new.self c.perform-value.result c.took-notes.result.items (record { end = c.took-notes.new.self; auto = c.count_notes.new.auto }) (taken c link refines region)
+
+pub returns-clause-words : goal.returns-clause-words
+returns-clause-words c = λ link refines region.
+    let took = taken c link refines region in
+    words_turned c.args.me link c.next-access.result c.perform-value.new.region took.opens
+    (c.next-access.ensures.access (config_of link_config c.args.me) (opened (config_of link_config c.args.me) (link.parties c.args.me)).end (opened (config_of link_config c.args.me) (link.parties c.args.me)).place took.refines.end)
+    (c.perform-value.ensures.words link.memory region)
+
+pub returns-clause-told : goal.returns-clause-told
+returns-clause-told c = λ link refines region.
+    told_turned c.args.me link c.open.new.self c.perform-value.result c.took-notes.result.items (record { end = c.took-notes.new.self; auto = c.count_notes.new.auto }) c.delivers.result
+    (taken c link refines region) (ap (list_any is_delivery) (sym c.as_slice-2.ensures.value) ∙ sym c.delivers.ensures)

@@ -1,0 +1,110 @@
+-- What the code of a run holds of it.
+use Rattle.std.specs.Prelude.{ℕ, ◌≡◌, ◌+◌, ◌^◌, ◌==◌, ◌<◌, ◌≤◌, Bool, Some, slice_get, true, false, if◌then◌else◌, List, [], ◌∷◌, ◌++◌, length, map, min, slice_index}
+use Rattle.line_format.specs.Rows.{text_of}
+use Rattle.section_map.specs.Geometry.{Shape, Words, word_count}
+use Rattle.section_map.specs.Faults.{shape_of}
+use Rattle.split_ring.specs.declared.steps.Note.{Note}
+use Rattle.split_ring.specs.declared.steps.Note.TheVariants as note
+use Rattle.link_invariant.specs.LinkConfig.{config_of}
+use Rattle.link_endpoint.specs.Refinement.{RefinesAt}
+use Rattle.link_endpoint.specs.Plan.{Plan, HasCounted}
+use Rattle.frame_bridge.specs.declared.auto_ends.AutoEnd.{AutoEnd}
+use Rattle.bridge_text.specs.declared.scripts.Sent.{Sent}
+use Rattle.frame_bridge.specs.declared.ports.Port.{Port}
+use Rattle.frame_bridge.specs.declared.run.Run.{Run}
+use Rattle.frame_bridge.specs.Forwarding.{forward, forwarded_after}
+use Rattle.frame_bridge.specs.BridgeView.{RefinesArrivals, arrival}
+use Rattle.frame_bridge.specs.Run.{World, Turn}
+use Rattle.frame_bridge.specs.Keeps.{Going}
+use Rattle.frame_bridge.specs.Output.{pieces_of, out_row, arrive_row, outs}
+use Rattle.frame_bridge.specs.Links as links
+use Rattle.frame_bridge.specs.Links.{link_config, expected, turned, with_copies}
+
+-- the sizes of the region
+abbrev pub shape : Shape
+shape = shape_of 2 4096 0 16384
+
+-- the plan is that of an end
+pub record IsPlanOf (plan : Plan) (party : links.AutoEnd) : Type 0 where
+  pub frames : plan.frames ≡ party.frames
+  pub expected_is : plan.expected ≡ expected
+  pub delivered : HasCounted plan (length party.delivered)
+  pub round : plan.round ≡ party.round
+
+-- the code's end me is this one
+pub record AutoEndRefines (me : ℕ) (party : links.AutoEnd) (held : AutoEnd) : Type 0 where
+  pub end : RefinesAt held.end (config_of link_config me) party.end party.place
+  pub plan : IsPlanOf held.auto party
+
+-- the region has these words
+pub record RegionRefines (memory : ℕ → ℕ) (region : Words) : Type 0 where
+  pub shape_is : region.shape ≡ shape
+  pub words : (w : ℕ) → w < word_count shape → memory w ≡ slice_index region.words w
+
+-- a note that tells a frame delivered
+abbrev pub is_delivery : Note → Bool
+is_delivery note.Deliver = true
+is_delivery _ = false
+
+-- the frames of a turn that delivers this one, or none
+abbrev pub delivered_if : Bool → List ℕ → List (List ℕ)
+delivered_if told frame = if told then frame ∷ [] else []
+
+-- A port
+
+-- counts go up to this number
+abbrev pub most_counted : ℕ
+most_counted = 18446744073709551615
+
+-- the code's port is this link, to which these frames were forwarded: it has written what its station delivered, and counted both
+pub record PortRefines (link : links.Link) (forwarded : List (List ℕ)) (port : Port) : Type 0 where
+  pub region : RegionRefines link.memory port.region
+  pub station : AutoEndRefines 0 (link.parties 0) port.station
+  pub own : AutoEndRefines 1 (link.parties 1) port.own
+  pub outs : port.outs.items ≡ text_of pieces_of (map out_row (link.parties 0).delivered)
+  pub delivered : port.delivered ≡ min (length (link.parties 0).delivered) most_counted
+  pub forwarded_is : port.forwarded ≡ min (length forwarded) most_counted
+
+-- the link of a port at its start, whose station sends these frames
+abbrev pub start_link : List (List ℕ) → links.Link
+start_link frames = record { memory = λ w. 0; parties = λ p. links.starting (if p == 0 then frames else []) }
+
+-- a copy of a frame comes to the bridge's end of the port
+abbrev pub with_copy : List ℕ → Port → Port
+with_copy frame port = record port {
+  own = record (port.own) { auto = record (port.own.auto) { frames = port.own.auto.frames ++ frame ∷ [] } };
+  forwarded = min (port.forwarded + 1) most_counted;
+}
+
+-- the code's ports are those of this world, of which each has delivered no more than was forwarded to it
+pub record ArePorts (w : World) (ports : List Port) : Type 0 where
+  pub each : (k : ℕ) (port : Port) → slice_get ports k ≡ Some port → PortRefines (w.links k) (forward w.arrivals k) port
+  pub fits : (k : ℕ) → k < length ports → length (forward w.arrivals k) < 2 ^ 64
+  pub within : (k : ℕ) → k < length ports → length (outs w k) ≤ length (forward w.arrivals k)
+
+-- The run
+
+-- the code's run has these links and these arrivals: it knows what is known after them, and has written them
+pub record RunRefines (ports : ℕ) (w : World) (run : Run) : Type 0 where
+  pub bridge : RefinesArrivals run.bridge w.arrivals
+  pub count : run.bridge.ports ≡ ports
+  pub long : length run.ports.items ≡ ports
+  pub each : (k : ℕ) (port : Port) → slice_get run.ports.items k ≡ Some port → PortRefines (w.links k) (forward w.arrivals k) port
+  pub text : run.text.items ≡ text_of pieces_of (map arrive_row w.arrivals)
+
+-- it is there in the run of a text of so many ports
+pub record IsThere (sent : List Sent) (ports : ℕ) (w : World) (run : Run) : Type 0 where
+  pub few : (2 ≤ ports) × (ports ≤ 8)
+  pub going : Going sent ports w
+  pub refines : RunRefines ports w run
+
+-- the links after a turn of an end of a port, before what it delivers arrives
+abbrev pub with_turned : World → Turn → World
+with_turned w t = record w { links = λ port. (if port == t.port then turned t.end (w.links port) else w.links port) }
+
+-- a frame arrives at a port
+abbrev pub with_arrival : World → ℕ → List ℕ → World
+with_arrival w at frame = record {
+  links = λ port. with_copies (forwarded_after w.arrivals (arrival at frame ∷ []) port) (w.links port);
+  arrivals = w.arrivals ++ arrival at frame ∷ [];
+}

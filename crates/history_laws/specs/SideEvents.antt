@@ -1,0 +1,56 @@
+-- What the lines of a history tell the link machine, and which side each link peer is after them. Of lines the newest is the first.
+-- Each question on a line is answered once, by a function over all lines; every definition looks at its answer alone.
+use Rattle.std.specs.Prelude.{ℕ, ◌+◌, ◌==◌, true, false, if◌then◌else◌, Some, None, List, [], ◌∷◌, ◌++◌, length}
+use Rattle.call_grammar.specs.Steps.{Mark, Saw, Reclaim, Full, Accept, Look, Deliver, Return, Done, Down, Refuse, Over}
+use Rattle.link_machine.specs.LinkMachine.{Side, initial_side, SideEvent, Gave, Wrote, Marked, WasReset, side_with}
+use Rattle.lawful_history.specs.declared.line.Line.{Line}
+use Rattle.lawful_history.specs.declared.line.Line.TheVariants as line
+
+-- what a line tells the machine of a peer: the value of a read, a write of its state, a mark, or the reset of its device; or nothing
+pub data LineSideEvent : Type 0 where
+  Tells : (peer : ℕ) (told : SideEvent) → LineSideEvent
+  Silent : LineSideEvent
+
+abbrev pub line_side_event_of : Line → LineSideEvent
+line_side_event_of (line.Read peer word value) = Tells peer (Gave value)
+line_side_event_of (line.State peer value) = Tells peer (Wrote value)
+line_side_event_of (line.Reset peer) = Tells peer WasReset
+line_side_event_of (line.Saw peer value) = Tells peer (Marked (Saw value))
+line_side_event_of (line.Reclaim peer count) = Tells peer (Marked (Reclaim count))
+line_side_event_of (line.Full peer) = Tells peer (Marked Full)
+line_side_event_of (line.Accept peer frame) = Tells peer (Marked (Accept frame))
+line_side_event_of (line.Look peer count) = Tells peer (Marked (Look count))
+line_side_event_of (line.Deliver peer frame) = Tells peer (Marked (Deliver frame))
+line_side_event_of (line.Return peer) = Tells peer (Marked Return)
+line_side_event_of (line.Done peer) = Tells peer (Marked Done)
+line_side_event_of (line.Down peer) = Tells peer (Marked Down)
+line_side_event_of (line.Refuse peer refused) = Tells peer (Marked (Refuse refused))
+line_side_event_of (line.Over peer) = Tells peer (Marked Over)
+line_side_event_of _ = Silent
+
+-- the side after a mark, as the row of the mark determines it
+abbrev pub side_marked : Mark → Side → Side
+side_marked (Saw value) side = record side { seen = Some value; read = [] }
+side_marked (Reclaim count) side = record side { freed = side.freed + count; reclaimed = count; read = [] }
+side_marked (Accept frame) side = record side { accepted = side.accepted ++ frame ∷ []; read = [] }
+side_marked (Look count) side = record side { looked = length side.delivered + count; read = [] }
+side_marked (Deliver frame) side = record side { delivered = side.delivered ++ frame ∷ []; read = [] }
+side_marked Return side = record side { returned = side.returned + 1; read = [] }
+side_marked (Refuse refused) side = record side { refused = true; read = [] }
+side_marked mark side = record side { read = [] }
+
+-- and after whatever is told
+abbrev pub side_after : SideEvent → Side → Side
+side_after (Gave value) side = record side { read = side.read ++ value ∷ [] }
+side_after (Wrote state) side = side_with side state
+side_after (Marked mark) side = side_marked mark side
+side_after WasReset side = record side { state = 0; seen = None; refused = false; read = [] }
+
+abbrev pub side_after_line : LineSideEvent → ℕ → Side → Side
+side_after_line (Tells peer told) p side = if peer == p then side_after told side else side
+side_after_line Silent p side = side
+
+-- the side that peer p is after these lines
+abbrev pub side_of : List Line → ℕ → Side
+side_of [] p = initial_side
+side_of (line ∷ older) p = side_after_line (line_side_event_of line) p (side_of older p)

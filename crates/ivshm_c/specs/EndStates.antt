@@ -1,0 +1,137 @@
+-- An end and the outcome of its last offer: what its calls do.
+use Rattle.std.specs.Prelude.{ℕ, ◌≡◌, ◌*◌, ◌↔◌, List, [], ◌∷◌, ◌++◌, length, take, flat_map, true, not, IsTrue, Some, IfSome}
+use Rattle.link_handshake.specs.declared.Phase.TheVariants.{Run}
+use Rattle.split_ring.specs.declared.steps.Access.{Access}
+use Rattle.split_ring.specs.declared.steps.Access.TheVariants.{Nothing, Read, Write, State}
+use Rattle.split_ring.specs.declared.steps.Note.{Note}
+use Rattle.split_ring.specs.declared.steps.Note.TheVariants as note
+use Rattle.call_grammar.specs.Ends.{End, fresh, after_reset}
+use Rattle.call_grammar.specs.Calls.{EndConfig, Offer, in_run}
+use Rattle.call_grammar.specs.Places as places
+use Rattle.call_grammar.specs.Reach.{IsPermittedAccess}
+use Rattle.call_grammar.specs.StepBounds.{HasFewInFlight}
+use Rattle.call_grammar.specs.Words.{word_bytes}
+use Rattle.call_grammar.specs.Bursts.{StepsThrough, ReadsBurst, WritesBurst}
+use Rattle.tx_engine.specs.declared.ahead.Bursts.{Bursts}
+use Rattle.tx_engine.specs.Ahead.{words_of, listed, last_words, WritesAll}
+use Rattle.link_endpoint.specs.declared.place.Call.{Call}
+use Rattle.link_endpoint.specs.declared.place.Call.TheVariants.{Stop}
+use Rattle.link_endpoint.specs.Engine.{Engine, fresh_engine, engine_after_reset, is_busy, is_down, is_refusing, is_reading_state, is_tick, offered, delivered, call_of, comes_down, reads_ahead, frame_ahead}
+use Rattle.link_endpoint.specs.Refinement.{RefinesAt, Takes, Opens}
+use Rattle.link_endpoint.specs.declared.order.Ordering.{Ordering}
+use Rattle.link_endpoint.specs.Orders.{order_at}
+use Rattle.link_endpoint.specs.Bursts.{IsTaken}
+use Rattle.link_endpoint.specs.Leaving.{Refuses, Leaves, KeepsRefused, Stays}
+use Rattle.ivshm_c.specs.declared.end_state.Outcome.{Outcome}
+use Rattle.ivshm_c.specs.declared.end_state.Outcome.TheVariants as outcome
+
+-- The clauses of an endpoint's calls
+
+-- a call opens: for whatever end the endpoint stands, it stands at the first place of the call
+pub record Begins (call : Call) (old new : Engine) : Type 0 where
+  pub refines : (config : EndConfig) (end : End) → RefinesAt old config end places.Closed → RefinesAt new config end (places.first_place config end (call_of call))
+  pub opened : is_busy new ≡ true
+  pub down : is_down new ≡ comes_down call old.phase
+  pub looks : is_reading_state new ≡ is_tick call
+  pub kept : Opens old new
+
+-- an offer of this frame opens
+pub record Offers (frame : List ℕ) (old new : Engine) : Type 0 where
+  pub refines : (config : EndConfig) (end : End) → RefinesAt old config end places.Closed → RefinesAt new config end (places.first_place config end (Offer frame))
+  pub few : (config : EndConfig) (end : End) (place : places.Place) → RefinesAt old config end place → HasFewInFlight config end
+  pub opened : is_busy new ≡ true
+  pub down : is_down new ≡ not (in_run old.phase)
+  pub holds : old.phase ≡ Run → offered new ≡ frame
+  pub kept : Opens old new
+
+-- this is the access of the open call: the one at its place, and in reach of the peer. It is none exactly where the call is down, and State 0
+-- after a refusal
+pub record IsNext (engine : Engine) (next : Access) : Type 0 where
+  pub access : (config : EndConfig) (end : End) (place : places.Place) → RefinesAt engine config end place → next ≡ places.access_at config place
+  pub reach : IsPermittedAccess engine.config next
+  pub nothing : (next ≡ Nothing) ↔ IsTrue (is_down engine)
+  pub leaves : is_refusing engine ≡ true → next ≡ State 0
+
+-- what may be made at once from the access on, and the order that it needs
+pub record IsAhead (engine : Engine) (told : Ordering) : Type 0 where
+  pub reads : (config : EndConfig) (end : End) (place : places.Place) (word : ℕ) → RefinesAt engine config end place →
+      places.access_at config place ≡ Read word → ReadsBurst config place word (reads_ahead engine)
+  pub order : (config : EndConfig) (end : End) (place : places.Place) → RefinesAt engine config end place → told ≡ order_at place
+
+-- these bytes are the words that are written next, each after the other
+abbrev pub AreWritten : Engine → List ℕ → Type 0
+AreWritten engine bytes = (config : EndConfig) (end : End) (place : places.Place) (word value : ℕ) → RefinesAt engine config end place →
+    places.access_at config place ≡ Write word value → WritesBurst config place word bytes
+
+-- the first of these bytes are the words of these bursts, which are written next, one behind the other
+abbrev pub AreBursts : Engine → Bursts → (bytes : List ℕ) → Type 0
+AreBursts engine bursts bytes = (config : EndConfig) (end : End) (place : places.Place) → RefinesAt engine config end place →
+    WritesAll config place (listed bursts) (take (4 * words_of (Some bursts)) bytes)
+
+-- the first of these bytes are the words of the descriptor and of the entry, which are written next behind those of the frame: the last words of the frame
+-- that was offered
+abbrev pub AreBurstTail : Engine → Bursts → (bytes : List ℕ) → Type 0
+AreBurstTail engine bursts bytes = (config : EndConfig) (end : End) (place : places.Place) → RefinesAt engine config end place →
+    WritesAll config place (listed bursts) (last_words (offered engine) bursts.frame.count ++ take 20 bytes)
+
+-- steps of the open call at once, whose reads gave the words that these bytes spell, four each: as many single steps
+abbrev pub ReadsAtOnce : Engine → (bytes : List ℕ) → List Note → Engine → Type 0
+ReadsAtOnce old bytes notes new = (values : List ℕ) → bytes ≡ flat_map word_bytes values → StepsThrough IsTaken old values notes new
+
+-- where these are all the words of a frame, from its first one on, the frame delivered is their first bytes
+abbrev pub ReadsWhole : Engine → (bytes : List ℕ) → Engine → Type 0
+ReadsWhole old bytes new = IfSome (frame_ahead old) (λ size. length bytes ≡ 4 * reads_ahead old → delivered new ≡ take size bytes)
+
+-- so many steps of the open call at once, which write
+abbrev pub WritesAtOnce : Engine → (count : ℕ) → Engine → Type 0
+WritesAtOnce old count new = (values : List ℕ) → length values ≡ count → StepsThrough IsTaken old values [] new
+
+-- a step of the open call, with these notes. A value that is refused is kept, and State 0 follows, with which the end is in RESET and stays there
+pub record Steps (old : Engine) (value : ℕ) (notes : List Note) (new : Engine) : Type 0 where
+  pub takes : Takes old value notes new
+  pub refuses : Refuses notes new
+  pub leaves : Leaves old notes new
+  pub keeps : KeepsRefused old new
+  pub stays : Stays old value notes new
+
+-- a new end of this peer: its one open call is a Stop, which begins with State 0
+pub record IsStarted (config : EndConfig) (new : Engine) : Type 0 where
+  pub refines : RefinesAt new config fresh (places.first_place config fresh (call_of Stop))
+  pub begins : Begins Stop (fresh_engine config) new
+
+-- the device was reset: the open call is cut, and a Stop is open, which begins with State 0. The frame delivered last stays
+pub record Restarts (old new : Engine) : Type 0 where
+  pub refines : (config : EndConfig) (end : End) (place : places.Place) → RefinesAt old config end place →
+      RefinesAt new config (after_reset end) (places.first_place config (after_reset end) (call_of Stop))
+  pub begins : Begins Stop (engine_after_reset old) new
+  pub delivered : delivered new ≡ delivered old
+
+-- The outcome of the last offer
+
+-- what a note tells of an open offer
+abbrev pub outcome_noted : Note → Outcome
+outcome_noted note.Accept = outcome.Accepted
+outcome_noted note.Full = outcome.Full
+outcome_noted (note.Refuse refused) = outcome.Refused
+outcome_noted note.Down = outcome.Down
+outcome_noted _ = outcome.Open
+
+-- an open offer's outcome is told once
+abbrev pub outcome_with : Note → Outcome → Outcome
+outcome_with n outcome.Open = outcome_noted n
+outcome_with n before = before
+
+-- what the notes of a step tell of an open offer
+abbrev pub noted_by : List Note → Outcome → Outcome
+noted_by [] before = before
+noted_by (n ∷ notes) before = noted_by notes (outcome_with n before)
+
+-- the outcome after these notes: that of an offer that isn't open stays
+abbrev pub outcome_after : List Note → Outcome → Outcome
+outcome_after notes outcome.Open = noted_by notes outcome.Open
+outcome_after notes before = before
+
+-- a reset cuts an open offer
+abbrev pub outcome_cut : Outcome → Outcome
+outcome_cut outcome.Open = outcome.Cut
+outcome_cut before = before

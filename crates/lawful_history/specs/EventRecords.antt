@@ -1,0 +1,84 @@
+-- An entry of a history: an event with what came of it, and the lines that tell it.
+use Rattle.std.specs.Prelude.{ℕ, ◌==◌, if◌then◌else◌, Option, Some, None, List, [], ◌∷◌, ◌++◌, map}
+use Rattle.split_ring.specs.declared.steps.Access.{Access}
+use Rattle.split_ring.specs.declared.steps.Access.TheVariants as access
+use Rattle.call_grammar.specs.Steps.{Mark, Step}
+use Rattle.call_grammar.specs.Steps as mark
+use Rattle.lawful_history.specs.declared.line.Line.{Line}
+use Rattle.lawful_history.specs.declared.line.Line.TheVariants as line
+use Rattle.lawful_history.specs.Schedule.{Event, CallQueued, AutoStarted, StormStarted, TurnTaken, RegionAccessed, DeviceReset, DeviceAccessed, InterruptDropped, InterruptRepeated, event_peer}
+
+-- an event, the step that was made in it, if there is one, and the lines of the devices: the interrupts that it brought, or what a
+-- device answered
+pub record EventRecord : Type 0 where
+  pub event : Event
+  pub went : Option Step
+  pub device : List Line
+
+abbrev pub event_of : EventRecord → Event
+event_of entry = entry.event
+
+abbrev pub owner : EventRecord → ℕ
+owner entry = event_peer entry.event
+
+-- the line of an access that met this value; the one step of a call that is down has no access, and no line for one
+abbrev pub access_lines : ℕ → Access → ℕ → List Line
+access_lines peer (access.Read word) value = line.Read peer word value ∷ []
+access_lines peer (access.Write word written) value = line.Write peer word written ∷ []
+access_lines peer (access.State state) value = line.State peer state ∷ []
+access_lines peer (access.Ring target vector) value = line.Doorbell peer target vector ∷ []
+access_lines peer access.Nothing value = []
+
+abbrev pub mark_line : ℕ → Mark → Line
+mark_line peer (mark.Saw value) = line.Saw peer value
+mark_line peer (mark.Reclaim count) = line.Reclaim peer count
+mark_line peer mark.Full = line.Full peer
+mark_line peer (mark.Accept frame) = line.Accept peer frame
+mark_line peer (mark.Look count) = line.Look peer count
+mark_line peer (mark.Deliver frame) = line.Deliver peer frame
+mark_line peer mark.Return = line.Return peer
+mark_line peer mark.Done = line.Done peer
+mark_line peer mark.Down = line.Down peer
+mark_line peer (mark.Refuse refused) = line.Refuse peer refused
+mark_line peer mark.Over = line.Over peer
+
+-- the lines of a step: its access, the interrupts that this brought, and its marks
+abbrev pub step_lines : ℕ → Step → List Line → List Line
+step_lines peer step device = access_lines peer step.access step.value ++ (device ++ map (mark_line peer) step.marks)
+
+-- the lines of a turn; a turn without a step is idle
+abbrev pub turn_lines : ℕ → Option Step → List Line → List Line
+turn_lines peer None device = line.Idle peer ∷ device
+turn_lines peer (Some step) device = step_lines peer step device
+
+-- the line of an access that was denied: only a write ever is
+abbrev pub denied_lines : ℕ → Access → List Line
+denied_lines peer (access.Read word) = []
+denied_lines peer (access.Write word written) = line.Denied peer word ∷ []
+denied_lines peer (access.State state) = []
+denied_lines peer (access.Ring target vector) = []
+denied_lines peer access.Nothing = []
+
+-- the lines of one access; one without a step was denied
+abbrev pub region_access_lines : ℕ → Access → Option Step → List Line → List Line
+region_access_lines peer a None device = denied_lines peer a ++ device
+region_access_lines peer a (Some step) device = step_lines peer step device
+
+abbrev pub lines_by : Event → Option Step → List Line → List Line
+lines_by (CallQueued peer call) went device = device
+lines_by (AutoStarted peer expected) went device = device
+lines_by (StormStarted peer seed) went device = device
+lines_by (TurnTaken peer) went device = turn_lines peer went device
+lines_by (RegionAccessed peer a) went device = region_access_lines peer a went device
+lines_by (DeviceReset peer) went device = line.Reset peer ∷ device
+lines_by (DeviceAccessed peer a) went device = device
+lines_by (InterruptDropped peer) went device = device
+lines_by (InterruptRepeated peer vector) went device = device
+
+abbrev pub lines_of : EventRecord → List Line
+lines_of entry = lines_by entry.event entry.went entry.device
+
+-- the entries of one peer, in their order
+abbrev pub own : ℕ → List EventRecord → List EventRecord
+own peer [] = []
+own peer (entry ∷ entries) = if owner entry == peer then entry ∷ own peer entries else own peer entries

@@ -1,0 +1,13 @@
+use Rattle.std.proofs.Common.{◌≡◌, ◌+◌, ◌≤◌, length}
+use Rattle.line_format.specs.Forms.{cuts}
+use Rattle.line_format.specs.Machine.{read, read_pieces}
+use Rattle.line_format.proofs.reading.read_text.Given as goal
+
+-- what is still to come gives what the text gives
+abbrev pub invariant-loop-line : goal.invariant-loop-line
+invariant-loop-line g l =
+    (read_pieces g.D.TakeLines.machine (g.D.TakeLines.so_far l.draft) l.number (cuts 10 l.rest) ≡ read g.D.TakeLines.machine (g.D.TakeLines.so_far l.fn.draft) l.bytes)
+    × (l.number + length l.rest ≤ length l.bytes)
+
+abbrev pub decreases-loop-line : goal.decreases-loop-line
+decreases-loop-line g l = length l.rest

@@ -1,0 +1,36 @@
+-- What the fields of an endpoint are, and those of an automatic peer.
+use Rattle.std.specs.Prelude.{◌≡◌, ◌≢◌, ◌+◌, ◌*◌, ◌^◌, ◌≤◌, true, is_some}
+use Rattle.call_grammar.specs.Ends.{End}
+use Rattle.call_grammar.specs.Places as places
+use Rattle.call_grammar.specs.Reach.{HasSections}
+use Rattle.tx_engine.specs.Refinement as tx
+use Rattle.rx_engine.specs.Refinement as rx
+use Rattle.link_endpoint.specs.declared.place.Place.TheVariants.{Refusing}
+use Rattle.link_endpoint.specs.declared.endpoint.Endpoint.TheInside as endpoint
+use Rattle.link_endpoint.specs.Engine.{Engine, partner}
+use Rattle.link_endpoint.specs.Refinement.{RefinesAt}
+use Rattle.link_endpoint.specs.Leaving.{IsLeft}
+
+abbrev pub seen : endpoint.Inside → Engine
+seen i = record {
+  config = record { me = partner i.other; other = i.other; own = i.own; theirs = i.tx.theirs; words = i.words; sizes = i.tx.sizes; vector = i.tx.vector };
+  phase = i.handshake.phase;
+  refused = i.refused;
+  place = i.place;
+  sender = i.tx;
+  receiver = i.rx;
+}
+
+-- the sender and the receiver are this peer's, whose sections end at or before byte 2^24 of the region; the handshake bears the mark where something was
+-- refused, but between a refusal and its State step, and the end has left the link then; and the endpoint stands for some end
+pub record IsWellFormed (i : endpoint.Inside) : Type 0 where
+  pub sections : HasSections (seen i).config
+  pub own_room : 4 * i.own + i.tx.sizes.out ≤ 2 ^ 24
+  pub their_room : 4 * i.tx.theirs + i.tx.sizes.out ≤ 2 ^ 24
+  pub sender : tx.IsMadeFor i.tx (seen i).config
+  pub receiver : rx.IsMadeFor i.rx (seen i).config
+  pub mark : i.place ≢ Refusing → i.handshake.mark ≡ is_some i.refused
+  pub left : is_some i.refused ≡ true → IsLeft i.place i.handshake.phase
+  pub end : End
+  pub at : places.Place
+  pub refines : RefinesAt (seen i) (seen i).config end at

@@ -1,0 +1,5 @@
+use Rattle.link_invariant.proofs.Wakes.{wake_lem}
+use Rattle.link_invariant.proofs.asked_doorbell_is_rung.Goals as goal
+
+pub returns : goal.returns
+returns c = wake_lem

@@ -1,0 +1,5 @@
+use Rattle.link_invariant.proofs.AloneKept.{alone_kept}
+use Rattle.link_invariant.proofs.end_invariant_is_kept.Goals as goal
+
+pub returns : goal.returns
+returns c = alone_kept

@@ -1,0 +1,5 @@
+use Rattle.link_invariant.proofs.Frames.{frames_lem}
+use Rattle.link_invariant.proofs.frames_come_whole.Goals as goal
+
+pub returns : goal.returns
+returns c = frames_lem

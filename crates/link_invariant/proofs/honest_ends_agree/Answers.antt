@@ -1,0 +1,5 @@
+use Rattle.link_invariant.proofs.WholeKept.{agree}
+use Rattle.link_invariant.proofs.honest_ends_agree.Goals as goal
+
+pub returns : goal.returns
+returns c = agree

@@ -1,0 +1,11 @@
+pub mod Fields
+pub mod LinkConfig
+pub mod Steps
+pub mod EndInvariant
+pub mod Pair
+pub mod LinkInvariant
+pub mod Laws
+pub mod Sides
+pub mod Runs
+pub mod Frames
+pub mod Wake

@@ -1,0 +1,41 @@
+-- The rule of wakes: an event asks for a doorbell at a frame, and that doorbell is rung.
+-- Source: VIRTIO 1.1 section 2.6.7, by which an event index asks for a notification; profile for the order of steps.
+use Rattle.std.specs.Prelude.{ℕ, ◌≡◌, ◌-◌, ◌%◌, ◌<◌, ◌≤◌, ◌⊎◌, Bool, length}
+use Rattle.call_grammar.specs.Ends.{End}
+use Rattle.call_grammar.specs.Polls.{published_by}
+use Rattle.call_grammar.specs.Places.{Place, Clearing, ReadingAvailEvent, RingingOffer, ReadingAvailIndex, WritingAvailEvent, access_at}
+use Rattle.link_invariant.specs.Fields.{AvailEvent}
+use Rattle.link_invariant.specs.LinkConfig.{LinkConfig, IsLinkConfig, config_of, fields}
+use Rattle.link_invariant.specs.Steps.{ReadsMemory, TakesStep}
+use Rattle.link_invariant.specs.Pair.{Pair}
+
+-- the event of end p stands at frame k
+abbrev pub EventIndexIs : LinkConfig → (ℕ → ℕ) → (p k : ℕ) → Type 0
+EventIndexIs link_config memory p k = fields link_config memory p AvailEvent ≡ k % 65536
+
+-- end p asks for a doorbell at frame k: its event stands there, and the other hasn't accepted that frame, or is yet to read the event after it
+pub record Asks (link_config : LinkConfig) (memory : ℕ → ℕ) (ends : ℕ → End) (places : ℕ → Place) (p k : ℕ) : Type 0 where
+  pub event : EventIndexIs link_config memory p k
+  pub ahead : (length (ends (1 - p)).accepted ≤ k) ⊎ (places (1 - p) ≡ ReadingAvailEvent k)
+
+-- the step at a place writes the own event: by its arming, or as the section is cleared
+abbrev pub WritesEvent : Place → Type 0
+WritesEvent (WritingAvailEvent taken) = Unit {0}
+WritesEvent (Clearing at more state) = Unit {0}
+WritesEvent place = ⊥
+
+-- In the pair an arming leaves the event at the next frame. A look that finds nothing while the event stands there asks at that frame. What is asked stays so
+-- by each step of the asking end that doesn't write its event, and by each step of the other, but by the one that comes to ring the doorbell
+pub record AskedDoorbellIsRung : Type 0 where
+  pub arms : (link_config : LinkConfig) (memory after : ℕ → ℕ) (ends after_ends : ℕ → End) (places after_places : ℕ → Place) (p taken value : ℕ) → IsLinkConfig link_config →
+      p < 2 → Pair link_config memory ends places → TakesStep link_config memory after ends after_ends places after_places p value → places p ≡ WritingAvailEvent taken →
+      EventIndexIs link_config after p taken
+  pub looks : (link_config : LinkConfig) (memory : ℕ → ℕ) (ends : ℕ → End) (places : ℕ → Place) (p taken value : ℕ) (last : Bool) → IsLinkConfig link_config → p < 2 →
+      Pair link_config memory ends places → places p ≡ ReadingAvailIndex taken last → ReadsMemory memory (access_at (config_of link_config p) (places p)) value →
+      published_by taken value ≡ 0 → EventIndexIs link_config memory p taken → Asks link_config memory ends places p taken
+  pub stays : (link_config : LinkConfig) (memory after : ℕ → ℕ) (ends after_ends : ℕ → End) (places after_places : ℕ → Place) (p k value : ℕ) → IsLinkConfig link_config →
+      p < 2 → Pair link_config memory ends places → TakesStep link_config memory after ends after_ends places after_places p value → ¬ WritesEvent (places p) →
+      Asks link_config memory ends places p k → Asks link_config after after_ends after_places p k
+  pub others : (link_config : LinkConfig) (memory after : ℕ → ℕ) (ends after_ends : ℕ → End) (places after_places : ℕ → Place) (p k value : ℕ) → IsLinkConfig link_config →
+      p < 2 → Pair link_config memory ends places → TakesStep link_config memory after ends after_ends places after_places (1 - p) value →
+      Asks link_config memory ends places p k → Asks link_config after after_ends after_places p k ⊎ (after_places (1 - p) ≡ RingingOffer)

@@ -1,6 +1,0 @@
-use Rattle.std.proofs.Common.{[], refl}
-use Rattle.link_model.proofs.Playing.{at_first}
-use Rattle.link_model.proofs.course.Course.new.Goals as goal
-
-pub returns : goal.returns
-returns c = (c.in_ok-settle.ensures.on [] (at_first _ c.in_ok-new.ensures refl refl refl), c.in_ok-settle.ensures.scenario, c.in_ok-settle.ensures.version)

@@ -1,0 +1,55 @@
+-- Looks between the turns of an automatic peer.
+use Rattle.std.proofs.Common.{◌≡◌, ℕ, suc, ◌+◌, Bool, true, false, List, [], ◌++◌, refl, sym, ap, ◌∙◌, arith, append_assoc}
+use Rattle.std.specs.Prelude.{◌&&◌, nat_lt, if◌then◌else◌}
+use Rattle.std.proofs.lemmas.Bool.{le-ltb}
+use Rattle.call_grammar.specs.Calls.{EndConfig}
+use Rattle.call_grammar.specs.Places.{Place, RingingOffer, RingingPoll, access_at, is_open}
+use Rattle.link_endpoint.specs.Engine.{Engine}
+use Rattle.doorbell_irq.specs.declared.route.Route.{Route}
+use Rattle.peer_runner.specs.declared.run_setup.RunSetup.{RunSetup}
+use Rattle.peer_runner.specs.DerivedStates.{CallAccess, MemoryOp}
+use Rattle.peer_runner.specs.Actions.{Action}
+use Rattle.peer_runner.specs.RunSetups.{config_in}
+use Rattle.lawful_history.specs.declared.line.Line.{Line}
+use Rattle.peer_runner.specs.Turns.{interrupt_line, interrupt_lines, sleeps}
+use Rattle.peer_runner.specs.Runners.{Runner, MayRingBy, due_of, looks_now, RunnerRefines}
+use Rattle.peer_runner.proofs.Keys.{clash}
+
+pub looks_at : (own mine : Route) (due dues looks before : ℕ) (result : Bool) → result ≡ looks_now own due looks → own ≡ mine → due ≡ dues → before ≡ looks → looks_now mine dues before ≡ result
+looks_at own mine due dues looks before result is same now was = sym (is ∙ (λ i. looks_now (same i) (now i) (sym was i)))
+
+-- no look is due where a call is open
+pub looks_shut : (config : EndConfig) (own : Route) (r : Runner) → looks_now own (due_of config r) r.looks ≡ true → is_open r.place ≡ false
+looks_shut config own r is = by (is_open r.place) refl
+  where
+    never : (a b : Bool) → b ≡ false → (a && b) ≡ false
+    never true b e = e
+    never false b e = refl
+
+    by : (b : Bool) → is_open r.place ≡ b → is_open r.place ≡ false
+    by true e = let none : due_of config r ≡ 0 = ap (λ (b : Bool). if b then 0 else if sleeps config r.end r.auto then 64 else 1) e in
+        absurd (clash (sym (never own.enabled (nat_lt r.looks 0) (le-ltb r.looks 0 (omega arith))) ∙ (ap (λ n. looks_now own n r.looks) (sym none) ∙ is)))
+    by false e = e
+
+rings_open : (routes : List Route) (config : EndConfig) (place : Place) (list : List (Action (MemoryOp CallAccess))) → MayRingBy routes (access_at config place) list → is_open place ≡ true
+rings_open routes config RingingOffer list may = refl
+rings_open routes config RingingPoll list may = refl
+rings_open routes config place list may = absurd may
+
+-- no ring is to come where no call is open
+pub still_shut : (key : RunSetup) (me : ℕ) (routes : List Route) (r : Runner) (end : Engine) → RunnerRefines key me routes r end → is_open r.place ≡ false → r.ringing ≡ false
+still_shut key me routes r end s shut = by r.ringing refl
+  where
+    by : (b : Bool) → r.ringing ≡ b → r.ringing ≡ false
+    by true e = absurd (clash (sym shut ∙ rings_open routes (config_in key me) r.place r.actions (s.rings e)))
+    by false e = e
+
+-- the bits that a look found are told one after another
+pub heard_none : (me found : ℕ) → interrupt_lines 0 me found ≡ []
+unfolding interrupt_lines
+heard_none me found = refl
+
+pub heard_more : (n me found : ℕ) (first was now : List Line) → was ≡ first ++ interrupt_lines n me found → now ≡ was ++ interrupt_line me n found → now ≡ first ++ interrupt_lines (n + 1) me found
+unfolding interrupt_lines
+heard_more n me found first was now is more = let next : n + 1 ≡ suc n = omega arith in
+    more ∙ (ap (λ ls. ls ++ interrupt_line me n found) is ∙ (append_assoc first (interrupt_lines n me found) (interrupt_line me n found) ∙ sym (ap (λ k. first ++ interrupt_lines k me found) next)))

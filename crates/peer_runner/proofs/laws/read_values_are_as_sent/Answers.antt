@@ -1,0 +1,7 @@
+use Rattle.peer_runner.specs.Rules.{accesses_by}
+use Rattle.peer_runner.proofs.PairLaws.{sent_lem}
+use Rattle.peer_runner.proofs.Happening.{made_in}
+use Rattle.peer_runner.proofs.laws.read_values_are_as_sent.Goals as goal
+
+pub returns : goal.returns
+returns c = λ key s kept p a b p2. sent_lem key kept.fit a b _ _ (accesses_by kept.acc) (made_in key s kept) p p2

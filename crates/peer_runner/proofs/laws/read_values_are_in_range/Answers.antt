@@ -1,0 +1,9 @@
+use Rattle.peer_runner.specs.Rules.{accesses_by}
+use Rattle.peer_runner.specs.RunSetups.{link_config_of}
+use Rattle.peer_runner.proofs.Along.{alone_at}
+use Rattle.peer_runner.proofs.HeldLaws.{in_range}
+use Rattle.peer_runner.proofs.Happening.{made_in}
+use Rattle.peer_runner.proofs.laws.read_values_are_in_range.Goals as goal
+
+pub returns : goal.returns
+returns c = λ key s kept p hp. in_range (link_config_of key) _ p _ _ (alone_at key kept.fit _ _ (accesses_by kept.acc) (made_in key s kept) p hp)

@@ -1,0 +1,93 @@
+-- What a call of this crate holds from its beginning, and its place, as a place of the call grammar.
+use Rattle.std.specs.Prelude.{ℕ, ◌≡◌, List, [], ◌∷◌, ◌++◌, length, get_or, ◌+◌, ◌<◌, ◌^◌}
+use Rattle.call_grammar.specs.Offers.{PendingOffer}
+use Rattle.call_grammar.specs.Places as laws
+use Rattle.reference_calls.specs.declared.ends.EndConfig.{EndConfig}
+use Rattle.reference_calls.specs.declared.ends.End.{End}
+use Rattle.reference_calls.specs.declared.ends.Call.{Call}
+use Rattle.reference_calls.specs.declared.ends.Call.TheVariants.{Offer}
+use Rattle.reference_calls.specs.Seen.{config_seen, stored}
+use Rattle.split_ring.specs.Layout.{word_offset, AvailEntry}
+use Rattle.call_grammar.specs.Offers.{avail_entry_of}
+use Rattle.call_grammar.specs.Polls.{is_last}
+use Rattle.reference_calls.specs.declared.places.Begun.{Begun}
+use Rattle.reference_calls.specs.declared.places.Place.{Place}
+use Rattle.reference_calls.specs.declared.places.Place.TheVariants.{Closed, ReadingOtherState, Clearing, WritingState, Refusing, NotInRun, ReadingUsedIndex, ReadingUsedId, WritingFrameWord, WritingDescAddressLow, WritingDescAddressHigh, WritingDescLength, WritingDescFlags, WritingAvailEntry, WritingAvailIndex, ReadingAvailEvent, RingingOffer, ReadingAvailIndex, WritingAvailEvent, ReadingAvailEntry, ReadingDescAddressLow, ReadingDescAddressHigh, ReadingDescLength, ReadingDescFlags, ReadingFrameWord, WritingUsedId, WritingUsedLength, WritingUsedIndex, RingingPoll}
+
+-- the lengths of the session's frames up to the one that is offered, by their numbers
+abbrev pub length_at : Begun → ℕ → ℕ
+length_at begun k = get_or begun.lengths.items k 0
+
+-- what the call is to publish, where it is an offer
+abbrev pub pending_of : Begun → PendingOffer
+pending_of begun = record { frame = begun.frame.items; number = begun.number; lengths = length_at begun; neighbour_word = begun.neighbour_word }
+
+abbrev pub place_seen : Begun → Place → laws.Place
+place_seen begun Closed = laws.Closed
+place_seen begun ReadingOtherState = laws.ReadingOtherState begun.handshake
+place_seen begun (Clearing at more state) = laws.Clearing at more state
+place_seen begun (WritingState state) = laws.WritingState state
+place_seen begun Refusing = laws.Refusing
+place_seen begun NotInRun = laws.NotInRun
+place_seen begun ReadingUsedIndex = laws.ReadingUsedIndex (pending_of begun) begun.freed
+place_seen begun (ReadingUsedId freed more) = laws.ReadingUsedId (pending_of begun) freed more
+place_seen begun (WritingFrameWord at more) = laws.WritingFrameWord (pending_of begun) at more
+place_seen begun WritingDescAddressLow = laws.WritingDescAddressLow (pending_of begun)
+place_seen begun WritingDescAddressHigh = laws.WritingDescAddressHigh (pending_of begun)
+place_seen begun WritingDescLength = laws.WritingDescLength (pending_of begun)
+place_seen begun WritingDescFlags = laws.WritingDescFlags (pending_of begun)
+place_seen begun WritingAvailEntry = laws.WritingAvailEntry (pending_of begun)
+place_seen begun WritingAvailIndex = laws.WritingAvailIndex (pending_of begun)
+place_seen begun ReadingAvailEvent = laws.ReadingAvailEvent begun.number
+place_seen begun RingingOffer = laws.RingingOffer
+place_seen begun (ReadingAvailIndex last) = laws.ReadingAvailIndex begun.taken last
+place_seen begun WritingAvailEvent = laws.WritingAvailEvent begun.taken
+place_seen begun (ReadingAvailEntry number more) = laws.ReadingAvailEntry number more
+place_seen begun (ReadingDescAddressLow number more entry) = laws.ReadingDescAddressLow number more entry
+place_seen begun (ReadingDescAddressHigh number more entry low) = laws.ReadingDescAddressHigh number more entry low
+place_seen begun (ReadingDescLength number more entry address) = laws.ReadingDescLength number more entry address
+place_seen begun (ReadingDescFlags number more entry address bytes) = laws.ReadingDescFlags number more entry address bytes
+place_seen begun (ReadingFrameWord number more entry address bytes read words) = laws.ReadingFrameWord number more entry address bytes read.items words
+place_seen begun (WritingUsedId number more entry) = laws.WritingUsedId number more entry
+place_seen begun (WritingUsedLength number more) = laws.WritingUsedLength number more
+place_seen begun (WritingUsedIndex number more) = laws.WritingUsedIndex number more
+place_seen begun RingingPoll = laws.RingingPoll
+
+-- an open call of this crate, by what it holds from its beginning and its place; and that place in the call grammar
+abbrev pub Open : Type 0
+Open = Begun × Place
+
+abbrev pub place_of : Open → laws.Place
+place_of call = place_seen call.0 call.1
+
+-- the numbers at a place that count on are so small that no count is too large for 64 bits
+abbrev pub IsSmall : Place → Type 0
+IsSmall (Clearing at more state) = at + more + 1 < 2 ^ 33
+IsSmall (ReadingUsedId freed more) = freed + more + 1 < 2 ^ 33
+IsSmall (WritingFrameWord at more) = at + more + 1 < 2 ^ 62
+IsSmall (ReadingAvailEntry number more) = number + more + 1 < 2 ^ 33
+IsSmall (ReadingDescAddressLow number more entry) = number + more + 1 < 2 ^ 33
+IsSmall (ReadingDescAddressHigh number more entry low) = number + more + 1 < 2 ^ 33
+IsSmall (ReadingDescLength number more entry address) = (number + more + 1 < 2 ^ 33) × (address < 2 ^ 32)
+IsSmall (ReadingDescFlags number more entry address bytes) = number + more + 1 < 2 ^ 33
+IsSmall (ReadingFrameWord number more entry address bytes read words) = number + more + 1 < 2 ^ 33
+IsSmall (WritingUsedId number more entry) = number + more + 1 < 2 ^ 33
+IsSmall (WritingUsedLength number more) = number + more + 1 < 2 ^ 33
+IsSmall (WritingUsedIndex number more) = number + more + 1 < 2 ^ 33
+IsSmall _ = Unit {0}
+
+-- the frame of a call that offers one
+abbrev pub frame_of : Call → List ℕ
+frame_of (Offer frame) = frame
+frame_of _ = []
+
+-- this is what the call holds of its end from its beginning
+pub record IsBegun (config : EndConfig) (end : End) (call : Call) (begun : Begun) : Type 0 where
+  pub handshake : begun.handshake ≡ end.handshake
+  pub frame : begun.frame.items ≡ frame_of call
+  pub number : begun.number ≡ end.accepted
+  pub lengths : begun.lengths.items ≡ end.lengths.items ++ length (frame_of call) ∷ []
+  pub neighbour_word : begun.neighbour_word ≡ stored end.stores.items (config.own + word_offset config.queue (AvailEntry (avail_entry_of (config_seen config) end.accepted)))
+  pub freed : begun.freed ≡ end.freed
+  pub taken : begun.taken ≡ end.delivered
+  pub last : begun.last ≡ is_last (config_seen config) end.found_none

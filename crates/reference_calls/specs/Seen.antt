@@ -1,0 +1,71 @@
+-- How the types of this crate are seen: as those of the call grammar.
+use Rattle.std.specs.Prelude.{ℕ, ◌≡◌, ◌==◌, if◌then◌else◌, List, [], ◌∷◌, length, map}
+use Rattle.split_ring.specs.declared.steps.Access as ring
+use Rattle.split_ring.specs.declared.steps.Access.TheVariants as access
+use Rattle.call_grammar.specs.Steps as laws
+use Rattle.call_grammar.specs.Ends as ends
+use Rattle.call_grammar.specs.Calls as calls
+use Rattle.reference_calls.specs.declared.ends.EndConfig.{EndConfig}
+use Rattle.reference_calls.specs.declared.ends.Store.{Store}
+use Rattle.reference_calls.specs.declared.ends.End.{End}
+use Rattle.reference_calls.specs.declared.ends.Call.{Call}
+use Rattle.reference_calls.specs.declared.ends.Call.TheVariants.{Tick, Stop, Offer, Poll}
+use Rattle.reference_calls.specs.declared.steps.Access.{Access}
+use Rattle.reference_calls.specs.declared.steps.Access.TheVariants.{Read, Write, State, Ring, Nothing}
+use Rattle.reference_calls.specs.declared.steps.Mark.{Mark}
+use Rattle.reference_calls.specs.declared.steps.Mark.TheVariants.{Saw, Reclaim, Full, Accept, Look, Deliver, Return, Done, Down, Refuse, Over}
+use Rattle.reference_calls.specs.declared.steps.Step.{Step}
+
+abbrev pub config_seen : EndConfig → calls.EndConfig
+config_seen config = record { me = config.me; other = config.other; own = config.own; theirs = config.theirs; words = config.words; sizes = config.queue; vector = config.vector }
+
+-- what these stores, of which the newest is the first, left in a word, or 0
+abbrev pub stored : List Store → ℕ → ℕ
+stored [] word = 0
+stored (store ∷ older) word = if store.word == word then store.value else stored older word
+
+-- the end of the grammar stands where this one stands: its frames are counted and those that it accepted are as long, its last look found none
+-- where this one's did, and its words are those that were stored
+pub record IsSeenAs (seen : End) (end : ends.End) : Type 0 where
+  pub handshake : end.handshake ≡ seen.handshake
+  pub accepted : length end.accepted ≡ seen.accepted
+  pub lengths : map length end.accepted ≡ seen.lengths.items
+  pub freed : end.freed ≡ seen.freed
+  pub delivered : length end.delivered ≡ seen.delivered
+  pub found_none : end.found_none ≡ seen.found_none
+  pub written : (word : ℕ) → end.written word ≡ stored seen.stores.items word
+
+abbrev pub call_seen : Call → calls.Call
+call_seen Tick = calls.Tick
+call_seen Stop = calls.Stop
+call_seen (Offer frame) = calls.Offer frame
+call_seen Poll = calls.Poll
+
+abbrev pub access_seen : Access → ring.Access
+access_seen (Read word) = access.Read word
+access_seen (Write word value) = access.Write word value
+access_seen (State state) = access.State state
+access_seen (Ring target vector) = access.Ring target vector
+access_seen Nothing = access.Nothing
+
+abbrev pub mark_seen : Mark → laws.Mark
+mark_seen (Saw value) = laws.Saw value
+mark_seen (Reclaim count) = laws.Reclaim count
+mark_seen Full = laws.Full
+mark_seen (Accept frame) = laws.Accept frame
+mark_seen (Look count) = laws.Look count
+mark_seen (Deliver frame) = laws.Deliver frame
+mark_seen Return = laws.Return
+mark_seen Done = laws.Done
+mark_seen Down = laws.Down
+mark_seen (Refuse refused) = laws.Refuse refused
+mark_seen Over = laws.Over
+
+abbrev pub marks_seen : List Mark → List laws.Mark
+marks_seen marks = map mark_seen marks
+
+abbrev pub step_seen : Step → laws.Step
+step_seen step = record { access = access_seen step.access; value = step.value; marks = marks_seen step.marks.items }
+
+abbrev pub steps_seen : List Step → List laws.Step
+steps_seen steps = map step_seen steps

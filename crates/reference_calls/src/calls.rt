@@ -1,0 +1,130 @@
+//! The next step of a call, and whether a list of steps is a call.
+ghost use Rattle.std.specs.Prelude.{◌≡◌, ◌↔◌, true, IsTrue, IfOk, OnOk};
+ghost use Rattle.call_grammar.specs.Ends as ends;
+ghost use Rattle.call_grammar.specs.Steps.{value_given};
+ghost use Rattle.call_grammar.specs.Calls.{IsCall};
+ghost use Rattle.call_grammar.specs.Places.{access_at, marks_at, is_open, step_at};
+ghost use Rattle.reference_calls.specs.Seen.{config_seen, call_seen, access_seen, step_seen, steps_seen, IsSeenAs};
+ghost use Rattle.reference_calls.specs.Begun.{place_seen, IsSmall};
+ghost use Rattle.reference_calls.specs.Along.{IsAfter, IsNext};
+
+use crate::marks::marks_at;
+use crate::places::{Begun, Place, access_at, begin, first_place, next_place};
+use crate::steps::same_marks;
+use crate::{Access, Call, End, EndConfig, Step};
+use call_grammar::played_are_calls;
+use ivs_base::NoMemory;
+use std::alloc::Global;
+
+/// Is a call open at the place?
+fn is_open(place: &Place) -> bool
+    ensures { (begun : Begun) → result ≡ is_open (place_seen begun place.now) }
+{
+    !matches!(place, Place::Closed)
+}
+
+/// What an access gives that met this value: the value where it is a read, else 0.
+pub fn given(access: Access, value: u32) -> u32
+    ensures { result ≡ value_given (access_seen access) value }
+{
+    match access {
+        Access::Read(_) => value,
+        Access::Write(..) | Access::State(_) | Access::Ring { .. } | Access::Nothing => 0,
+    }
+}
+
+/// Is this the step at the place, for the value that it met?
+fn is_step_at(
+    alloc: Global,
+    config: &EndConfig,
+    begun: &Begun,
+    place: &Place,
+    step: &Step,
+) -> Result<bool, NoMemory>
+    requires { IsSmall place.now }
+    ensures { IfOk result (λ yes. IsTrue yes ↔ ((is_open (place_seen begun.now place.now) ≡ true)
+        × (step_seen step.now ≡ step_at (config_seen config.now) (place_seen begun.now place.now) step.now.value))) }
+{
+    if !is_open(place) {
+        return Ok(false);
+    }
+    let access = access_at(config, begun, place);
+    if step.access != access || step.value != given(access, step.value) {
+        return Ok(false);
+    }
+    let marks = marks_at(alloc, config, begun, place, step.value)?;
+    Ok(same_marks(step.marks.as_slice(), marks.as_slice()))
+}
+
+/// The place after these steps, where each is the step at its place; else None.
+fn place_after(
+    alloc: Global,
+    config: &EndConfig,
+    begun: &Begun,
+    first: Place,
+    steps: &[Step],
+) -> Result<Option<Place>, NoMemory>
+    requires { IsSmall first }
+    ensures { IfOk result (IsAfter (config_seen config.now) begun.now (place_seen begun.now first) (steps_seen steps.now)) }
+{
+    let mut place = first;
+    for step in steps {
+        if !is_step_at(alloc, config, begun, &place, step)? {
+            return Ok(None);
+        }
+        place = next_place(alloc, config, begun, place, step.value)?;
+    }
+    Ok(Some(place))
+}
+
+/// Are these steps a call that the end makes, from its first step to its last? NoMemory says that memory ran out.
+pub fn is_call(
+    alloc: Global,
+    config: &EndConfig,
+    end: &End,
+    call: &Call,
+    steps: &[Step],
+) -> Result<bool, NoMemory>
+    ensures { IfOk result (λ yes. (seen : ends.End) → IsSeenAs end.now seen →
+        (IsTrue yes ↔ IsCall (config_seen config.now) seen (call_seen call.now) (steps_seen steps.now))) }
+{
+    played_are_calls();
+    let begun = begin(alloc, config, end, call)?;
+    let first = first_place(&begun, call);
+    let place = match place_after(alloc, config, &begun, first, steps)? {
+        None => return Ok(false),
+        Some(place) => place,
+    };
+    Ok(!is_open(&place))
+}
+
+/// The step with which the call goes on after these steps, where a read gives this value; None where the call is over, or these
+/// steps don't begin it. NoMemory says that memory ran out.
+pub fn next_step(
+    alloc: Global,
+    config: &EndConfig,
+    end: &End,
+    call: &Call,
+    steps: &[Step],
+    value: u32,
+) -> Result<Option<Step>, NoMemory>
+    ensures { IfOk result (λ next. (seen : ends.End) → IsSeenAs end.now seen →
+        IsNext (config_seen config.now) seen (call_seen call.now) (steps_seen steps.now) value next) }
+{
+    let begun = begin(alloc, config, end, call)?;
+    let first = first_place(&begun, call);
+    let place = match place_after(alloc, config, &begun, first, steps)? {
+        None => return Ok(None),
+        Some(place) => place,
+    };
+    if !is_open(&place) {
+        return Ok(None);
+    }
+    let access = access_at(config, &begun, &place);
+    let marks = marks_at(alloc, config, &begun, &place, value)?;
+    Ok(Some(Step {
+        access,
+        value: given(access, value),
+        marks,
+    }))
+}

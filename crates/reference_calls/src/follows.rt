@@ -1,0 +1,128 @@
+//! An end after a step, and after a device reset.
+ghost use Rattle.std.specs.Prelude.{◌≡◌, ◌∷◌, [], OnOk};
+ghost use Rattle.split_ring.specs.declared.steps.Access.TheVariants.{Write};
+ghost use Rattle.call_grammar.specs.Ends as ends;
+ghost use Rattle.call_grammar.specs.Ends.{fresh, after_reset, with_state, with_access, with_mark, with_marks, end_after};
+ghost use Rattle.reference_calls.specs.Seen.{access_seen, mark_seen, marks_seen, step_seen, IsSeenAs};
+ghost use Rattle.reference_calls.specs.Following.{IsStorable, HasRoom, HasCounted};
+
+use crate::{Access, End, Mark, Step, Store};
+use ivs_base::NoMemory;
+use link_handshake::{Handshake, phase_of};
+use std::alloc::Global;
+
+impl End {
+    /// An end at its start.
+    pub fn fresh(alloc: Global) -> End
+        ensures seen { IsSeenAs result fresh }
+        ensures accepted { result.accepted ≡ 0 }
+        ensures freed { result.freed ≡ 0 }
+        ensures delivered { result.delivered ≡ 0 }
+    {
+        End {
+            handshake: Handshake::new(),
+            accepted: 0,
+            lengths: Vec::new(alloc),
+            freed: 0,
+            delivered: 0,
+            found_none: false,
+            stores: Vec::new(alloc),
+        }
+    }
+
+    /// The device of the end was reset.
+    pub fn reset(&mut self)
+        ensures seen { (seen : ends.End) → IsSeenAs self.old seen → IsSeenAs self.new (after_reset seen) }
+        ensures counts { HasCounted self.old [] self.new }
+    {
+        self.handshake.reset();
+    }
+
+    /// A write of State.
+    fn set_state(&mut self, state: u32)
+        ensures seen { (seen : ends.End) → IsSeenAs self.old seen → IsSeenAs self.new (with_state seen state) }
+        ensures counts { HasCounted self.old [] self.new }
+    {
+        self.handshake.enter(phase_of(state));
+        if state == 2 {
+            self.accepted = 0;
+            self.lengths.clear();
+            self.freed = 0;
+            self.delivered = 0;
+            self.found_none = false;
+        }
+    }
+
+    /// A write of a word.
+    fn store(&mut self, word: u32, value: u32) -> Result<(), NoMemory>
+        ensures seen { OnOk result ((seen : ends.End) → IsSeenAs self.old seen → IsSeenAs self.new (with_access seen (Write word value))) }
+        ensures counts { OnOk result (HasCounted self.old [] self.new) }
+    {
+        self.stores.insert(0, Store { word, value })?;
+        Ok(())
+    }
+
+    /// What an access changes.
+    fn change(&mut self, access: Access) -> Result<(), NoMemory>
+        requires { IsStorable (access_seen access) }
+        ensures seen { OnOk result ((seen : ends.End) → IsSeenAs self.old seen → IsSeenAs self.new (with_access seen (access_seen access))) }
+        ensures counts { OnOk result (HasCounted self.old [] self.new) }
+    {
+        match access {
+            Access::Write(word, value) => self.store(word as u32, value as u32),
+            Access::State(state) => {
+                self.set_state(state);
+                Ok(())
+            }
+            Access::Read(_) | Access::Ring { .. } | Access::Nothing => Ok(()),
+        }
+    }
+
+    /// What a mark counts.
+    fn note(&mut self, mark: &Mark) -> Result<(), NoMemory>
+        requires { HasRoom self.old (mark_seen mark.now ∷ []) }
+        ensures seen { OnOk result ((seen : ends.End) → IsSeenAs self.old seen → IsSeenAs self.new (with_mark seen (mark_seen mark.now))) }
+        ensures counts { OnOk result (HasCounted self.old (mark_seen mark.now ∷ []) self.new) }
+    {
+        match mark {
+            Mark::Reclaim(count) => self.freed += *count as u32,
+            Mark::Accept(frame) => {
+                self.lengths.push(frame.bytes().len() as u64)?;
+                self.accepted += 1;
+            }
+            Mark::Look(count) => self.found_none = *count == 0,
+            Mark::Deliver(_) => self.delivered += 1,
+            Mark::Refuse(_) => {
+                let phase = self.handshake.phase();
+                self.handshake.refuse();
+                self.handshake.enter(phase);
+            }
+            Mark::Saw(_) | Mark::Full | Mark::Return | Mark::Done | Mark::Down | Mark::Over => {}
+        }
+        Ok(())
+    }
+
+    /// What these marks count.
+    fn note_all(&mut self, marks: &[Mark]) -> Result<(), NoMemory>
+        requires { HasRoom self.old (marks_seen marks.now) }
+        ensures seen { OnOk result ((seen : ends.End) → IsSeenAs self.old seen → IsSeenAs self.new (with_marks seen (marks_seen marks.now))) }
+        ensures counts { OnOk result (HasCounted self.old (marks_seen marks.now) self.new) }
+    {
+        for mark in marks {
+            self.note(mark)?;
+        }
+        Ok(())
+    }
+
+    /// The end takes a step. NoMemory says that memory ran out.
+    pub fn follow(&mut self, step: &Step) -> Result<(), NoMemory>
+        requires storable { IsStorable (step_seen step.now).access }
+        requires room { HasRoom self.old (step_seen step.now).marks }
+        ensures seen { OnOk result ((seen : ends.End) → IsSeenAs self.old seen → IsSeenAs self.new (end_after seen (step_seen step.now))) }
+        ensures counts { OnOk result (HasCounted self.old (step_seen step.now).marks self.new) }
+    {
+        self.change(step.access)?;
+        self.note_all(step.marks.as_slice())?;
+        Ok(())
+    }
+}

@@ -1,0 +1,600 @@
+//! Where a call is between two steps, the step there, and where the call goes on.
+ghost use Rattle.std.specs.Prelude.{◌≡◌, true, ◌+◌, ◌<◌, ◌^◌, IfOk, List, [], ◌∷◌};
+ghost use Rattle.link_handshake.specs.HandshakeState.{move_of};
+ghost use Rattle.call_grammar.specs.Steps.{value_given};
+ghost use Rattle.call_grammar.specs.Ticks.{tick_marks};
+ghost use Rattle.call_grammar.specs.Offers.{full_marks, reclaim_marks, refusal};
+ghost use Rattle.call_grammar.specs.Polls.{is_entry, is_address, is_length, look_marks};
+ghost use Rattle.call_grammar.specs.Places.{access_at, marks_at, next_place, first_place, is_open, tick_place, clear_place, fill_place, ids_place, notify_place, items_place, words_place};
+ghost use Rattle.call_grammar.specs.Ends as ends;
+ghost use Rattle.reference_calls.specs.Seen.{config_seen, call_seen, access_seen, marks_seen, IsSeenAs};
+ghost use Rattle.reference_calls.specs.Begun.{pending_of, place_seen, IsSmall, IsBegun};
+
+use crate::frames::{frame_fits, start_at};
+use crate::words::*;
+use crate::{Access, Call, End, EndConfig, Mark};
+use ivs_base::{Frame, NoMemory};
+use link_handshake::{Handshake, Move, Phase};
+use split_ring::{FieldName, Refused};
+use std::alloc::Global;
+
+/// What a call holds from its beginning.
+#[derive(Debug, Drop)]
+pub struct Begun {
+    /// The handshake of its end.
+    pub handshake: Handshake,
+    /// The frame that it offers, or nothing.
+    pub frame: Vec<u8>,
+    /// The number of that frame in the session.
+    pub number: u32,
+    /// How long each frame of the session is, that one the last.
+    pub lengths: Vec<u64>,
+    /// The word of the own section that holds its entry, as the end wrote it last.
+    pub neighbour_word: u32,
+    /// How many frames were freed.
+    pub freed: u32,
+    /// How many frames were taken.
+    pub taken: u32,
+    /// Whether the first look of a poll is its last where it finds nothing.
+    pub last: bool,
+}
+
+/// Where a call is: the places of `call_grammar`, one for one. `more` is how many words, ids or items come after the one in hand, and
+/// `number` the number of that item in the session; `entry` is its descriptor, with the `address` and the length in `bytes` that were
+/// read; and of its frame the words `read`, with so many `words` after the next one. A look that is the `last` one of its poll ends it where it
+/// finds nothing.
+#[derive(Debug, Drop)]
+pub enum Place {
+    Closed,
+    ReadingOtherState,
+    Clearing {
+        at: u64,
+        more: u64,
+        state: u32,
+    },
+    WritingState {
+        state: u32,
+    },
+    Refusing,
+    NotInRun,
+    ReadingUsedIndex,
+    ReadingUsedId {
+        freed: u64,
+        more: u64,
+    },
+    WritingFrameWord {
+        at: u64,
+        more: u64,
+    },
+    WritingDescAddressLow,
+    WritingDescAddressHigh,
+    WritingDescLength,
+    WritingDescFlags,
+    WritingAvailEntry,
+    WritingAvailIndex,
+    ReadingAvailEvent,
+    RingingOffer,
+    ReadingAvailIndex {
+        last: bool,
+    },
+    WritingAvailEvent,
+    ReadingAvailEntry {
+        number: u64,
+        more: u64,
+    },
+    ReadingDescAddressLow {
+        number: u64,
+        more: u64,
+        entry: u32,
+    },
+    ReadingDescAddressHigh {
+        number: u64,
+        more: u64,
+        entry: u32,
+        low: u32,
+    },
+    ReadingDescLength {
+        number: u64,
+        more: u64,
+        entry: u32,
+        address: u64,
+    },
+    ReadingDescFlags {
+        number: u64,
+        more: u64,
+        entry: u32,
+        address: u64,
+        bytes: u32,
+    },
+    ReadingFrameWord {
+        number: u64,
+        more: u64,
+        entry: u32,
+        address: u64,
+        bytes: u32,
+        read: Vec<u32>,
+        words: u64,
+    },
+    WritingUsedId {
+        number: u64,
+        more: u64,
+        entry: u32,
+    },
+    WritingUsedLength {
+        number: u64,
+        more: u64,
+    },
+    WritingUsedIndex {
+        number: u64,
+        more: u64,
+    },
+    RingingPoll,
+}
+
+/// The access of the step at a place.
+pub fn access_at(config: &EndConfig, begun: &Begun, place: &Place) -> Access
+    requires { IsSmall place.now }
+    ensures { access_seen result ≡ access_at (config_seen config.now) (place_seen begun.now place.now) }
+{
+    let own = u64::from(config.own);
+    let theirs = u64::from(config.theirs);
+    let queue = &config.queue;
+    let number = u64::from(begun.number);
+    match place {
+        Place::Closed | Place::NotInRun => Access::Nothing,
+        Place::ReadingOtherState => Access::Read(u64::from(config.other)),
+        Place::Clearing { at, .. } => Access::Write(*at, 0),
+        Place::WritingState { state } => Access::State(*state),
+        Place::Refusing => Access::State(0),
+        Place::ReadingUsedIndex => Access::Read(theirs + used_word(queue)),
+        Place::ReadingUsedId { freed, .. } => Access::Read(
+            theirs + used_id_word(queue, entry_of(config, *freed)),
+        ),
+        Place::WritingFrameWord { at, .. } => {
+            let start = start_at(config, begun) / 4;
+            Access::Write(
+                own + start + *at,
+                u64::from(frame_word(begun.frame.as_slice(), *at)),
+            )
+        }
+        Place::WritingDescAddressLow => {
+            Access::Write(
+                own + address_word(descriptor_of(config, number)),
+                start_at(config, begun),
+            )
+        }
+        Place::WritingDescAddressHigh => Access::Write(
+            own + address_word(descriptor_of(config, number)) + 1,
+            0,
+        ),
+        Place::WritingDescLength => Access::Write(
+            own + length_word(descriptor_of(config, number)),
+            begun.frame.len() as u64,
+        ),
+        Place::WritingDescFlags => Access::Write(
+            own + flags_word(descriptor_of(config, number)),
+            0,
+        ),
+        Place::WritingAvailEntry => {
+            let k = entry_of(config, number);
+            Access::Write(
+                own + entry_word(queue, k),
+                with_entry(k, begun.neighbour_word, descriptor_of(config, number)),
+            )
+        }
+        Place::WritingAvailIndex => Access::Write(
+            own + avail_index_word(queue),
+            index_word(number + 1),
+        ),
+        Place::ReadingAvailEvent => Access::Read(theirs + avail_event_word(queue)),
+        Place::RingingOffer | Place::RingingPoll => Access::Ring {
+            target: config.other,
+            vector: config.vector,
+        },
+        Place::ReadingAvailIndex { .. } => Access::Read(theirs + avail_index_word(queue)),
+        Place::WritingAvailEvent => Access::Write(
+            own + avail_event_word(queue),
+            u64::from(begun.taken) % 65_536,
+        ),
+        Place::ReadingAvailEntry { number, .. } => Access::Read(
+            theirs + entry_word(queue, entry_of(config, *number)),
+        ),
+        Place::ReadingDescAddressLow { entry, .. } => Access::Read(theirs + address_word(*entry)),
+        Place::ReadingDescAddressHigh { entry, .. } => Access::Read(
+            theirs + address_word(*entry) + 1,
+        ),
+        Place::ReadingDescLength { entry, .. } => Access::Read(theirs + length_word(*entry)),
+        Place::ReadingDescFlags { entry, .. } => Access::Read(theirs + flags_word(*entry)),
+        Place::ReadingFrameWord { address, read, .. } => Access::Read(
+            theirs + (*address / 4 + read.len() as u64),
+        ),
+        Place::WritingUsedId { number, entry, .. } => Access::Write(
+            own + used_id_word(queue, entry_of(config, *number)),
+            u64::from(*entry),
+        ),
+        Place::WritingUsedLength { number, .. } => Access::Write(
+            own + used_length_word(queue, entry_of(config, *number)),
+            1,
+        ),
+        Place::WritingUsedIndex { number, .. } => Access::Write(
+            own + used_word(queue),
+            index_word(*number + 1),
+        ),
+    }
+}
+
+/// The place after the writes of 0 that are left.
+fn clear_place(at: u64, count: u64, state: u32) -> Place
+    requires { at + count < 2 ^ 33 }
+    ensures place { (begun : Begun) → place_seen begun result ≡ clear_place at count state }
+    ensures small { IsSmall result }
+{
+    if count == 0 {
+        Place::WritingState { state }
+    } else {
+        Place::Clearing {
+            at,
+            more: count - 1,
+            state,
+        }
+    }
+}
+
+/// The place after a Tick's read.
+fn tick_place(config: &EndConfig, found: Move) -> Place
+    ensures place { (begun : Begun) → place_seen begun result ≡ tick_place (config_seen config.now) found }
+    ensures small { IsSmall result }
+{
+    match found {
+        Move::Stay => Place::Closed,
+        Move::Set(state) => Place::WritingState { state },
+        Move::ClearThenSet(state) => clear_place(
+            u64::from(config.own),
+            u64::from(config.words),
+            state,
+        ),
+    }
+}
+
+/// The place of the frame's words that are left to write.
+fn fill_place(at: u64, count: u64) -> Place
+    requires { at + count < 2 ^ 62 }
+    ensures place { (begun : Begun) → place_seen begun result ≡ fill_place (pending_of begun) at count }
+    ensures small { IsSmall result }
+{
+    if count == 0 {
+        Place::WritingDescAddressLow
+    } else {
+        Place::WritingFrameWord {
+            at,
+            more: count - 1,
+        }
+    }
+}
+
+/// The place of the ids that are left to read.
+fn ids_place(config: &EndConfig, begun: &Begun, freed: u64, count: u64) -> Place
+    requires { freed + count < 2 ^ 33 }
+    ensures place { place_seen begun.now result ≡ ids_place (config_seen config.now) (pending_of begun.now) freed count }
+    ensures small { IsSmall result }
+{
+    if count > 0 {
+        Place::ReadingUsedId {
+            freed,
+            more: count - 1,
+        }
+    } else if frame_fits(config, begun, freed) {
+        fill_place(0, words_for(begun.frame.len() as u64))
+    } else {
+        Place::Closed
+    }
+}
+
+/// The place after the write of the available index.
+fn notify_place(config: &EndConfig) -> Place
+    ensures place { (begun : Begun) → place_seen begun result ≡ notify_place (config_seen config.now) begun.number }
+    ensures small { IsSmall result }
+{
+    if config.queue.has_events() {
+        Place::ReadingAvailEvent
+    } else {
+        Place::RingingOffer
+    }
+}
+
+/// The place of the items that are left to take.
+fn items_place(number: u64, count: u64) -> Place
+    requires { number + count < 2 ^ 33 }
+    ensures place { (begun : Begun) → place_seen begun result ≡ items_place number count }
+    ensures small { IsSmall result }
+{
+    if count == 0 {
+        Place::RingingPoll
+    } else {
+        Place::ReadingAvailEntry {
+            number,
+            more: count - 1,
+        }
+    }
+}
+
+/// The place of the words that are left to read.
+fn words_place(
+    number: u64,
+    more: u64,
+    entry: u32,
+    address: u64,
+    bytes: u32,
+    read: Vec<u32>,
+    words: u64,
+) -> Place
+    requires { number + more + 1 < 2 ^ 33 }
+    ensures place { (begun : Begun) → place_seen begun result ≡ words_place number more entry address bytes read.items words }
+    ensures small { IsSmall result }
+{
+    if words == 0 {
+        Place::WritingUsedId {
+            number,
+            more,
+            entry,
+        }
+    } else {
+        Place::ReadingFrameWord {
+            number,
+            more,
+            entry,
+            address,
+            bytes,
+            read,
+            words: words - 1,
+        }
+    }
+}
+
+/// The place after the step at this one, where its read gave this value.
+pub fn next_place(
+    alloc: Global,
+    config: &EndConfig,
+    begun: &Begun,
+    place: Place,
+    value: u32,
+) -> Result<Place, NoMemory>
+    requires { IsSmall place }
+    ensures place { IfOk result (λ next. place_seen begun.now next ≡ next_place (config_seen config.now) (place_seen begun.now place) value) }
+    ensures small { IfOk result (λ next. IsSmall next) }
+{
+    let next = match place {
+        Place::Closed
+        | Place::WritingState { .. }
+        | Place::Refusing
+        | Place::NotInRun
+        | Place::RingingOffer
+        | Place::RingingPoll => Place::Closed,
+        Place::ReadingOtherState => tick_place(config, begun.handshake.saw(value)),
+        Place::Clearing { at, more, state } => clear_place(at + 1, more, state),
+        Place::ReadingUsedIndex => after_used_index(config, begun, value),
+        Place::ReadingUsedId { freed, more } => {
+            if value == descriptor_of(config, freed) {
+                ids_place(config, begun, freed + 1, more)
+            } else {
+                Place::Refusing
+            }
+        }
+        Place::WritingFrameWord { at, more } => fill_place(at + 1, more),
+        Place::WritingDescAddressLow => Place::WritingDescAddressHigh,
+        Place::WritingDescAddressHigh => Place::WritingDescLength,
+        Place::WritingDescLength => Place::WritingDescFlags,
+        Place::WritingDescFlags => Place::WritingAvailEntry,
+        Place::WritingAvailEntry => Place::WritingAvailIndex,
+        Place::WritingAvailIndex => notify_place(config),
+        Place::ReadingAvailEvent => {
+            if wants_doorbell(value, begun.number) {
+                Place::RingingOffer
+            } else {
+                Place::Closed
+            }
+        }
+        Place::ReadingAvailIndex { last } => after_avail_index(config, begun, last, value),
+        Place::WritingAvailEvent => Place::ReadingAvailIndex { last: true },
+        Place::ReadingAvailEntry { number, more } => {
+            let entry = entry_half(entry_of(config, number), value);
+            if is_entry(config, entry) {
+                Place::ReadingDescAddressLow {
+                    number,
+                    more,
+                    entry,
+                }
+            } else {
+                Place::Refusing
+            }
+        }
+        Place::ReadingDescAddressLow {
+            number,
+            more,
+            entry,
+        } => Place::ReadingDescAddressHigh {
+            number,
+            more,
+            entry,
+            low: value,
+        },
+        Place::ReadingDescAddressHigh {
+            number,
+            more,
+            entry,
+            low,
+        } => {
+            let address = address_of(low, value);
+            if is_address(config, address) {
+                Place::ReadingDescLength {
+                    number,
+                    more,
+                    entry,
+                    address,
+                }
+            } else {
+                Place::Refusing
+            }
+        }
+        Place::ReadingDescLength {
+            number,
+            more,
+            entry,
+            address,
+        } => {
+            if is_length(config, address, value) {
+                Place::ReadingDescFlags {
+                    number,
+                    more,
+                    entry,
+                    address,
+                    bytes: value,
+                }
+            } else {
+                Place::Refusing
+            }
+        }
+        Place::ReadingDescFlags {
+            number,
+            more,
+            entry,
+            address,
+            bytes,
+        } => {
+            if value % 65_536 == 0 {
+                words_place(
+                    number,
+                    more,
+                    entry,
+                    address,
+                    bytes,
+                    Vec::new(alloc),
+                    words_for(u64::from(bytes)),
+                )
+            } else {
+                Place::Refusing
+            }
+        }
+        Place::ReadingFrameWord {
+            number,
+            more,
+            entry,
+            address,
+            bytes,
+            mut read,
+            words,
+        } => {
+            if read.push(value).is_err() {
+                return Err(NoMemory);
+            }
+            words_place(number, more, entry, address, bytes, read, words)
+        }
+        Place::WritingUsedId { number, more, .. } => Place::WritingUsedLength { number, more },
+        Place::WritingUsedLength { number, more } => Place::WritingUsedIndex { number, more },
+        Place::WritingUsedIndex { number, more } => items_place(number + 1, more),
+    };
+    Ok(next)
+}
+
+/// The place after an offer's read of the used index.
+fn after_used_index(config: &EndConfig, begun: &Begun, value: u32) -> Place
+    ensures place { place_seen begun.now result ≡ next_place (config_seen config.now) (place_seen begun.now Place.ReadingUsedIndex) value }
+    ensures small { IsSmall result }
+{
+    let freed = u64::from(begun.freed);
+    let found = published_by(freed, value);
+    if found <= u64::from(begun.number).saturating_sub(freed) {
+        ids_place(config, begun, freed, found)
+    } else {
+        Place::Refusing
+    }
+}
+
+/// The place after a poll's read of the available index.
+fn after_avail_index(config: &EndConfig, begun: &Begun, last: bool, value: u32) -> Place
+    ensures place { place_seen begun.now result ≡ next_place (config_seen config.now) (place_seen begun.now (Place.ReadingAvailIndex last)) value }
+    ensures small { IsSmall result }
+{
+    let taken = u64::from(begun.taken);
+    let found = published_by(taken, value);
+    if found > u64::from(config.queue.size()) {
+        Place::Refusing
+    } else if found > 0 {
+        items_place(taken, found)
+    } else if last {
+        Place::Closed
+    } else {
+        Place::WritingAvailEvent
+    }
+}
+
+/// Is this the number of a descriptor?
+pub fn is_entry(config: &EndConfig, entry: u32) -> bool
+    ensures { result ≡ is_entry config.now.queue entry }
+{
+    entry < config.queue.size()
+}
+
+/// Is this address a multiple of 4 in the data area?
+pub fn is_address(config: &EndConfig, address: u64) -> bool
+    ensures value { result ≡ is_address config.now.queue address }
+    ensures small { result ≡ true → address < 2 ^ 32 }
+{
+    address % 4 == 0
+        && (u64::from(config.queue.payload()) <= address && address < u64::from(config.queue.out()))
+}
+
+/// Can a frame at this address have this length?
+pub fn is_length(config: &EndConfig, address: u64, length: u32) -> bool
+    requires { address < 2 ^ 32 }
+    ensures { result ≡ is_length config.now.queue address length }
+{
+    14 <= length
+        && (length <= 65_553 && address + u64::from(length) <= u64::from(config.queue.out()))
+}
+
+/// What the call of an end holds from its beginning.
+pub fn begin(alloc: Global, config: &EndConfig, end: &End, call: &Call) -> Result<Begun, NoMemory>
+    ensures { IfOk result (λ begun. IsBegun config.now end.now call.now begun) }
+{
+    let frame = match call {
+        Call::Offer(frame) => frame.bytes().to_vec(alloc)?,
+        Call::Tick | Call::Stop | Call::Poll => Vec::new(alloc),
+    };
+    let mut lengths = end.lengths.to_vec(alloc)?;
+    lengths.push(frame.len() as u64)?;
+    let k = entry_of(config, u64::from(end.accepted));
+    Ok(Begun {
+        handshake: end.handshake,
+        frame,
+        number: end.accepted,
+        lengths,
+        neighbour_word: end.written(u64::from(config.own) + entry_word(&config.queue, k)),
+        freed: end.freed,
+        taken: end.delivered,
+        last: !config.queue.has_events() || end.found_none,
+    })
+}
+
+/// The place at which a call begins.
+pub fn first_place(begun: &Begun, call: &Call) -> Place
+    ensures place { (config : EndConfig) (end : End) (seen : ends.End) → IsBegun config end call.now begun.now → IsSeenAs end seen →
+        place_seen begun.now result ≡ first_place (config_seen config) seen (call_seen call.now) }
+    ensures small { IsSmall result }
+{
+    let runs = matches!(begun.handshake.phase(), Phase::Run);
+    match call {
+        Call::Tick => Place::ReadingOtherState,
+        Call::Stop => Place::WritingState { state: 0 },
+        Call::Offer(_) => if runs {
+            Place::ReadingUsedIndex
+        } else {
+            Place::NotInRun
+        },
+        Call::Poll => if runs {
+            Place::ReadingAvailIndex { last: begun.last }
+        } else {
+            Place::NotInRun
+        },
+    }
+}

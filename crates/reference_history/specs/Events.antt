@@ -1,0 +1,82 @@
+-- How the events of this crate are seen: as those of a schedule.
+use Rattle.std.specs.Prelude.{ℕ, ◌≡◌, ◌<◌, ◌^◌, true, Option, Some, None, List, [], ◌∷◌}
+use Rattle.pci_space.specs.Fields.{is_access}
+use Rattle.split_ring.specs.declared.steps.Access.{Access}
+use Rattle.split_ring.specs.declared.steps.Access.TheVariants as access
+use Rattle.scenario_text.specs.declared.acts.Act.{Act}
+use Rattle.scenario_text.specs.Scenario.{World, IsAllowed}
+use Rattle.call_grammar.specs.Steps.{step_of}
+use Rattle.lawful_history.specs.declared.line.Line.{Line}
+use Rattle.lawful_history.specs.declared.line.Line.TheVariants.{Denied}
+use Rattle.lawful_history.specs.EventRecords.{denied_lines}
+use Rattle.lawful_history.specs.History.{acted_step}
+use Rattle.reference_history.specs.Reading.{Meets}
+use Rattle.lawful_history.specs.Schedule as schedule
+use Rattle.lawful_history.specs.Schedule.{event_peer}
+use Rattle.reference_calls.specs.Seen.{call_seen, access_seen}
+use Rattle.reference_history.specs.DeviceEvents.{FitsDoorbell}
+use Rattle.reference_history.specs.declared.events.Event.{Event}
+use Rattle.reference_history.specs.declared.events.Event.TheVariants.{Asked, Automated, Stormed, Turned, Acted, WasReset, Reached, Loses, Repeated}
+use Rattle.reference_history.specs.declared.events.DeviceAccess.{DeviceAccess}
+use Rattle.reference_history.specs.declared.events.DeviceAccess.TheVariants.{ReadsConfig, WritesConfig, ReadsRegister, WritesRegister, ReadsMsix, WritesMsix}
+
+abbrev pub device_access_seen : DeviceAccess → schedule.DeviceAccess
+device_access_seen (ReadsConfig offset width) = schedule.ReadsConfig offset width
+device_access_seen (WritesConfig offset width value) = schedule.WritesConfig offset width value
+device_access_seen (ReadsRegister offset) = schedule.ReadsRegister offset
+device_access_seen (WritesRegister offset value) = schedule.WritesRegister offset value
+device_access_seen (ReadsMsix offset) = schedule.ReadsMsix offset
+device_access_seen (WritesMsix offset value) = schedule.WritesMsix offset value
+
+abbrev pub event_seen : Event → schedule.Event
+event_seen (Asked peer call) = schedule.CallQueued peer (call_seen call)
+event_seen (Automated peer expected) = schedule.AutoStarted peer expected
+event_seen (Stormed peer seed) = schedule.StormStarted peer seed
+event_seen (Turned peer) = schedule.TurnTaken peer
+event_seen (Acted peer a) = schedule.RegionAccessed peer (access_seen a)
+event_seen (WasReset peer) = schedule.DeviceReset peer
+event_seen (Reached peer a) = schedule.DeviceAccessed peer (device_access_seen a)
+event_seen (Loses peer) = schedule.InterruptDropped peer
+event_seen (Repeated peer vector) = schedule.InterruptRepeated peer vector
+
+-- a word that is written has a number of 32 bits
+abbrev pub HasWord : Access → Type 0
+HasWord (access.Read word) = Unit {0}
+HasWord (access.Write word value) = word < 2 ^ 32
+HasWord (access.State state) = Unit {0}
+HasWord (access.Ring target vector) = Unit {0}
+HasWord access.Nothing = Unit {0}
+
+-- the write of this word is denied to the peer; or the access is not denied, and its step is made, whatever it meets
+abbrev pub IsDenied : World → ℕ → Access → Option ℕ → Type 0
+IsDenied world me a None = (past : List Line) (met : ℕ) → Meets past a met → acted_step world me a past ≡ Some (step_of a met [])
+IsDenied world me a (Some word) = ((past : List Line) → acted_step world me a past ≡ None) × (denied_lines me a ≡ Denied me word ∷ [])
+
+-- an access to the configuration space is one of its places
+abbrev pub IsPlaced : schedule.DeviceAccess → Type 0
+IsPlaced (schedule.ReadsConfig offset width) = is_access 256 offset width ≡ true
+IsPlaced (schedule.WritesConfig offset width value) = is_access 256 offset width ≡ true
+IsPlaced (schedule.ReadsRegister offset) = Unit {0}
+IsPlaced (schedule.WritesRegister offset value) = Unit {0}
+IsPlaced (schedule.ReadsMsix offset) = Unit {0}
+IsPlaced (schedule.WritesMsix offset value) = Unit {0}
+
+abbrev pub Fits : schedule.Event → Type 0
+Fits (schedule.CallQueued peer call) = Unit {0}
+Fits (schedule.AutoStarted peer expected) = Unit {0}
+Fits (schedule.StormStarted peer seed) = Unit {0}
+Fits (schedule.TurnTaken peer) = Unit {0}
+Fits (schedule.RegionAccessed peer a) = FitsDoorbell a × HasWord a
+Fits (schedule.DeviceReset peer) = Unit {0}
+Fits (schedule.DeviceAccessed peer a) = IsPlaced a
+Fits (schedule.InterruptDropped peer) = Unit {0}
+Fits (schedule.InterruptRepeated peer vector) = Unit {0}
+
+-- the event can happen in the world: it is of one of its peers, and its numbers fit
+pub record CanHappen (world : World) (event : schedule.Event) : Type 0 where
+  pub peer : event_peer event < world.geometry.peers
+  pub fits : Fits event
+
+-- the act is one of the world's
+abbrev pub IsAct : World → Act → Type 0
+IsAct world act = (before : List Act) × IsAllowed world before act

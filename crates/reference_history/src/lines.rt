@@ -1,0 +1,17 @@
+//! The next line of a history.
+ghost use Rattle.std.specs.Prelude.{◌∷◌, ◌≤◌, Some, IfSome, List, length};
+ghost use Rattle.reference_history.specs.Reading.{Reads};
+
+use lawful_history::Line;
+
+/// Reads one line more: the number of lines that are read then, or None where another line stands there, or none.
+pub fn read_line(lines: &[Line], read: usize, line: &Line) -> Option<usize>
+    ensures reads { (past : List Line) → Reads lines.now past (Some read) → Reads lines.now (line.now ∷ past) result }
+    ensures within { IfSome result (λ at. at ≤ length lines.now) }
+{
+    if read < lines.len() && lines[read].same(line) {
+        Some(read + 1)
+    } else {
+        None
+    }
+}

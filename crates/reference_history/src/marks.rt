@@ -1,0 +1,178 @@
+//! The marks of sessions: which of them are due, and whether they stand there.
+ghost use Rattle.std.specs.Prelude.{◌≡◌, ◌↔◌, ◌≤◌, ◌||◌, if◌then◌else◌, IsTrue, MatchOption, [], reverse};
+ghost use Rattle.scenario_text.specs.Scenario.{is_link};
+ghost use Rattle.lawful_history.specs.Sides.{partner, world_of};
+ghost use Rattle.lawful_history.specs.Sessions.{writes_state, opened_in, is_interrupt, enters_run, session_mark, marks_before, is_session, without_sessions};
+ghost use Rattle.lawful_history.specs.Lawful.{IsLawful, IsLawfulIn};
+ghost use Rattle.reference_history.specs.Marks.{newest_mark, mark_seen, mark_of, Stands, AllStand};
+
+use lawful_history::{Line, versions_differ_in_marks};
+use scenario_text::Scenario;
+
+/// Is the line the mark of a session?
+fn is_session(line: &Line) -> bool
+    ensures { result ≡ is_session line.now }
+{
+    matches!(line, Line::Session { .. })
+}
+
+/// Is this an honest link peer?
+fn is_link(scenario: &Scenario, peer: u32) -> bool
+    ensures { result ≡ is_link (world_of scenario.now) peer }
+{
+    peer < 2 && scenario.honest.items()[peer as usize]
+}
+
+/// Is the line the peer's write of this state?
+fn writes_state(line: &Line, peer: u32, state: u32) -> bool
+    ensures { result ≡ writes_state peer state line.now }
+{
+    match line {
+        Line::State {
+            peer: writer,
+            value,
+        } => *writer == peer && *value == state,
+        _ => false,
+    }
+}
+
+/// How many sessions of the peer the line opens: 1 or none.
+fn opened_by(line: &Line, peer: u32) -> u64
+    ensures count { result ≡ (if writes_state peer 2 line.now then 1 else 0) }
+    ensures few { result ≤ 1 }
+{
+    if writes_state(line, peer, 2) { 1 } else { 0 }
+}
+
+/// How many sessions the peer opened in these lines.
+fn opened_in(lines: &[Line], peer: u32) -> u64
+    ensures { result ≡ opened_in (without_sessions (reverse lines.now)) peer }
+{
+    let mut count = 0;
+    for line in lines {
+        count += opened_by(line, peer);
+    }
+    count
+}
+
+/// Did an interrupt come by the line, or was one lost?
+fn is_interrupt(line: &Line) -> bool
+    ensures { result ≡ is_interrupt line.now }
+{
+    matches!(line, Line::Interrupt { .. } | Line::Lost { .. })
+}
+
+/// Does the peer enter RUN with the line, where before it the peer did or didn't? Interrupts and marks of sessions change nothing.
+fn enters_with(line: &Line, peer: u32, before: bool) -> bool
+    ensures { result ≡ (if is_interrupt line.now || is_session line.now then before else writes_state peer 3 line.now) }
+{
+    if is_interrupt(line) || is_session(line) {
+        before
+    } else {
+        writes_state(line, peer, 3)
+    }
+}
+
+/// Does the peer enter RUN with these lines: is the last of them its write of State 3, but for interrupts and marks of sessions?
+fn enters_run(lines: &[Line], peer: u32) -> bool
+    ensures { result ≡ enters_run (without_sessions (reverse lines.now)) peer }
+{
+    let mut enters = false;
+    for line in lines {
+        enters = enters_with(line, peer, enters);
+    }
+    enters
+}
+
+/// The peer whose mark is due between these lines and the next one.
+fn due_between(scenario: &Scenario, lines: &[Line], next: &Line) -> Option<u32>
+    ensures { let world = world_of scenario.now in
+        mark_of world (reverse lines.now) result ≡ marks_before world (without_sessions (reverse lines.now)) next.now }
+{
+    match next {
+        Line::Over { peer } if is_link(scenario, *peer) && enters_run(lines, *peer) => Some(*peer),
+        _ => None,
+    }
+}
+
+/// How many sessions the other link peer opened in these lines, and 0 where it isn't honest.
+fn opened_beside(scenario: &Scenario, lines: &[Line], peer: u32) -> u64
+    ensures { result ≡ (if is_link (world_of scenario.now) (partner peer) then opened_in (without_sessions (reverse lines.now)) (partner peer) else 0) }
+{
+    let other = if peer == 0 { 1 } else { 0 };
+    if is_link(scenario, other) {
+        opened_in(lines, other)
+    } else {
+        0
+    }
+}
+
+/// Is this the mark of the session that the peer enters after these lines?
+fn is_mark(scenario: &Scenario, lines: &[Line], peer: u32, mark: &Line) -> bool
+    ensures { IsTrue result ↔ session_mark (world_of scenario.now) (without_sessions (reverse lines.now)) peer ≡ mark.now }
+{
+    match mark {
+        Line::Session {
+            peer: marked,
+            opened,
+            other,
+        } => {
+            *marked == peer
+                && u64::from(*opened) == opened_in(lines, peer)
+                && u64::from(*other) == opened_beside(scenario, lines, peer)
+        }
+        _ => false,
+    }
+}
+
+/// The mark of a session that these lines end with.
+fn last_mark(lines: &[Line]) -> Option<&Line>
+    ensures { newest_mark (reverse lines.now) ≡ mark_seen result }
+{
+    let last = lines.last()?;
+    if is_session(last) { Some(last) } else { None }
+}
+
+/// Does the mark that is due between these lines and the next one stand there, and none where none is due?
+fn refines(scenario: &Scenario, lines: &[Line], next: &Line) -> bool
+    ensures { IsTrue result ↔ Stands (world_of scenario.now) (reverse lines.now) next.now }
+{
+    let due = due_between(scenario, lines, next);
+    match last_mark(lines) {
+        Some(mark) => match due {
+            Some(peer) => is_mark(scenario, lines, peer, mark),
+            None => false,
+        },
+        None => due.is_none(),
+    }
+}
+
+/// Do the marks of sessions stand where they are due, and nowhere else?
+fn marks_stand(scenario: &Scenario, lines: &[Line]) -> bool
+    ensures { IsTrue result ↔ AllStand (world_of scenario.now) [] lines.now }
+{
+    for at in 0..lines.len() {
+        if !refines(scenario, &lines[..at], &lines[at]) {
+            return false;
+        }
+    }
+    last_mark(lines).is_none()
+}
+
+/// The lines of the history that these lines tell: in version 1 the lines as they are, in version 2 those that are no marks of sessions.
+/// None where in version 2 a mark that is due doesn't stand in its place, or one stands elsewhere.
+pub fn without_marks(scenario: &Scenario, version: u32, lines: Vec<Line>) -> Option<Vec<Line>>
+    ensures { let world = world_of scenario.now in
+        MatchOption result (¬ IsLawfulIn world version lines.items) (λ history. IsLawful world history.items ↔ IsLawfulIn world version lines.items) }
+{
+    versions_differ_in_marks();
+    if version != 2 {
+        return Some(lines);
+    }
+    if !marks_stand(scenario, lines.as_slice()) {
+        return None;
+    }
+    let mut lines = lines;
+    lines.retain(|line| !is_session(line));
+    Some(lines)
+}

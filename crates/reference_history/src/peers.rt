@@ -1,0 +1,309 @@
+//! A peer in the middle of its schedule.
+ghost use Rattle.std.specs.Prelude.{◌≡◌, ℕ, ◌+◌, ◌*◌, ◌<◌, ◌≤◌, ◌-◌, ◌^◌, true, List, length, IfOk, OnOk};
+ghost use Rattle.call_grammar.specs.Automatic.{choice_of};
+ghost use Rattle.call_grammar.specs.Calls as laws;
+ghost use Rattle.call_grammar.specs.Calls.{tree_of};
+ghost use Rattle.call_grammar.specs.Places.{Closed, is_open, step_at, next_place, remaining};
+ghost use Rattle.reference_calls.specs.Seen.{config_seen, call_seen, mark_seen, marks_seen, step_seen};
+ghost use Rattle.reference_calls.specs.Begun.{place_of};
+ghost use Rattle.reference_calls.specs.Following.{IsStorable};
+ghost use Rattle.lawful_history.specs.Peers as history;
+ghost use Rattle.lawful_history.specs.Peers.{with_call, automated, stormed, was_reset, at_start, opened, chosen, counted, counted_all, driver_after, stepped};
+ghost use Rattle.reference_history.specs.Peers.{IsPeer, HasFew, round_seen, auto_seen, choice_seen, driver_seen};
+
+use call_grammar::places_follow_trees;
+use ivs_base::{Frame, NoMemory};
+use link_handshake::Phase;
+use reference_calls::{Call, End, EndConfig, Mark, OpenCall, Step};
+use std::alloc::Global;
+use std::mem::replace;
+
+/// What the call before tells of the round of an automatic peer.
+#[derive(Clone, Copy, Debug)]
+pub enum Round {
+    /// The round begins with the next call.
+    Anew,
+    /// The call was an Offer of the round.
+    AfterOffer,
+    /// The call was the Poll of the round.
+    AfterPoll,
+}
+
+/// What an automatic peer chooses: a call, or that it is finished.
+#[derive(Drop)]
+pub enum Choice {
+    /// A Tick.
+    Tick,
+    /// An Offer of this frame.
+    Offer(Frame),
+    /// A Poll.
+    Poll,
+    /// No call any more.
+    Finished,
+}
+
+/// An automatic peer.
+#[derive(Drop)]
+pub struct Auto {
+    /// Its frames that weren't accepted yet, in order.
+    pub frames: Vec<Frame>,
+    /// How many deliveries it expects.
+    pub expected: u64,
+    /// How many it had.
+    pub delivered: u64,
+    /// Where its round is.
+    pub round: Round,
+}
+
+/// Who chooses what a peer does.
+#[derive(Drop)]
+pub enum Driver {
+    /// The schedule: the peer waits for its calls.
+    Waits,
+    /// The rule of the automatic peer.
+    Chooses(Auto),
+    /// A storm, whose generator is at this number.
+    Storms(u64),
+}
+
+/// A peer.
+#[derive(Drop)]
+pub struct Peer {
+    /// Its end of the link.
+    pub end: End,
+    /// Its open call.
+    pub call: OpenCall,
+    /// The calls that wait, the oldest first.
+    pub waiting: Vec<Call>,
+    /// Its driver.
+    pub driver: Driver,
+}
+
+impl Auto {
+    /// Counts what a mark says.
+    fn count(&mut self, mark: &Mark)
+        requires { self.old.delivered < 2 ^ 64 - 1 }
+        ensures counted { auto_seen self.new ≡ counted (auto_seen self.old) (mark_seen mark.now) }
+        ensures few { self.new.delivered ≤ self.old.delivered + 1 }
+    {
+        match mark {
+            Mark::Accept(_) => {
+                if !self.frames.is_empty() {
+                    let _ = self.frames.remove(0);
+                }
+            }
+            Mark::Deliver(_) => self.delivered += 1,
+            Mark::Saw(_)
+            | Mark::Reclaim(_)
+            | Mark::Full
+            | Mark::Look(_)
+            | Mark::Return
+            | Mark::Done
+            | Mark::Down
+            | Mark::Refuse(_)
+            | Mark::Over => {}
+        }
+    }
+
+    /// Counts what these marks say.
+    fn count_all(&mut self, marks: &[Mark])
+        requires { self.old.delivered + length marks.now < 2 ^ 64 - 1 }
+        ensures counted { auto_seen self.new ≡ counted_all (auto_seen self.old) (marks_seen marks.now) }
+        ensures few { self.new.delivered ≤ self.old.delivered + length marks.now }
+    {
+        for mark in marks {
+            self.count(mark);
+        }
+    }
+
+    /// What the peer chooses in this phase.
+    fn choose(&self, alloc: Global, phase: Phase) -> Result<Choice, NoMemory>
+        ensures { IfOk result (λ choice. choice_seen choice ≡
+            choice_of phase (round_seen self.now.round) self.now.frames.items self.now.delivered self.now.expected) }
+    {
+        if self.frames.is_empty() && self.delivered >= self.expected {
+            return Ok(Choice::Finished);
+        }
+        if !matches!(phase, Phase::Run) {
+            return Ok(Choice::Tick);
+        }
+        match self.round {
+            Round::Anew => match self.frames.as_slice().first() {
+                Some(frame) => Ok(Choice::Offer(Frame::of(alloc, frame.bytes())?)),
+                None => Ok(Choice::Poll),
+            },
+            Round::AfterOffer => Ok(Choice::Poll),
+            Round::AfterPoll => Ok(Choice::Tick),
+        }
+    }
+}
+
+impl Peer {
+    /// A peer at its start.
+    pub fn at_start(alloc: Global) -> Peer
+        ensures { (config : laws.EndConfig) (most : ℕ) → IsPeer config most result at_start }
+    {
+        Peer {
+            end: End::fresh(alloc),
+            call: OpenCall::closed(alloc),
+            waiting: Vec::new(alloc),
+            driver: Driver::Waits,
+        }
+    }
+
+    /// A call was put after those that wait; but a frame for an automatic peer was put after its frames.
+    pub fn ask(&mut self, call: Call) -> Result<(), NoMemory>
+        ensures { OnOk result ((config : laws.EndConfig) (most : ℕ) (peer : history.Peer) → IsPeer config most self.old peer →
+            IsPeer config most self.new (with_call peer (call_seen call))) }
+    {
+        match (&mut self.driver, call) {
+            (Driver::Chooses(auto), Call::Offer(frame)) => auto.frames.push(frame)?,
+            (_, call) => self.waiting.push(call)?,
+        }
+        Ok(())
+    }
+
+    /// The peer chooses its calls from now on.
+    pub fn automate(&mut self, alloc: Global, expected: u64)
+        ensures { (config : laws.EndConfig) (most : ℕ) (peer : history.Peer) → IsPeer config most self.old peer → IsPeer config most self.new (automated peer expected) }
+    {
+        self.driver = Driver::Chooses(Auto {
+            frames: Vec::new(alloc),
+            expected,
+            delivered: 0,
+            round: Round::Anew,
+        });
+    }
+
+    /// The turns of the peer are a storm from now on.
+    pub fn storm(&mut self, seed: u64)
+        ensures { (config : laws.EndConfig) (most : ℕ) (peer : history.Peer) → IsPeer config most self.old peer → IsPeer config most self.new (stormed peer seed) }
+    {
+        self.driver = Driver::Storms(seed);
+    }
+
+    /// The device of the peer was reset: its open call is cut, and those that wait are dropped.
+    pub fn reset(&mut self, alloc: Global)
+        ensures { (config : laws.EndConfig) (most : ℕ) (peer : history.Peer) → IsPeer config most self.old peer → IsPeer config most self.new (was_reset peer) }
+    {
+        self.end.reset();
+        self.call = OpenCall::closed(alloc);
+        self.waiting = Vec::new(alloc);
+        if let Driver::Chooses(auto) = &mut self.driver {
+            auto.round = Round::Anew;
+        }
+    }
+
+    /// Opens a call.
+    fn begin(&mut self, alloc: Global, config: &EndConfig, call: &Call) -> Result<(), NoMemory>
+        ensures { OnOk result ((most : ℕ) (peer : history.Peer) → IsPeer (config_seen config.now) most self.old peer →
+            IsPeer (config_seen config.now) most self.new (record peer { left = tree_of (config_seen config.now) peer.end (call_seen call.now) })) }
+    {
+        places_follow_trees();
+        self.call = OpenCall::open(alloc, config, &self.end, call)?;
+        Ok(())
+    }
+
+    /// An automatic peer is here in its round from now on.
+    fn set_round(&mut self, round: Round)
+        ensures { (config : laws.EndConfig) (most : ℕ) (peer : history.Peer) (auto : history.Auto) → peer.driver ≡ history.Chooses auto →
+            IsPeer config most self.old peer → IsPeer config most self.new (record peer { driver = history.Chooses (record auto { round = round_seen round }) }) }
+    {
+        if let Driver::Chooses(auto) = &mut self.driver {
+            auto.round = round;
+        }
+    }
+
+    /// Opens a call of a round.
+    fn begin_in(
+        &mut self,
+        alloc: Global,
+        config: &EndConfig,
+        call: &Call,
+        round: Round,
+    ) -> Result<(), NoMemory>
+        ensures { let config = config_seen config.now in
+            OnOk result ((most : ℕ) (peer : history.Peer) (auto : history.Auto) → peer.driver ≡ history.Chooses auto →
+            IsPeer config most self.old peer → IsPeer config most self.new (record peer {
+              left = tree_of config peer.end (call_seen call.now);
+              driver = history.Chooses (record auto { round = round_seen round });
+            })) }
+    {
+        self.set_round(round);
+        self.begin(alloc, config, call)?;
+        Ok(())
+    }
+
+    /// Opens the call that an automatic peer chooses, if it chooses one.
+    fn choose(&mut self, alloc: Global, config: &EndConfig) -> Result<(), NoMemory>
+        ensures { let config = config_seen config.now in
+            OnOk result ((most : ℕ) (peer : history.Peer) → IsPeer config most self.old peer →
+            IsPeer config most self.new (chosen config peer peer.driver)) }
+    {
+        let phase = self.end.handshake.phase();
+        let choice = match &self.driver {
+            Driver::Chooses(auto) => auto.choose(alloc, phase)?,
+            Driver::Waits | Driver::Storms(_) => return Ok(()),
+        };
+        match choice {
+            Choice::Tick => self.begin_in(alloc, config, &Call::Tick, Round::Anew)?,
+            Choice::Offer(frame) => {
+                self.begin_in(alloc, config, &Call::Offer(frame), Round::AfterOffer)?
+            }
+            Choice::Poll => self.begin_in(alloc, config, &Call::Poll, Round::AfterPoll)?,
+            Choice::Finished => {}
+        }
+        Ok(())
+    }
+
+    /// Opens the call that comes next where none is open: the oldest that waits, else the one that an automatic peer chooses.
+    pub fn open_next(&mut self, alloc: Global, config: &EndConfig) -> Result<(), NoMemory>
+        ensures { let config = config_seen config.now in
+            OnOk result ((most : ℕ) (peer : history.Peer) → IsPeer config most self.old peer → IsPeer config most self.new (opened config peer)) }
+    {
+        if self.call.is_open() {
+            return Ok(());
+        }
+        if self.waiting.as_slice().is_empty() {
+            self.choose(alloc, config)?;
+            return Ok(());
+        }
+        let call = self.waiting.remove(0);
+        self.begin(alloc, config, &call)?;
+        Ok(())
+    }
+
+    /// Counts for an automatic peer what is marked on its step.
+    fn count(&mut self, marks: &[Mark])
+        requires { (most : ℕ) × HasFew most self.old.driver × (most + length marks.now < 2 ^ 64 - 1) }
+        ensures counted { driver_seen self.new.driver ≡ driver_after (driver_seen self.old.driver) (marks_seen marks.now) }
+        ensures few { (most : ℕ) → HasFew most self.old.driver → HasFew (most + length marks.now) self.new.driver }
+        ensures kept { (self.new.end ≡ self.old.end) × (self.new.call ≡ self.old.call) × (self.new.waiting ≡ self.old.waiting) }
+    {
+        if let Driver::Chooses(auto) = &mut self.driver {
+            auto.count_all(marks);
+        }
+    }
+
+    /// The peer takes the next step of its open call.
+    pub fn follow(
+        &mut self,
+        alloc: Global,
+        config: &EndConfig,
+        step: &Step,
+        met: u32,
+    ) -> Result<(), NoMemory>
+        requires next { step_seen step.now ≡ step_at (config_seen config.now) (place_of self.old.call) met }
+        requires storable { IsStorable (step_seen step.now).access }
+        requires few { (most : ℕ) × (peer : history.Peer) × IsPeer (config_seen config.now) most self.old peer × (most + 2 < 2 ^ 32) }
+        ensures { let config = config_seen config.now in
+            OnOk result ((most : ℕ) (peer : history.Peer) → IsPeer config most self.old peer →
+            IsPeer config (most + 2) self.new (stepped peer (step_seen step.now) (remaining config (next_place config (place_of self.old.call) met)))) }
+    {
+        self.end.follow(step)?;
+        self.count(step.marks.as_slice());
+        let call = replace(&mut self.call, OpenCall::closed(alloc));
+        self.call = call.after(alloc, config, met)?;
+        Ok(())
+    }
+}

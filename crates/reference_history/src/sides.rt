@@ -1,0 +1,38 @@
+//! A peer and its partner.
+ghost use Rattle.std.specs.Prelude.{◌≡◌, ◌<◌, ◌^◌};
+ghost use Rattle.reference_calls.specs.Seen.{config_seen};
+ghost use Rattle.lawful_history.specs.Sides.{traffic_vector, world_of, config_of, partner};
+
+use pci_space::Wiring;
+use reference_calls::EndConfig;
+use scenario_text::Scenario;
+
+/// The vector of the doorbells of offers and polls.
+fn traffic_vector(wiring: Wiring) -> u32
+    ensures vector { result ≡ traffic_vector wiring }
+    ensures small { result < 2 ^ 16 }
+{
+    match wiring {
+        Wiring::Msix(vectors) if vectors >= 2 => 1,
+        _ => 0,
+    }
+}
+
+/// The peer, as the calls see it.
+pub fn config_of(scenario: &Scenario, me: u32) -> EndConfig
+    requires { me < scenario.now.geometry.peers }
+    ensures config { config_seen result ≡ config_of (world_of scenario.now) me }
+    ensures small { (result.other < 2 ^ 16) × (result.vector < 2 ^ 16) }
+{
+    let other = if me == 0 { 1 } else { 0 };
+    let geometry = &scenario.geometry;
+    EndConfig {
+        me,
+        other,
+        own: geometry.section_start(me),
+        theirs: geometry.section_start(other),
+        words: geometry.out_words(),
+        queue: scenario.queue,
+        vector: traffic_vector(scenario.wiring),
+    }
+}

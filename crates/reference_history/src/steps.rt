@@ -1,0 +1,155 @@
+//! The lines of a step: its access, the interrupts that this brings, and its marks.
+ghost use Rattle.std.specs.Prelude.{◌≡◌, ◌↔◌, ℕ, ◌<◌, ◌∷◌, [], ◌++◌, ◌≤◌, IsTrue, Some, IfSome, OnSome, List, length, map, reverse};
+ghost use Rattle.reference_calls.specs.Seen.{access_seen, mark_seen, marks_seen, step_seen};
+ghost use Rattle.reference_calls.specs.Following.{IsStorable};
+ghost use Rattle.lawful_history.specs.EventRecords.{access_lines, mark_line, step_lines};
+ghost use Rattle.lawful_history.specs.Device.{step_interrupts};
+ghost use Rattle.lawful_history.specs.Sides.{world_of};
+ghost use Rattle.reference_history.specs.Reading.{Reads, HasLosses, Meets};
+ghost use Rattle.reference_history.specs.DeviceEvents.{AllFitDevices, FitsDoorbell};
+
+use crate::devices::interrupted_by;
+use crate::interrupts::read_arrivals;
+use crate::memory::last_write;
+use lawful_history::Line;
+use reference_calls::{Access, Mark, Step};
+use scenario_text::Scenario;
+
+/// Is this the line of the access, which met this value?
+fn is_told(me: u32, access: Access, met: u32, line: &Line) -> bool
+    ensures told { IsTrue result ↔ access_lines me (access_seen access) met ≡ line.now ∷ [] }
+    ensures storable { IsTrue result → IsStorable (access_seen access) }
+{
+    match access {
+        Access::Read(at) => match line {
+            Line::Read { peer, word, value } => {
+                *peer == me && u64::from(*word) == at && *value == met
+            }
+            _ => false,
+        },
+        Access::Write(at, written) => match line {
+            Line::Write { peer, word, value } => {
+                *peer == me && u64::from(*word) == at && u64::from(*value) == written
+            }
+            _ => false,
+        },
+        Access::State(state) => match line {
+            Line::State { peer, value } => *peer == me && *value == state,
+            _ => false,
+        },
+        Access::Ring { target, vector } => match line {
+            Line::Doorbell {
+                peer,
+                target: rung,
+                vector: by,
+            } => *peer == me && *rung == target && *by == vector,
+            _ => false,
+        },
+        Access::Nothing => false,
+    }
+}
+
+/// Reads the line of an access, which met this value.
+fn read_access(me: u32, access: Access, met: u32, lines: &[Line], read: usize) -> Option<usize>
+    ensures reads { (past : List Line) → Reads lines.now past (Some read) →
+        Reads lines.now (reverse (access_lines me (access_seen access) met) ++ past) result }
+    ensures within { IfSome result (λ at. read ≤ length lines.now → at ≤ length lines.now) }
+    ensures storable { OnSome result (IsStorable (access_seen access)) }
+{
+    if access == Access::Nothing {
+        return Some(read);
+    }
+    if read < lines.len() && is_told(me, access, met, &lines[read]) {
+        Some(read + 1)
+    } else {
+        None
+    }
+}
+
+/// Is this the line of the mark?
+fn is_marked(me: u32, mark: &Mark, line: &Line) -> bool
+    ensures { IsTrue result ↔ mark_line me (mark_seen mark.now) ≡ line.now }
+{
+    match line {
+        Line::Saw { peer, value } => *peer == me && mark.is(&Mark::Saw(*value)),
+        Line::Reclaim { peer, count } => *peer == me && mark.is(&Mark::Reclaim(u64::from(*count))),
+        Line::Full { peer } => *peer == me && mark.is(&Mark::Full),
+        Line::Look { peer, count } => *peer == me && mark.is(&Mark::Look(u64::from(*count))),
+        Line::Return { peer } => *peer == me && mark.is(&Mark::Return),
+        Line::Done { peer } => *peer == me && mark.is(&Mark::Done),
+        Line::Down { peer } => *peer == me && mark.is(&Mark::Down),
+        Line::Over { peer } => *peer == me && mark.is(&Mark::Over),
+        Line::Accept { peer, frame } => match mark {
+            Mark::Accept(accepted) => *peer == me && frame == accepted,
+            _ => false,
+        },
+        Line::Deliver { peer, frame } => match mark {
+            Mark::Deliver(delivered) => *peer == me && frame == delivered,
+            _ => false,
+        },
+        Line::Refuse { peer, refused } => { *peer == me && mark.is(&Mark::Refuse(*refused)) }
+        _ => false,
+    }
+}
+
+/// Reads the line of a mark.
+fn read_mark(me: u32, mark: &Mark, lines: &[Line], read: usize) -> Option<usize>
+    ensures { (past : List Line) → Reads lines.now past (Some read) → Reads lines.now (mark_line me (mark_seen mark.now) ∷ past) result }
+{
+    if read < lines.len() && is_marked(me, mark, &lines[read]) {
+        Some(read + 1)
+    } else {
+        None
+    }
+}
+
+/// Reads the lines of marks.
+fn read_marks(me: u32, marks: &[Mark], lines: &[Line], read: usize) -> Option<usize>
+    ensures { (past : List Line) → Reads lines.now past (Some read) → Reads lines.now (reverse (map (mark_line me) (marks_seen marks.now)) ++ past) result }
+{
+    let mut at = read;
+    for mark in marks {
+        let Some(next) = read_mark(me, mark, lines, at) else {
+            return None;
+        };
+        at = next;
+    }
+    Some(at)
+}
+
+/// What an access meets after these lines: what a word holds that is read, else 0.
+pub fn met_by(access: Access, lines: &[Line]) -> u32
+    ensures { Meets (reverse lines.now) (access_seen access) result }
+{
+    match access {
+        Access::Read(word) => last_write(lines, word),
+        Access::Write(..) | Access::State(_) | Access::Ring { .. } | Access::Nothing => 0,
+    }
+}
+
+/// Reads the lines of a step.
+pub fn read_step(
+    scenario: &Scenario,
+    losses: &[u64; 8],
+    me: u32,
+    step: &Step,
+    lines: &[Line],
+    read: usize,
+) -> Option<usize>
+    requires peer { me < scenario.now.geometry.peers }
+    requires fits { FitsDoorbell (access_seen step.now.access) }
+    requires told { (past : List Line) × Reads lines.now past (Some read) × AllFitDevices scenario.now.geometry.peers past }
+    ensures reads { (past : List Line) (lost : ℕ → ℕ) → Reads lines.now past (Some read) → HasLosses losses.now lost →
+        Reads lines.now (reverse (step_lines me (step_seen step.now)
+        (step_interrupts (world_of scenario.now) past lost me (Some (step_seen step.now)))) ++ past) result }
+    ensures storable { OnSome result (IsStorable (access_seen step.now.access)) }
+{
+    let Some(at) = read_access(me, step.access, step.value, lines, read) else {
+        return None;
+    };
+    let deliveries = interrupted_by(scenario, me, step.access, &lines[..read]);
+    let Some(at) = read_arrivals(losses, lines, at, deliveries.as_slice()) else {
+        return None;
+    };
+    read_marks(me, step.marks.as_slice(), lines, at)
+}

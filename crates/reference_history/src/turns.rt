@@ -1,0 +1,290 @@
+//! The lines of an event of a peer, and where the peer is after it.
+ghost use Rattle.std.specs.Prelude.{◌≡◌, ℕ, ◌+◌, ◌<◌, ◌≤◌, ◌^◌, ◌∷◌, ◌++◌, true, Some, IfOk, List, length, reverse};
+ghost use Rattle.lawful_history.specs.declared.line.Line.TheVariants.{Reset};
+ghost use Rattle.call_grammar.specs.Calls as laws;
+ghost use Rattle.call_grammar.specs.Places.{is_open};
+ghost use Rattle.reference_calls.specs.Begun.{place_of};
+ghost use Rattle.reference_calls.specs.Seen.{config_seen, access_seen};
+ghost use Rattle.lawful_history.specs.Schedule.{event_peer};
+ghost use Rattle.lawful_history.specs.Sides.{world_of, config_of};
+ghost use Rattle.lawful_history.specs.EventRecords.{turn_lines, region_access_lines};
+ghost use Rattle.lawful_history.specs.Peers as history;
+ghost use Rattle.lawful_history.specs.Device.{arrivals, step_interrupts, device_access_line};
+ghost use Rattle.lawful_history.specs.History.{driven_step, driven, step_by, moved, turn_step, turned, acted_step};
+ghost use Rattle.reference_history.specs.Reading.{Reads, HasLosses};
+ghost use Rattle.reference_history.specs.DeviceEvents.{AllFitDevices, FitsDoorbell};
+ghost use Rattle.reference_history.specs.Peers.{IsPeer};
+ghost use Rattle.reference_history.specs.Events.{event_seen, device_access_seen, HasWord, IsPlaced, IsDenied, CanHappen};
+ghost use Rattle.reference_history.specs.Moments.{GoesTo, GoesBy};
+
+use crate::devices::{devices_after, interrupted_by_reset};
+use crate::events::{DeviceAccess, Event};
+use crate::interrupts::read_arrivals;
+use crate::lines::read_line;
+use crate::peers::{Driver, Peer};
+use crate::sides::config_of;
+use crate::steps::{met_by, read_step};
+use crate::storms::{storm_after, storm_step};
+use call_grammar::places_follow_trees;
+use ivs_base::NoMemory;
+use lawful_history::Line;
+use reference_calls::{Access, EndConfig, Step};
+use scenario_text::Scenario;
+use std::alloc::Global;
+
+/// Reads the lines of the next step of the open call.
+fn read_call(
+    alloc: Global,
+    scenario: &Scenario,
+    losses: &[u64; 8],
+    me: u32,
+    config: &EndConfig,
+    peer: &mut Peer,
+    lines: &[Line],
+    read: usize,
+) -> Result<Option<usize>, NoMemory>
+    requires there { me < scenario.now.geometry.peers }
+    requires fits { (config.now.other < 2 ^ 16) × (config.now.vector < 2 ^ 16) }
+    requires open { is_open (place_of peer.old.call) ≡ true }
+    requires few { (most : ℕ) × (it : history.Peer) × IsPeer (config_seen config.now) most peer.old it × (most + 2 < 2 ^ 32) }
+    requires told { (past : List Line) × Reads lines.now past (Some read) × AllFitDevices scenario.now.geometry.peers past }
+    ensures { let world = world_of scenario.now in
+        IfOk result (λ at. (past : List Line) (lost : ℕ → ℕ) (most : ℕ) (it : history.Peer) → Reads lines.now past (Some read) →
+        AllFitDevices world.geometry.peers past → HasLosses losses.now lost →
+        IsPeer (config_seen config.now) most peer.old it → let step = step_by world me it.driver it.left past in
+        GoesTo world lines.now (reverse (turn_lines me step (step_interrupts world past lost me step)) ++ past)
+        (config_seen config.now) (most + 2) (moved it past) peer.new at) }
+{
+    places_follow_trees();
+    let met = met_by(peer.call.access(config), &lines[..read]);
+    let step = peer.call.step(alloc, config, met)?;
+    let Some(at) = read_step(scenario, losses, me, &step, lines, read) else {
+        return Ok(None);
+    };
+    peer.follow(alloc, config, &step, met)?;
+    Ok(Some(at))
+}
+
+/// Reads the lines of a turn without an open call: a step of a storm, or that the peer is idle.
+fn read_driver(
+    alloc: Global,
+    scenario: &Scenario,
+    losses: &[u64; 8],
+    me: u32,
+    peer: &mut Peer,
+    lines: &[Line],
+    read: usize,
+) -> Option<usize>
+    requires there { me < scenario.now.geometry.peers }
+    requires told { (past : List Line) × Reads lines.now past (Some read) × AllFitDevices scenario.now.geometry.peers past }
+    ensures { let world = world_of scenario.now in
+        (past : List Line) (lost : ℕ → ℕ) (config : laws.EndConfig) (most : ℕ) (it : history.Peer) → Reads lines.now past (Some read) →
+        AllFitDevices world.geometry.peers past → HasLosses losses.now lost → IsPeer config most peer.old it → let step = driven_step world me it.driver in
+        GoesTo world lines.now (reverse (turn_lines me step (step_interrupts world past lost me step)) ++ past)
+        config most (driven it it.driver) peer.new result }
+{
+    match &mut peer.driver {
+        Driver::Storms(x) => {
+            let step = storm_step(alloc, scenario, me, *x);
+            *x = storm_after(*x);
+            read_step(scenario, losses, me, &step, lines, read)
+        }
+        Driver::Waits | Driver::Chooses(_) => read_line(lines, read, &Line::Idle { peer: me }),
+    }
+}
+
+/// Reads the lines of a turn.
+fn read_turn(
+    alloc: Global,
+    scenario: &Scenario,
+    losses: &[u64; 8],
+    me: u32,
+    peer: &mut Peer,
+    lines: &[Line],
+    read: usize,
+) -> Result<Option<usize>, NoMemory>
+    requires there { me < scenario.now.geometry.peers }
+    requires few { (most : ℕ) × (it : history.Peer) × IsPeer (config_of (world_of scenario.now) me) most peer.old it × (most + 2 < 2 ^ 32) }
+    requires told { (past : List Line) × Reads lines.now past (Some read) × AllFitDevices scenario.now.geometry.peers past }
+    ensures { let world = world_of scenario.now in
+        IfOk result (λ at. (past : List Line) (lost : ℕ → ℕ) (most : ℕ) (it : history.Peer) → Reads lines.now past (Some read) →
+        AllFitDevices world.geometry.peers past → HasLosses losses.now lost → IsPeer (config_of world me) most peer.old it → let step = turn_step world me it past in
+        GoesTo world lines.now (reverse (turn_lines me step (step_interrupts world past lost me step)) ++ past)
+        (config_of world me) (most + 2) (turned world me it past) peer.new at) }
+{
+    let config = config_of(scenario, me);
+    peer.open_next(alloc, &config)?;
+    if peer.call.is_open() {
+        let at = read_call(alloc, scenario, losses, me, &config, peer, lines, read)?;
+        return Ok(at);
+    }
+    Ok(read_driver(alloc, scenario, losses, me, peer, lines, read))
+}
+
+/// The word of an access that is denied to the peer: one that it writes and may not.
+fn denied_word(scenario: &Scenario, me: u32, access: Access) -> Option<u32>
+    requires there { me < scenario.now.geometry.peers }
+    requires fits { HasWord (access_seen access) }
+    ensures { IsDenied (world_of scenario.now) me (access_seen access) result }
+{
+    match access {
+        Access::Write(word, _) => {
+            let word = word as u32;
+            if scenario.geometry.may_write(me, word) {
+                None
+            } else {
+                Some(word)
+            }
+        }
+        Access::Read(_) | Access::State(_) | Access::Ring { .. } | Access::Nothing => None,
+    }
+}
+
+/// Reads the lines of an access of the peer's own accord. A forbidden write is denied.
+fn read_access_of(
+    alloc: Global,
+    scenario: &Scenario,
+    losses: &[u64; 8],
+    me: u32,
+    access: Access,
+    lines: &[Line],
+    read: usize,
+) -> Option<usize>
+    requires there { me < scenario.now.geometry.peers }
+    requires fits { FitsDoorbell (access_seen access) × HasWord (access_seen access) }
+    requires told { (past : List Line) × Reads lines.now past (Some read) × AllFitDevices scenario.now.geometry.peers past }
+    ensures { let world = world_of scenario.now in let a = access_seen access in
+        (past : List Line) (lost : ℕ → ℕ) → Reads lines.now past (Some read) → HasLosses losses.now lost →
+        let step = acted_step world me a past in
+        Reads lines.now (reverse (region_access_lines me a step (step_interrupts world past lost me step)) ++ past) result }
+{
+    if let Some(word) = denied_word(scenario, me, access) {
+        return read_line(lines, read, &Line::Denied { peer: me, word });
+    }
+    let step = Step {
+        access,
+        value: met_by(access, &lines[..read]),
+        marks: Vec::new(alloc),
+    };
+    read_step(scenario, losses, me, &step, lines, read)
+}
+
+/// Reads the lines of a device reset.
+fn read_reset(
+    scenario: &Scenario,
+    losses: &[u64; 8],
+    me: u32,
+    lines: &[Line],
+    read: usize,
+) -> Option<usize>
+    requires there { me < scenario.now.geometry.peers }
+    requires told { (past : List Line) × Reads lines.now past (Some read) × AllFitDevices scenario.now.geometry.peers past }
+    ensures { let world = world_of scenario.now in
+        (past : List Line) (lost : ℕ → ℕ) → Reads lines.now past (Some read) → HasLosses losses.now lost →
+        Reads lines.now (reverse (Reset me ∷ arrivals world past lost (Reset me)) ++ past) result }
+{
+    let Some(at) = read_line(lines, read, &Line::Reset { peer: me }) else {
+        return None;
+    };
+    let deliveries = interrupted_by_reset(scenario, me, &lines[..read]);
+    read_arrivals(losses, lines, at, deliveries.as_slice())
+}
+
+/// The line of an access to the device after these lines.
+fn reached_line(scenario: &Scenario, me: u32, access: DeviceAccess, lines: &[Line]) -> Line
+    requires there { me < scenario.now.geometry.peers }
+    requires placed { IsPlaced (device_access_seen access) }
+    requires told { AllFitDevices scenario.now.geometry.peers (reverse lines.now) }
+    ensures { result ≡ device_access_line (world_of scenario.now) (reverse lines.now) me (device_access_seen access) }
+{
+    let device = devices_after(scenario, lines);
+    match access {
+        DeviceAccess::ReadsConfig { offset, width } => Line::ConfigRead {
+            peer: me,
+            offset: u32::from(offset),
+            width: u32::from(width),
+            value: match device.config_read(me, offset, width) {
+                Ok(value) => value,
+                Err(_) => unreachable!(),
+            },
+        },
+        DeviceAccess::WritesConfig {
+            offset,
+            width,
+            value,
+        } => Line::ConfigWrite {
+            peer: me,
+            offset: u32::from(offset),
+            width: u32::from(width),
+            value,
+        },
+        DeviceAccess::ReadsRegister { offset } => Line::RegisterRead {
+            peer: me,
+            offset,
+            value: device.register_read(me, offset),
+        },
+        DeviceAccess::WritesRegister { offset, value } => Line::RegisterWrite {
+            peer: me,
+            offset,
+            value,
+        },
+        DeviceAccess::ReadsMsix { offset } => Line::MsixRead {
+            peer: me,
+            offset,
+            value: device.msix_read(me, offset),
+        },
+        DeviceAccess::WritesMsix { offset, value } => Line::MsixWrite {
+            peer: me,
+            offset,
+            value,
+        },
+    }
+}
+
+/// Reads the lines of an event.
+pub fn read_event(
+    alloc: Global,
+    scenario: &Scenario,
+    losses: &[u64; 8],
+    peer: &mut Peer,
+    event: Event,
+    lines: &[Line],
+    read: usize,
+) -> Result<Option<usize>, NoMemory>
+    requires can { CanHappen (world_of scenario.now) (event_seen event) }
+    requires few { (most : ℕ) × (it : history.Peer) ×
+        IsPeer (config_of (world_of scenario.now) (event_peer (event_seen event))) most peer.old it × (most + 2 < 2 ^ 32) }
+    requires told { (past : List Line) × Reads lines.now past (Some read) × AllFitDevices scenario.now.geometry.peers past }
+    ensures { IfOk result (λ at. GoesBy (world_of scenario.now) lines.now losses.now (event_seen event) read peer.old peer.new at) }
+{
+    match event {
+        Event::Asked { call, .. } => {
+            peer.ask(call)?;
+            Ok(Some(read))
+        }
+        Event::Automated { expected, .. } => {
+            peer.automate(alloc, expected);
+            Ok(Some(read))
+        }
+        Event::Stormed { seed, .. } => {
+            peer.storm(seed);
+            Ok(Some(read))
+        }
+        Event::Turned { peer: me } => read_turn(alloc, scenario, losses, me, peer, lines, read),
+        Event::Acted { peer: me, access } => {
+            Ok(read_access_of(alloc, scenario, losses, me, access, lines, read))
+        }
+        Event::WasReset { peer: me } => {
+            peer.reset(alloc);
+            Ok(read_reset(scenario, losses, me, lines, read))
+        }
+        Event::Reached { peer: me, access } => {
+            let line = reached_line(scenario, me, access, &lines[..read]);
+            Ok(read_line(lines, read, &line))
+        }
+        Event::Loses { .. } => Ok(Some(read)),
+        Event::Repeated { peer: me, vector } => {
+            Ok(read_line(lines, read, &Line::Interrupt { peer: me, vector }))
+        }
+    }
+}

@@ -1,0 +1,34 @@
+-- What the fields of a receiver are.
+use Rattle.std.specs.Prelude.{ℕ, ◌≡◌, ◌+◌, ◌*◌, ◌^◌, ◌≤◌, min, length, take}
+use Rattle.split_ring.specs.Layout.{Sizes, IsQueue, HasBounds, data_area_len}
+use Rattle.rx_engine.specs.Receiver.{Receiver, words_read, IsReached}
+use Rattle.rx_engine.specs.declared.receiver.Rx.TheInside.{Inside}
+
+-- the bytes of the longest frame that the checks let pass: 65,553, and no more than the data area has
+abbrev pub longest_frame : Sizes → ℕ
+longest_frame q = min 65553 (data_area_len q)
+
+abbrev pub seen : Inside → Receiver
+seen a = record {
+  sizes = a.queue;
+  own = a.own;
+  theirs = a.theirs;
+  target = a.target;
+  vector = a.vector;
+  returned = a.returned;
+  found_none = a.found_none;
+  place = a.place;
+  frame = take a.delivered a.last.items;
+  gathered = take (4 * words_read a.place) a.buffer.items;
+}
+
+-- the sections end at or before byte 2^24 of the region, both buffers have room for the longest frame, and the place is one that was reached by the checks
+pub record IsWellFormed (a : Inside) : Type 0 where
+  pub queue : IsQueue a.queue
+  pub bounds : HasBounds a.queue
+  pub own : 4 * a.own + a.queue.out ≤ 2 ^ 24
+  pub theirs : 4 * a.theirs + a.queue.out ≤ 2 ^ 24
+  pub room : length a.buffer.items ≡ longest_frame a.queue
+  pub last : length a.last.items ≡ longest_frame a.queue
+  pub frame : a.delivered ≤ length a.last.items
+  pub place : IsReached a.queue a.place

@@ -1,9 +1,0 @@
-use Rattle.std.proofs.Common.{ℕ, ◌+◌, ◌≤◌, List, ◌++◌, replicate, length}
-use Rattle.port_text.specs.Scenario.{World}
-use Rattle.sampling_port.specs.Schedule.{Event, Turned}
-use Rattle.sampling_port.specs.Stage.{IsThere, RunsTo}
-use Rattle.sampling_port.proofs.stage.Stage.turns.Given as goal
-
-abbrev pub invariant-loop-k : goal.invariant-loop-k
-invariant-loop-k l = (world : World) (front : List ℕ) (events : List Event) → IsThere world (Turned l.peer) → length events + l.steps ≤ 4000000 → RunsTo world front events l.initial.self →
-    RunsTo world front (events ++ replicate l._k (Turned l.peer)) l.self

@@ -1,0 +1,25 @@
+-- What the fields of a port are.
+use Rattle.std.specs.Prelude.{◌≡◌, ◌≤◌, take, vec_len}
+use Rattle.sampling_port.specs.Views.{PortView, IsPort}
+use Rattle.sampling_port.specs.declared.port.Port.TheInside.{Inside}
+
+-- the message in hand and the message got last are the first bytes of their buffers
+abbrev pub seen : Inside → PortView
+seen a = record {
+  shape = a.geometry;
+  me = a.me;
+  most = a.most;
+  published = a.published;
+  lasts = a.lasts;
+  place = a.place;
+  hand = take a.filled a.hand.items;
+  message = take a.received a.message.items;
+}
+
+-- both buffers hold the longest message
+pub record IsWellFormed (a : Inside) : Type 0 where
+  pub port : IsPort (seen a)
+  pub hand : vec_len a.hand ≡ a.most
+  pub message : vec_len a.message ≡ a.most
+  pub filled : a.filled ≤ a.most
+  pub received : a.received ≤ a.most

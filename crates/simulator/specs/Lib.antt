@@ -1,0 +1,4 @@
+pub mod Log
+pub mod WorldState
+pub mod PeerStates
+pub mod Simulator

@@ -1,0 +1,143 @@
+//! What a peer does to its device by hand: the configuration space, the register page and the MSI-X region; interrupts that are
+//! repeated, and interrupts that are to be lost.
+ghost use Rattle.std.specs.Prelude.{◌≡◌, ℕ, ◌<◌, ◌-◌, ◌^◌, List, ◌∷◌, true, OnOk, slice_index};
+ghost use Rattle.pci_space.specs.Fields.{is_access};
+ghost use Rattle.scenario_text.specs.Scenario.{World};
+ghost use Rattle.lawful_history.specs.declared.line.Line.TheVariants.{Interrupt};
+ghost use Rattle.lawful_history.specs.Schedule.{InterruptDropped, ReadsConfig, WritesConfig, ReadsRegister, WritesRegister, ReadsMsix, WritesMsix};
+ghost use Rattle.lawful_history.specs.Device.{device_access_line, losses_with};
+ghost use Rattle.simulator.specs.Log.{Output};
+ghost use Rattle.simulator.specs.WorldState.{WorldStateAfter, HasPeer};
+
+use crate::world_state::WorldState;
+use ivs_base::NoMemory;
+use lawful_history::Line;
+
+impl WorldState {
+    /// A peer reads its configuration space.
+    pub fn read_config(&mut self, me: u32, offset: u16, width: u16) -> Result<(), NoMemory>
+        requires seated { HasPeer self.old me }
+        requires access { is_access 256 offset width ≡ true }
+        ensures after { (world : World) (output : Output) (past : List Line) (losses : ℕ → ℕ) → WorldStateAfter world output past losses self.old →
+            OnOk result (WorldStateAfter world output (device_access_line world past me (ReadsConfig offset width) ∷ past) losses self.new) }
+        ensures seated { (q : ℕ) → HasPeer self.old q → HasPeer self.new q }
+    {
+        match self.device.config_read(me, offset, width) {
+            Ok(value) => {
+                self.log.push(Line::ConfigRead {
+                    peer: me,
+                    offset: offset as u32,
+                    width: width as u32,
+                    value,
+                })
+            }
+            Err(_) => unreachable!(),
+        }
+    }
+
+    /// A peer writes its configuration space.
+    pub fn write_config(
+        &mut self,
+        me: u32,
+        offset: u16,
+        width: u16,
+        value: u32,
+    ) -> Result<(), NoMemory>
+        requires seated { HasPeer self.old me }
+        requires access { is_access 256 offset width ≡ true }
+        ensures after { (world : World) (output : Output) (past : List Line) (losses : ℕ → ℕ) → WorldStateAfter world output past losses self.old →
+            OnOk result (WorldStateAfter world output (device_access_line world past me (WritesConfig offset width value) ∷ past) losses self.new) }
+        ensures seated { (q : ℕ) → HasPeer self.old q → HasPeer self.new q }
+    {
+        match self.device.config_write(me, offset, width, value) {
+            Ok(()) => {
+                self.log.push(Line::ConfigWrite {
+                    peer: me,
+                    offset: offset as u32,
+                    width: width as u32,
+                    value,
+                })
+            }
+            Err(_) => unreachable!(),
+        }
+    }
+
+    /// A peer reads a register.
+    pub fn read_register(&mut self, me: u32, offset: u32) -> Result<(), NoMemory>
+        requires { HasPeer self.old me }
+        ensures after { (world : World) (output : Output) (past : List Line) (losses : ℕ → ℕ) → WorldStateAfter world output past losses self.old →
+            OnOk result (WorldStateAfter world output (device_access_line world past me (ReadsRegister offset) ∷ past) losses self.new) }
+        ensures seated { (q : ℕ) → HasPeer self.old q → HasPeer self.new q }
+    {
+        let value = self.device.register_read(me, offset);
+        self.log.push(Line::RegisterRead {
+            peer: me,
+            offset,
+            value,
+        })
+    }
+
+    /// A peer writes a register that is neither State nor the Doorbell, so that nobody is interrupted.
+    pub fn write_register(&mut self, me: u32, offset: u32, value: u32) -> Result<(), NoMemory>
+        requires { HasPeer self.old me }
+        ensures after { (world : World) (output : Output) (past : List Line) (losses : ℕ → ℕ) → WorldStateAfter world output past losses self.old →
+            OnOk result (WorldStateAfter world output (device_access_line world past me (WritesRegister offset value) ∷ past) losses self.new) }
+        ensures seated { (q : ℕ) → HasPeer self.old q → HasPeer self.new q }
+    {
+        let _ = self.device.register_write(me, offset, value);
+        self.log.push(Line::RegisterWrite {
+            peer: me,
+            offset,
+            value,
+        })
+    }
+
+    /// A peer reads its MSI-X region.
+    pub fn read_msix(&mut self, me: u32, offset: u32) -> Result<(), NoMemory>
+        requires { HasPeer self.old me }
+        ensures after { (world : World) (output : Output) (past : List Line) (losses : ℕ → ℕ) → WorldStateAfter world output past losses self.old →
+            OnOk result (WorldStateAfter world output (device_access_line world past me (ReadsMsix offset) ∷ past) losses self.new) }
+        ensures seated { (q : ℕ) → HasPeer self.old q → HasPeer self.new q }
+    {
+        let value = self.device.msix_read(me, offset);
+        self.log.push(Line::MsixRead {
+            peer: me,
+            offset,
+            value,
+        })
+    }
+
+    /// A peer writes its MSI-X region.
+    pub fn write_msix(&mut self, me: u32, offset: u32, value: u32) -> Result<(), NoMemory>
+        requires { HasPeer self.old me }
+        ensures after { (world : World) (output : Output) (past : List Line) (losses : ℕ → ℕ) → WorldStateAfter world output past losses self.old →
+            OnOk result (WorldStateAfter world output (device_access_line world past me (WritesMsix offset value) ∷ past) losses self.new) }
+        ensures seated { (q : ℕ) → HasPeer self.old q → HasPeer self.new q }
+    {
+        self.device.msix_write(me, offset, value);
+        self.log.push(Line::MsixWrite {
+            peer: me,
+            offset,
+            value,
+        })
+    }
+
+    /// An interrupt is repeated at a peer, whatever its registers say.
+    pub fn repeat(&mut self, me: u32, vector: u32) -> Result<(), NoMemory>
+        ensures after { (world : World) (output : Output) (past : List Line) (losses : ℕ → ℕ) → WorldStateAfter world output past losses self.old →
+            OnOk result (WorldStateAfter world output (Interrupt me vector ∷ past) losses self.new) }
+        ensures seated { (q : ℕ) → HasPeer self.old q → HasPeer self.new q }
+    {
+        self.record_mark(Line::Interrupt { peer: me, vector })
+    }
+
+    /// One more interrupt of a peer is to be lost.
+    pub fn lose(&mut self, me: u32)
+        requires seated { HasPeer self.old me }
+        requires room { slice_index self.old.unspent me < 2 ^ 64 - 1 }
+        ensures after { (world : World) (output : Output) (past : List Line) (losses : ℕ → ℕ) → WorldStateAfter world output past losses self.old → WorldStateAfter world output past (losses_with (InterruptDropped me) losses) self.new }
+        ensures seated { (q : ℕ) → HasPeer self.old q → HasPeer self.new q }
+    {
+        self.unspent[me as usize] += 1;
+    }
+}

@@ -1,0 +1,288 @@
+//! The world of a scenario on its way: its world state, and the peer states of its peers.
+ghost use Rattle.std.specs.Prelude.{◌≡◌, ℕ, ◌+◌, ◌-◌, ◌<◌, ◌^◌, List, [], ◌∷◌, ◌++◌, true, false, IfOk, OnOk, length, slice_get, replicate};
+ghost use Rattle.split_ring.specs.declared.steps.Access.TheVariants as access;
+ghost use Rattle.scenario_text.specs.Scenario.{World, is_link};
+ghost use Rattle.lawful_history.specs.declared.line.Line.{Line};
+ghost use Rattle.lawful_history.specs.Schedule.{Event, CallQueued, AutoStarted, StormStarted, TurnTaken, RegionAccessed, DeviceReset, DeviceAccessed, InterruptDropped, InterruptRepeated, DeviceAccess, register_event, events_of};
+ghost use Rattle.lawful_history.specs.Versions.{is_version};
+ghost use Rattle.lawful_history.specs.Sides.{world_of, config_of, traffic_vector};
+ghost use Rattle.lawful_history.specs.Peers.{at_start};
+ghost use Rattle.lawful_history.specs.Permitted.{IsPermittedEvent};
+ghost use Rattle.simulator.specs.Log.{Output, no_output, given, IsLogOf};
+ghost use Rattle.simulator.specs.PeerStates.{call_of, PeerStateRefines, is_honest};
+ghost use Rattle.simulator.specs.Simulator.{AreAtStart, IsLinked, RunsTo, Happens, IsRunning, IsAct, PlaysAct, moment_of, kept_lines};
+
+use crate::link::{Link, Waiting};
+use crate::log::Log;
+use crate::peer_state::{PeerState, StormSizes, reset, turn};
+use crate::world_state::WorldState;
+use call_grammar::calls_stay_in_reach;
+use doorbell_irq::Device;
+use ivs_base::{Frame, NoMemory};
+use lawful_history::{Line, Lines};
+use link_endpoint::Endpoint;
+use pci_space::Wiring;
+use scenario_text::{Act, Scenario};
+use section_map::Region;
+use std::alloc::Global;
+use std::collections::VecDeque;
+
+/// A world state, and who acts on it.
+#[derive(Drop)]
+pub struct Simulator {
+    alloc: Global,
+    /// The sizes that a storm draws from.
+    pub sizes: StormSizes,
+    /// The words, the devices and the lines.
+    pub world_state: WorldState,
+    /// The peer state of each peer, from peer 0.
+    pub peer_states: Vec<PeerState>,
+}
+
+/// The vector of the doorbells of offers and polls: 1 where MSI-X has two vectors or more, else 0 (profile).
+fn traffic_of(wiring: Wiring) -> u32
+    ensures { result ≡ traffic_vector wiring }
+{
+    match wiring {
+        Wiring::Msix(vectors) if vectors >= 2 => 1,
+        _ => 0,
+    }
+}
+
+/// Is the peer an honest end of the link?
+fn is_end(scenario: &Scenario, peer: u32) -> bool
+    requires { peer < scenario.now.geometry.peers }
+    ensures { result ≡ is_link (world_of scenario.now) peer }
+{
+    peer < 2 && scenario.honest.items()[peer as usize]
+}
+
+/// The peer state of a peer at the start.
+fn peer_state_of(alloc: Global, scenario: &Scenario, peer: u32) -> Result<PeerState, NoMemory>
+    requires { peer < scenario.now.geometry.peers }
+    ensures refines { IfOk result (λ peer_state. PeerStateRefines (config_of (world_of scenario.now) peer) at_start peer_state) }
+    ensures linked { IfOk result (λ peer_state. is_honest peer_state ≡ is_link (world_of scenario.now) peer) }
+{
+    if !is_end(scenario, peer) {
+        return Ok(PeerState::Idle);
+    }
+    let end = Endpoint::new(
+        alloc,
+        peer,
+        &scenario.geometry,
+        &scenario.queue,
+        traffic_of(scenario.wiring),
+    )?;
+    Ok(PeerState::Honest(Link {
+        end,
+        waiting: VecDeque::new(alloc),
+        auto: None,
+    }))
+}
+
+/// The peer states of all peers at the start.
+fn peer_states_of(alloc: Global, scenario: &Scenario) -> Result<Vec<PeerState>, NoMemory>
+    ensures { IfOk result (λ peer_states. AreAtStart (world_of scenario.now) scenario.now.geometry.peers peer_states.items) }
+{
+    let mut peer_states = Vec::new(alloc);
+    for peer in 0..scenario.geometry.peers() {
+        peer_states.push(peer_state_of(alloc, scenario, peer)?)?;
+    }
+    Ok(peer_states)
+}
+
+/// The log of a scenario at the start, for a record of this version.
+fn log_of(alloc: Global, scenario: &Scenario, version: u32) -> Log
+    ensures { IsLogOf (world_of scenario.now) (no_output version) [] result }
+{
+    Log::new(alloc, version, [is_end(scenario, 0), is_end(scenario, 1)])
+}
+
+impl Simulator {
+    /// The world in which nothing has happened; its lines are for a record of this version, 1 or 2.
+    pub fn new(alloc: Global, scenario: &Scenario, version: u32) -> Result<Simulator, NoMemory>
+        requires { is_version version ≡ true }
+        ensures { IfOk result (λ simulator. RunsTo (world_of scenario.now) (no_output version) [] simulator) }
+    {
+        let peer_states = peer_states_of(alloc, scenario)?;
+        let region = Region::new(alloc, &scenario.geometry)?;
+        Ok(Simulator {
+            alloc,
+            sizes: StormSizes {
+                geometry: scenario.geometry,
+                queue: scenario.queue,
+            },
+            world_state: WorldState {
+                region,
+                device: Device::new(&scenario.geometry, scenario.wiring),
+                unspent: [0; 8],
+                log: log_of(alloc, scenario, version),
+            },
+            peer_states,
+        })
+    }
+
+    /// Tells a peer to make a call.
+    fn ask(&mut self, peer: u32, call: Waiting) -> Result<(), NoMemory>
+        requires { IsLinked self.old.peer_states.items peer }
+        ensures { OnOk result (Happens (CallQueued peer (call_of call)) self.old self.new) }
+    {
+        match &mut self.peer_states[peer as usize] {
+            PeerState::Honest(link) => {
+                link.ask(call)?;
+                Ok(())
+            }
+            _ => unreachable!(),
+        }
+    }
+
+    /// Tells a peer to choose its calls from now on.
+    fn automate(&mut self, peer: u32, expect: u64)
+        requires { IsLinked self.old.peer_states.items peer }
+        ensures { Happens (AutoStarted peer expect) self.old self.new }
+    {
+        match &mut self.peer_states[peer as usize] {
+            PeerState::Honest(link) => link.automate(self.alloc, expect),
+            _ => unreachable!(),
+        }
+    }
+
+    /// Tells a hostile peer to write at random from now on.
+    fn storm(&mut self, peer: u32, seed: u64)
+        requires { peer < length self.old.peer_states.items }
+        ensures { (world : World) (output : Output) (events : List Event) → IsPermittedEvent world (StormStarted peer seed) → is_link world peer ≡ false → RunsTo world output events self.old → RunsTo world output (events ++ StormStarted peer seed ∷ []) self.new }
+    {
+        self.peer_states[peer as usize] = PeerState::Storm(seed);
+    }
+
+    /// One turn of a peer.
+    pub fn turn(&mut self, peer: u32) -> Result<(), NoMemory>
+        requires { IsRunning self.old peer }
+        ensures { OnOk result (Happens (TurnTaken peer) self.old self.new) }
+    {
+        calls_stay_in_reach();
+        let peer_state = &mut self.peer_states[peer as usize];
+        turn(
+            self.alloc,
+            &self.sizes,
+            peer,
+            peer_state,
+            &mut self.world_state,
+        )?;
+        Ok(())
+    }
+
+    /// So many turns of a peer.
+    fn turns(&mut self, peer: u32, steps: u32) -> Result<(), NoMemory>
+        requires { IsRunning self.old peer }
+        ensures { OnOk result ((world : World) (output : Output) (events : List Event) → IsPermittedEvent world (TurnTaken peer) → RunsTo world output events self.old → RunsTo world output (events ++ replicate steps (TurnTaken peer)) self.new) }
+    {
+        for _k in 0..steps {
+            self.turn(peer)?;
+        }
+        Ok(())
+    }
+
+    /// The device of a peer is reset: its open call is cut, and those that wait are dropped.
+    fn reset(&mut self, peer: u32) -> Result<(), NoMemory>
+        requires { IsRunning self.old peer }
+        ensures { OnOk result (Happens (DeviceReset peer) self.old self.new) }
+    {
+        reset(self.alloc, &mut self.peer_states[peer as usize]);
+        self.world_state.reset(peer)?;
+        Ok(())
+    }
+
+    /// What one act asks for.
+    pub fn act(&mut self, act: &Act) -> Result<(), NoMemory>
+        requires { (world : World) × (output : Output) × (events : List Event) × RunsTo world output events self.old × IsAct world act.now × ((p : ℕ) → (moment_of world events).losses p < 2 ^ 64 - 1) }
+        ensures { OnOk result (PlaysAct act.now self.old self.new) }
+    {
+        match act {
+            Act::Tick { peer } => self.ask(*peer, Waiting::Tick),
+            Act::Offer { peer, frame } => {
+                let frame = Frame::of(self.alloc, frame.bytes())?;
+                self.ask(*peer, Waiting::Offer(frame))
+            }
+            Act::Poll { peer } => self.ask(*peer, Waiting::Poll),
+            Act::Stop { peer } => self.ask(*peer, Waiting::Stop),
+            Act::Auto { peer, expect } => {
+                self.automate(*peer, *expect);
+                Ok(())
+            }
+            Act::Storm { peer, seed } => {
+                self.storm(*peer, *seed);
+                Ok(())
+            }
+            Act::Turn { peer, steps } => self.turns(*peer, *steps),
+            Act::Reset { peer } => self.reset(*peer),
+            Act::Poke { peer, word, value } => self.poke(*peer, *word, *value),
+            Act::Peek { peer, word } => self.peek(*peer, *word),
+            Act::Set { peer, value } => self.set(*peer, *value),
+            Act::Ring {
+                peer,
+                target,
+                vector,
+            } => self.ring(*peer, *target, *vector),
+            Act::CfgRead {
+                peer,
+                offset,
+                width,
+            } => self.read_config(*peer, *offset, *width),
+            Act::CfgWrite {
+                peer,
+                offset,
+                width,
+                value,
+            } => self.write_config(*peer, *offset, *width, *value),
+            Act::MmioRead { peer, offset } => self.read_register(*peer, *offset),
+            Act::MmioWrite {
+                peer,
+                offset,
+                value,
+            } => self.write_register(*peer, *offset, *value),
+            Act::MsixRead { peer, offset } => self.read_msix(*peer, *offset),
+            Act::MsixWrite {
+                peer,
+                offset,
+                value,
+            } => self.write_msix(*peer, *offset, *value),
+            Act::Lose { peer } => {
+                self.lose(*peer);
+                Ok(())
+            }
+            Act::Again { peer, vector } => self.repeat(*peer, *vector),
+        }
+    }
+
+    /// Makes room for so many lines more. NoMemory says that memory ran out.
+    pub fn reserve(&mut self, more: usize) -> Result<(), NoMemory>
+        ensures { self.new ≡ self.old }
+    {
+        self.world_state.log.reserve(more)
+    }
+
+    /// The lines that were told and not drained, in their order.
+    pub fn lines(&self) -> &[Line]
+        ensures { result.now ≡ kept_lines self.now }
+    {
+        self.world_state.log.items()
+    }
+
+    /// Drains the lines that were told.
+    pub fn drain(&mut self)
+        ensures on { (world : World) (output : Output) (events : List Event) → RunsTo world output events self.old → RunsTo world (given output (kept_lines self.old)) events self.new }
+        ensures lines { kept_lines self.new ≡ [] }
+    {
+        self.world_state.log.clear();
+    }
+
+    /// The lines that were told and not drained.
+    pub fn into_lines(self) -> Lines
+        ensures { result ≡ kept_lines self }
+    {
+        let Simulator { world_state, .. } = self;
+        let WorldState { log, .. } = world_state;
+        log.into_lines()
+    }
+}

@@ -1,5 +1,0 @@
-use Rattle.split_ring.proofs.Frames.{frames_lem}
-use Rattle.split_ring.proofs.layout.frames_have_places.Goals as goal
-
-pub returns : goal.returns
-returns c = frames_lem

@@ -1,6 +1,0 @@
-use Rattle.std.proofs.Common.{refl}
-use Rattle.stage.proofs.Arriving.{read_after}
-use Rattle.stage.proofs.scene.Scene.read.Goals as goal
-
-pub returns-clause-after : goal.returns-clause-after
-returns-clause-after c = λ world output past losses after. read_after world output past losses c.args.self.now _ c.args.me c.args.word c.in-Ok.value after c.in-Ok.ensures.inside refl refl refl c.in_ok-push.ensures

@@ -1,6 +1,0 @@
-use Rattle.std.proofs.Common.{refl}
-use Rattle.stage.proofs.Runs.{drained_on}
-use Rattle.stage.proofs.stage.Stage.drain.Goals as goal
-
-pub returns-clause-on : goal.returns-clause-on
-returns-clause-on c = λ world output events runs. drained_on world output events c.args.self.now _ refl refl refl refl refl c.clear.ensures.on runs

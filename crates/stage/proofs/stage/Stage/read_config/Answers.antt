@@ -1,9 +1,0 @@
-use Rattle.std.proofs.Common.{refl}
-use Rattle.lawful_history.specs.Schedule.{Reached, ReadsConfig}
-use Rattle.stage.proofs.Runs.{scene_happens}
-use Rattle.stage.proofs.stage.Stage.read_config.Goals as goal
-
-pub returns : goal.returns
-returns c =
-    scene_happens c.read_config.result (Reached c.args.peer (ReadsConfig c.args.offset c.args.width)) c.args.self.now _ refl refl (λ world m. refl)
-    (λ world output m after. c.read_config.ensures.after world output m.past m.losses after) c.read_config.ensures.seated

@@ -1,9 +1,0 @@
-use Rattle.std.proofs.Common.{refl}
-use Rattle.lawful_history.specs.Schedule.{Reached, ReadsMsix}
-use Rattle.stage.proofs.Runs.{scene_happens}
-use Rattle.stage.proofs.stage.Stage.read_msix.Goals as goal
-
-pub returns : goal.returns
-returns c =
-    scene_happens c.read_msix.result (Reached c.args.peer (ReadsMsix c.args.offset)) c.args.self.now _ refl refl (λ world m. refl)
-    (λ world output m after. c.read_msix.ensures.after world output m.past m.losses after) c.read_msix.ensures.seated

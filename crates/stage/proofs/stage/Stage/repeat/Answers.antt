@@ -1,9 +1,0 @@
-use Rattle.std.proofs.Common.{refl}
-use Rattle.lawful_history.specs.Schedule.{Repeated}
-use Rattle.stage.proofs.Runs.{scene_happens}
-use Rattle.stage.proofs.stage.Stage.repeat.Goals as goal
-
-pub returns : goal.returns
-returns c =
-    scene_happens c.repeat.result (Repeated c.args.peer c.args.vector) c.args.self.now _ refl refl (λ world m. refl)
-    (λ world output m after. c.repeat.ensures.after world output m.past m.losses after) c.repeat.ensures.seated

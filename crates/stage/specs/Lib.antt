@@ -1,4 +1,0 @@
-pub mod Log
-pub mod Scene
-pub mod Seats
-pub mod Stage

@@ -1,9 +1,0 @@
-use Rattle.std.proofs.Common.{ap, ◌∙◌}
-use Rattle.tx_engine.specs.Sender.{Sender}
-use Rattle.tx_engine.proofs.Entering.{entry_left}
-use Rattle.tx_engine.proofs.tx.Tx.enter.Goals as goal
-
-pub returns : goal.returns
-returns c = λ value.
-    let here = ap (λ (s : Sender). s.place) c.self.view_is ∙ c.requires in
-    entry_left _ _ c.args.slot value c.entry.result c.entry_word.result c.self.view_is c.self.invariant.sender here c.entry.ensures c.entry_word.ensures

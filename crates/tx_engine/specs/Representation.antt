@@ -1,0 +1,31 @@
+-- What the fields of a sender are.
+use Rattle.std.specs.Prelude.{◌≡◌, ◌+◌, ◌≤◌, take, vec_len}
+use Rattle.tx_engine.specs.declared.tx.Tx.TheInside.{Inside}
+use Rattle.tx_engine.specs.Sender.{Sender, IsSender}
+
+-- the frame in hand is the first bytes of the buffer, as many as it has
+abbrev pub sender_of : Inside → Sender
+sender_of t = record {
+  sizes = t.queue;
+  own = t.own;
+  theirs = t.theirs;
+  target = t.target;
+  vector = t.vector;
+  accepted = t.accepted;
+  next = t.slots.next;
+  in_flight = t.slots.in_flight;
+  head = t.slots.head;
+  tail = t.slots.tail;
+  left = t.slots.left;
+  lengths = t.lengths.items;
+  entries = t.entries.items;
+  frame = take t.length t.buffer.items;
+  place = t.place;
+}
+
+-- the slots are those of the queue, and the buffer holds the longest frame
+pub record IsWellFormed (t : Inside) : Type 0 where
+  pub sender : IsSender (sender_of t)
+  pub slots : t.slots.sizes ≡ t.queue
+  pub buffer : vec_len t.buffer ≡ t.queue.mtu + 18
+  pub length : t.length ≤ t.queue.mtu + 18

@@ -250,7 +250,7 @@ enum {
     IVSHM_OVER = 0,    /* over: the call is over */
     IVSHM_SAW = 1,     /* saw: the other's State was `value` */
     IVSHM_RECLAIM = 2, /* reclaim: an offer found `value` frames returned */
-    IVSHM_FULL = 3,    /* full: as many frames as may be are in flight; the offer is over */
+    IVSHM_FULL = 3,    /* full: the frame that is offered has no room; the offer is over */
     IVSHM_ACCEPT = 4,  /* accept: the frame offered is published */
     IVSHM_LOOK = 5,    /* look: a poll found `value` frames */
     IVSHM_DELIVER = 6, /* deliver: a frame was read whole; take it by ivshm_end_frame before the next step, or from the words that were read at once */

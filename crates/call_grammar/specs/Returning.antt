@@ -1,5 +1,5 @@
 -- A peer whose offer met a full ring needs no event of its own: a poll that gives something back rings.
--- Source: profile; VIRTIO 1.1 section 2.6.8 lets the device notify after it has used buffers.
+-- Source: profile; VIRTIO 1.1 section 2.6.7 lets the device notify after it has used buffers.
 use Rattle.std.specs.Prelude.{ℕ, ◌≡◌, ◌≢◌, ◌⊎◌, Bool, List, [], ◌∷◌, ◌++◌}
 use Rattle.std.specs.List.{AllByRecursion}
 use Rattle.call_grammar.specs.Steps.{Mark, Return, Done, Step}

@@ -1,5 +1,5 @@
 -- The rule of wakes in a link with events: a peer whose poll found nothing is rung at the next frame. Of lines so far the newest is the first.
--- Source: VIRTIO 1.1 section 2.6.7, by which an event index asks for a notification; profile for the order of steps.
+-- Source: VIRTIO 1.1 section 2.6.10, by which avail_event asks for a notification; profile for the order of steps.
 use Rattle.std.specs.Prelude.{ℕ, ◌≡◌, ◌≢◌, ◌+◌, ◌-◌, ◌%◌, ◌<◌, true, List, [], ◌∷◌, ◌++◌, length, reverse, All}
 use Rattle.section_map.specs.Geometry.{section_start}
 use Rattle.split_ring.specs.Layout.{has_events, word_offset, AvailEvent}

@@ -17,7 +17,7 @@ pub(crate) enum Outcome {
     Open,
     /// The frame is published.
     Accepted,
-    /// As many frames as may be are in flight.
+    /// The frame has no room.
     Full,
     /// The other peer's value was refused.
     Refused,

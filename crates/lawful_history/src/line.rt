@@ -111,7 +111,7 @@ pub enum Line {
         peer: u32,
         count: u32,
     },
-    /// Mark: as many frames as may be are in flight; the offer is over.
+    /// Mark: the frame that is offered has no room; the offer is over.
     Full {
         peer: u32,
     },

@@ -1,5 +1,5 @@
 -- The rule of wakes: an event asks for a doorbell at a frame, and that doorbell is rung.
--- Source: VIRTIO 1.1 section 2.6.7, by which an event index asks for a notification; profile for the order of steps.
+-- Source: VIRTIO 1.1 section 2.6.10, by which avail_event asks for a notification; profile for the order of steps.
 use Rattle.std.specs.Prelude.{ℕ, ◌≡◌, ◌-◌, ◌%◌, ◌<◌, ◌≤◌, ◌⊎◌, Bool, length}
 use Rattle.call_grammar.specs.Ends.{End}
 use Rattle.call_grammar.specs.Polls.{published_by}

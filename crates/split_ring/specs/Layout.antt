@@ -14,7 +14,7 @@ pub record Sizes : Type 0 where
 abbrev pub IsVersion : ℕ → Type 0
 IsVersion version = (1 ≤ version) × (version ≤ 3)
 
--- from the second version on, it rings where the other's event index asks for it (VIRTIO 1.1 section 2.6.7)
+-- from the second version on, it rings where the other's avail_event asks for it (VIRTIO 1.1 section 2.6.10)
 abbrev pub has_events : Sizes → Bool
 has_events q = nat_le 2 q.version
 

@@ -32,6 +32,6 @@ IsUsedIndex last index in_flight = distance last index ≤ in_flight
 abbrev pub IsUsedId : (expected id : ℕ) → Type 0
 IsUsedId expected id = id ≡ expected
 
--- the other peer asked for a notification as the index went from old to new (VIRTIO 1.1 section 2.6.7.2)
+-- the other peer asked for a notification as the index went from old to new (VIRTIO 1.1 sections 2.6.7 and 2.6.10)
 abbrev pub needs_event : (event new old : ℕ) → Bool
 needs_event event new old = nat_lt ((new + 65536 - event - 1) % 65536) (distance old new)

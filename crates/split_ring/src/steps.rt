@@ -47,7 +47,7 @@ pub enum Note {
     Saw(u32),
     /// How many used elements an offer found.
     Reclaim(u32),
-    /// As many frames as may be are in flight; the offer is over.
+    /// The frame that is offered has no room; the offer is over.
     Full,
     /// The frame of the offer is published.
     Accept,

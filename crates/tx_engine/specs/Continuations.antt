@@ -16,7 +16,7 @@ pub record GoesOn (old : Allocator) (lengths : List ℕ) (length ids : ℕ) (pla
       (place ≡ WritingFrameWord (next_slot old length) 0 (words_for length - 1)) × (new ≡ with_placed old length) × (kept ≡ slice_set lengths old.next length)
   pub ends : ids ≡ 0 → has_room_in old length ≡ false → (place ≡ Closed) × (new ≡ old) × (kept ≡ lengths)
 
--- what an offer notes that goes on at this place after its reads: where it is over, that it found as many frames as may be in flight
+-- what an offer notes that goes on at this place after its reads: where it is over, that its frame has no room
 abbrev pub full_notes : Place → List Note
 full_notes Closed = Full ∷ []
 full_notes _ = []

@@ -21,7 +21,7 @@ use Rattle.tx_engine.specs.Sender.{Sender, IsSender, HasSlot, entry_word_of}
 use Rattle.tx_engine.specs.Ahead.{listed, WritesAll}
 use Rattle.tx_engine.specs.Refinement.{RefinesAt, IsAt, IsMadeFor, HasPlaced, StaysOpen}
 use Rattle.tx_engine.proofs.Accesses.{at_here, entry_access}
-use Rattle.tx_engine.proofs.Bursting.{fill_at, placed, fills, describes, writes_on, described_word, descriptor_bytes}
+use Rattle.tx_engine.proofs.Stretching.{fill_at, placed, fills, describes, writes_on, described_word, descriptor_bytes}
 
 -- The steps
 

@@ -86,7 +86,7 @@ takes old new value notes next config end place polls took refines goes same ref
       delivered = λ w e p at. frame ∙ (received old value notes next w e p polls took at).frame;
       config = same;
       refused = refused;
-      offered = λ opened. ap (λ s. s.frame) sender;
+      offered = ap (λ s. s.frame) sender;
       down = down;
     }
 

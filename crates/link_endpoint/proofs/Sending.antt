@@ -69,7 +69,7 @@ takes old new value notes next config end place offers took refines goes same re
       delivered = λ w e p at. ap (λ r. r.frame) receiver ∙ sym (offer_frame p value (delivered old) (sent old value notes next w e p offers took at).offers);
       config = same;
       refused = refused;
-      offered = λ opened. ap (λ s. s.frame) sender ∙ ap (λ s. s.frame) took.kept;
+      offered = ap (λ s. s.frame) sender ∙ ap (λ s. s.frame) took.kept;
       down = down;
     }
 

@@ -13,7 +13,7 @@ use Rattle.call_grammar.specs.Reach.{HasSections}
 use Rattle.tx_engine.specs.Refinement as tx
 use Rattle.rx_engine.specs.Refinement as rx
 use Rattle.link_endpoint.specs.declared.place.Place.TheVariants.{Closed, WritingState}
-use Rattle.link_endpoint.specs.Engine.{Engine, delivered}
+use Rattle.link_endpoint.specs.Engine.{Engine, delivered, offered}
 use Rattle.link_endpoint.specs.Refinement.{RefinesAt, IsClearBefore, IdleRefinesAt, Takes}
 use Rattle.link_endpoint.proofs.Opening.{at_place}
 
@@ -48,8 +48,8 @@ pub opens_session : (old new : Engine) (value : ℕ) → HasSections old.config 
     new ≡ record old { phase = Ready; place = Closed; sender = new.sender; receiver = new.receiver } →
     ((config : EndConfig) (end : End) → tx.IsMadeFor old.sender config → tx.IsFreshSession config end → tx.RefinesAt new.sender config end places.Closed) →
     ((config : EndConfig) (end : End) → rx.IsMadeFor old.receiver config → rx.IsFreshSession end → rx.RefinesAt new.receiver config end places.Closed) →
-    delivered new ≡ delivered old → Takes old value (note.Over ∷ []) new
-opens_session old new value has sets new_is sender receiver frame = record {
+    delivered new ≡ delivered old → offered new ≡ offered old → Takes old value (note.Over ∷ []) new
+opens_session old new value has sets new_is sender receiver frame kept = record {
   marks = λ config end place refines. let a = at_place (WritingState 2) old config end place sets refines in grind (arith, common_steps);
   marked = λ config end place refines. let a = at_place (WritingState 2) old config end place sets refines in grind (arith, common_steps);
   frames = grind (arith, common_steps);
@@ -60,7 +60,7 @@ opens_session old new value has sets new_is sender receiver frame = record {
   delivered = λ config end place refines. let a = at_place (WritingState 2) old config end place sets refines in grind (arith, common_steps);
   config = grind (arith, common_steps);
   refused = grind (arith, common_steps);
-  offered = grind (arith, common_steps);
+  offered = kept;
   down = grind (arith, common_steps);
 }
 

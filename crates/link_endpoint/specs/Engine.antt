@@ -57,9 +57,9 @@ fresh_engine config = record {
   receiver = fresh_receiver config.sizes config.own config.theirs config.other config.vector;
 }
 
--- an endpoint whose device was reset: only the frame delivered last stays
+-- an endpoint whose device was reset: only the frame offered last and the one delivered last stay
 abbrev pub engine_after_reset : Engine → Engine
-engine_after_reset e = record (fresh_engine e.config) { receiver = renewed e.receiver }
+engine_after_reset e = record (fresh_engine e.config) { sender = sender.renewed e.sender; receiver = renewed e.receiver }
 
 -- a call is open at each place but one
 abbrev pub is_open_at : Place → Bool
@@ -131,7 +131,7 @@ bursts_of e = bursts_at e.place e.sender
 abbrev pub standing_of : Engine → HandshakeState
 standing_of e = record { phase = e.phase; mark = is_some e.refused }
 
--- the frame of the open offer
+-- the frame offered last, which stays until another is offered
 abbrev pub offered : Engine → List ℕ
 offered e = e.sender.frame
 

@@ -97,7 +97,7 @@ pub record Takes (old : Engine) (value : ℕ) (notes : List Note) (new : Engine)
       delivered new ≡ rx.frame_after place value (delivered old)
   pub config : new.config ≡ old.config
   pub refused : new.refused ≡ refused_after notes old.refused
-  pub offered : is_busy new ≡ true → offered new ≡ offered old
+  pub offered : offered new ≡ offered old
   pub down : is_down new ≡ false
 
 -- a call opens: nothing of the end changes

@@ -1,6 +1,5 @@
 //! One end of the link, which takes its calls step by step. It makes no access itself.
 ghost use Rattle.std.specs.Prelude.{◌≡◌, ℕ, ◌+◌, ◌*◌, ◌%◌, ◌<◌, ◌≤◌, ◌↔◌, not, is_some, Some, None, List, [], ◌∷◌, true, false, IsTrue, IfOk, IfSome, ◌++◌, length, take, flat_map};
-ghost use Rattle.link_handshake.specs.declared.Phase.TheVariants.{Run};
 ghost use Rattle.call_grammar.specs.Ends.{End, fresh, after_reset};
 ghost use Rattle.call_grammar.specs.Calls.{EndConfig, Offer, in_run};
 ghost use Rattle.call_grammar.specs.Places as places;
@@ -132,7 +131,8 @@ impl Endpoint {
         self.tx.longest()
     }
 
-    /// The frame of the open offer, or of the last one since the session opened; or none.
+    /// The frame offered last, in whatever phase: that of the open offer, and the one that `offer_again` offers. It stays until another one is
+    /// offered: through its own call and all others, through refusals, sessions and resets. It is empty before the first.
     pub fn offered(&self) -> &[u8]
         ensures value { result.now ≡ offered self.now }
         ensures most { length result.now ≤ self.now.config.sizes.mtu + 18 }
@@ -156,6 +156,7 @@ impl Endpoint {
         ensures open { is_busy self.new ≡ true }
         ensures down { is_down self.new ≡ comes_down call self.old.phase }
         ensures looks { is_reading_state self.new ≡ is_tick call }
+        ensures offered { offered self.new ≡ offered self.old }
         ensures kept { Opens self.old self.new }
     {
         match call {
@@ -176,7 +177,7 @@ impl Endpoint {
         matches!(self.handshake.phase(), Phase::Run)
     }
 
-    /// Opens an offer of this frame, which is copied.
+    /// Opens an offer of this frame, which is copied, in whatever phase: where the offer is down, `offer_again` offers the frame in RUN.
     ///
     /// In each phase no more frames are in flight than may be, and so the offer has no more steps than its bound.
     pub fn offer(&mut self, frame: &[u8])
@@ -187,18 +188,19 @@ impl Endpoint {
         ensures few { (config : EndConfig) (end : End) (place : places.Place) → RefinesAt self.old config end place → HasFewInFlight config end }
         ensures open { is_busy self.new ≡ true }
         ensures down { is_down self.new ≡ not (in_run self.old.phase) }
-        ensures frame { self.old.phase ≡ Run → offered self.new ≡ frame.now }
+        ensures frame { offered self.new ≡ frame.now }
         ensures kept { Opens self.old self.new }
     {
         if self.in_run() {
             self.tx.begin(frame);
             self.place = Place::Offering;
         } else {
+            self.tx.keep(frame);
             self.place = Place::NotInRun;
         }
     }
 
-    /// Opens an offer of the frame of the last one again, which isn't copied: where that one found the link full, say.
+    /// Opens an offer of the frame offered last again, which isn't copied: where that offer found the link full, or was down, say.
     pub fn offer_again(&mut self)
         requires closed { is_busy self.old ≡ false }
         requires some { 14 ≤ length (offered self.old) }
@@ -289,8 +291,8 @@ impl Endpoint {
                 fence_before: false,
                 fence_after: true,
             },
-            Place::Offering => order_of(self.tx.word_kind()),
-            Place::Polling => order_of(self.rx.word_kind()),
+            Place::Offering => order_of(self.tx.rings(), self.tx.word_kind()),
+            Place::Polling => order_of(self.rx.rings(), self.rx.word_kind()),
             _ => plain(Order::Relaxed),
         }
     }
@@ -433,12 +435,14 @@ impl Endpoint {
         }
     }
 
-    /// The end's own device was reset: the open call is cut, and what was refused is forgotten. The frame delivered last stays.
+    /// The end's own device was reset: the open call is cut, and what was refused is forgotten. The frame offered last and the one delivered
+    /// last stay.
     pub fn reset(&mut self)
         ensures value { self.new ≡ engine_after_reset self.old }
         ensures refines { (config : EndConfig) (end : End) (place : places.Place) → RefinesAt self.old config end place →
             RefinesAt self.new config (after_reset end) places.Closed }
         ensures delivered { delivered self.new ≡ delivered self.old }
+        ensures offered { offered self.new ≡ offered self.old }
     {
         self.handshake.reset();
         self.refused = None;
@@ -610,10 +614,13 @@ fn plain(order: Order) -> Ordering
     }
 }
 
-/// The order of an access of an offer or a poll, by what its word is.
-fn order_of(kind: WordKind) -> Ordering
-    ensures { result ≡ order_of kind }
+/// The order of an access of an offer or a poll: that of a doorbell, else by what its word is.
+fn order_of(rings: bool, kind: WordKind) -> Ordering
+    ensures { result ≡ order_of rings kind }
 {
+    if rings {
+        return plain(Order::Release);
+    }
     match kind {
         WordKind::Plain => plain(Order::Relaxed),
         WordKind::IndexRead => plain(Order::Acquire),

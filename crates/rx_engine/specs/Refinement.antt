@@ -37,6 +37,11 @@ pub record IsMadeFor (rx : Receiver) (config : EndConfig) : Type 0 where
   pub target : config.other ≡ rx.target
   pub vector : config.vector ≡ rx.vector
 
+-- the doorbell of a poll comes next
+abbrev pub rings : laws.Place → Bool
+rings laws.RingingPoll = true
+rings _ = false
+
 -- a session is open in these phases
 abbrev pub has_session : Phase → Bool
 has_session Ready = true

@@ -11,7 +11,7 @@ ghost use Rattle.call_grammar.specs.Orders.{word_kind};
 ghost use Rattle.call_grammar.specs.Places as laws;
 ghost use Rattle.call_grammar.specs.Reach.{HasSections, IsPermittedAccess};
 ghost use Rattle.rx_engine.specs.Receiver.{fresh_receiver, renewed, is_last, is_armed, is_busy, reads_ahead, frame_ahead, writes_ahead, given, words_read, IsReached, KeepsNumbers};
-ghost use Rattle.rx_engine.specs.Refinement.{IsMadeFor, IsFreshSession, RefinesAt, TakesStep, StaysOpen, IdleEngineOutlivesSteps};
+ghost use Rattle.rx_engine.specs.Refinement.{IsMadeFor, IsFreshSession, RefinesAt, rings, TakesStep, StaysOpen, IdleEngineOutlivesSteps};
 
 use crate::place::Place;
 use ivs_base::NoMemory;
@@ -273,6 +273,13 @@ impl Rx {
             Place::WritingUsedIndex { .. } => WordKind::IndexWrite,
             _ => WordKind::Plain,
         }
+    }
+
+    /// Is the next access the doorbell?
+    pub fn rings(&self) -> bool
+        ensures { (config : EndConfig) (end : End) (place : laws.Place) → RefinesAt self.now config end place → result ≡ rings place }
+    {
+        matches!(self.place, Place::Ringing)
     }
 
     /// How many of the coming accesses read the words of a frame, each the next word, with no note before the last of the frame; else 0.

@@ -61,4 +61,4 @@ busy_next e e' value notes config end place took refines = busy_is e' config (en
 -- the marks of the step after it
 pub marks_now : (e e' : Engine) (value : ℕ) (notes : List Note) (config : EndConfig) (end : End) (place : Place) → Takes e value notes e' → RefinesAt e config end place → is_busy e' ≡ is_open (next_place config place value) →
     marks_between (offered e') (delivered e') notes ≡ marks_at config place value
-marks_now e e' value notes config end place took refines busy = marks_after config place value (offered e) (offered e') (delivered e') notes (is_busy e') (took.marked config end place refines) busy took.offered
+marks_now e e' value notes config end place took refines busy = marks_after config place value (offered e) (offered e') (delivered e') notes (is_busy e') (took.marked config end place refines) busy (λ on. took.offered)

@@ -161,9 +161,9 @@ id_kept t more free place turn lengths sized kept here free_is on =
       length = kept.length;
     }
 
--- a sender of these numbers and lists, where nothing is accepted or in hand
-abbrev pub begun_sender : Sizes → (own theirs target vector : ℕ) → Allocator → (lengths entries : List ℕ) → Sender
-begun_sender sizes own theirs target vector slots lengths entries = record {
+-- a sender of these numbers, this frame and these lists, where nothing is accepted
+abbrev pub begun_sender : Sizes → (own theirs target vector : ℕ) → (frame : List ℕ) → Allocator → (lengths entries : List ℕ) → Sender
+begun_sender sizes own theirs target vector frame slots lengths entries = record {
   sizes = sizes;
   own = own;
   theirs = theirs;
@@ -177,18 +177,22 @@ begun_sender sizes own theirs target vector slots lengths entries = record {
   left = slots.left;
   lengths = lengths;
   entries = entries;
-  frame = [];
+  frame = frame;
   place = Closed;
 }
 
-pub begun_is : (q : Sizes) (own theirs target vector : ℕ) (slots : Allocator) (lengths entries : List ℕ) → slots ≡ initial_allocator q → lengths ≡ replicate (limit_of q) 0 → entries ≡ replicate (size_of q / 2) 0 →
-    fresh_sender q own theirs target vector ≡ begun_sender q own theirs target vector slots lengths entries
-begun_is q own theirs target vector slots lengths entries slots_is lengths_are entries_are =
-    sym (ap (λ s. begun_sender q own theirs target vector s lengths entries) slots_is ∙
-    (ap (λ l. begun_sender q own theirs target vector (initial_allocator q) l entries) lengths_are ∙ ap (begun_sender q own theirs target vector (initial_allocator q) (replicate (limit_of q) 0)) entries_are))
+-- the same at the start of a session
+abbrev pub starting : Sizes → (own theirs target vector : ℕ) → (frame : List ℕ) → Sender
+starting sizes own theirs target vector frame = record (fresh_sender sizes own theirs target vector) { frame = frame }
 
-pub fresh_is : (q : Sizes) (own theirs target vector : ℕ) → IsQueue q → 4 * own + q.out ≤ 2 ^ 24 → 4 * theirs + q.out ≤ 2 ^ 24 → IsSender (fresh_sender q own theirs target vector)
-fresh_is q own theirs target vector queue own_room their_room =
+pub begun_is : (q : Sizes) (own theirs target vector : ℕ) (frame : List ℕ) (slots : Allocator) (lengths entries : List ℕ) → slots ≡ initial_allocator q → lengths ≡ replicate (limit_of q) 0 → entries ≡ replicate (size_of q / 2) 0 →
+    starting q own theirs target vector frame ≡ begun_sender q own theirs target vector frame slots lengths entries
+begun_is q own theirs target vector frame slots lengths entries slots_is lengths_are entries_are =
+    sym (ap (λ s. begun_sender q own theirs target vector frame s lengths entries) slots_is ∙
+    (ap (λ l. begun_sender q own theirs target vector frame (initial_allocator q) l entries) lengths_are ∙ ap (begun_sender q own theirs target vector frame (initial_allocator q) (replicate (limit_of q) 0)) entries_are))
+
+pub fresh_is : (q : Sizes) (own theirs target vector : ℕ) (frame : List ℕ) → IsQueue q → 4 * own + q.out ≤ 2 ^ 24 → 4 * theirs + q.out ≤ 2 ^ 24 → IsSender (starting q own theirs target vector frame)
+fresh_is q own theirs target vector frame queue own_room their_room =
     let b = bounds q queue in
     record {
       queue = queue;
@@ -203,11 +207,11 @@ fresh_is q own theirs target vector queue own_room their_room =
       place = tt;
     }
 
-pub fresh_stands : (q : Sizes) (own theirs target vector : ℕ) (config : EndConfig) (end : End) → IsMadeFor (fresh_sender q own theirs target vector) config → IsFreshSession config end →
-    RefinesAt (fresh_sender q own theirs target vector) config end laws.Closed
-fresh_stands q own theirs target vector config end made fresh =
+pub fresh_stands : (q : Sizes) (own theirs target vector : ℕ) (frame : List ℕ) (config : EndConfig) (end : End) → IsMadeFor (starting q own theirs target vector frame) config → IsFreshSession config end →
+    RefinesAt (starting q own theirs target vector frame) config end laws.Closed
+fresh_stands q own theirs target vector frame config end made fresh =
     let none : length end.accepted ≡ 0 = ap length fresh.accepted in
-    let tx = fresh_sender q own theirs target vector in
+    let tx = starting q own theirs target vector frame in
     record {
       made = made;
       at = (

@@ -80,6 +80,11 @@ pub record RefinesAt (tx : Sender) (config : EndConfig) (end : End) (place : law
   pub made : IsMadeFor tx config
   pub at : IsAt tx.place tx config end place
 
+-- the doorbell of an offer comes next
+abbrev pub rings : laws.Place → Bool
+rings laws.RingingOffer = true
+rings _ = false
+
 -- whatever end it stands for, the sender takes the step of its place that meets this value, with these notes, and is the new one then
 pub record TakesStep (old : Sender) (value : ℕ) (notes : List Note) (new : Sender) : Type 0 where
   pub marks : (config : EndConfig) (end : End) (place : laws.Place) → RefinesAt old config end place →

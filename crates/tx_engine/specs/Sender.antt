@@ -12,7 +12,7 @@ use Rattle.tx_engine.specs.declared.place.Place.TheVariants.{Closed, ReadingUsed
 
 -- the sizes of the queue, the first words of the two sections, and whom it rings by which vector; the frames accepted modulo 65,536, the next
 -- descriptor and the frames in flight, with their bytes of the ring and, by descriptor, their lengths; the own copy of the entry words; the
--- frame in hand, and its place in the open offer
+-- frame in hand, which is the one offered last, and its place in the open offer
 pub record Sender : Type 0 where
   pub sizes : Sizes
   pub own : ℕ
@@ -122,3 +122,7 @@ fresh_sender sizes own theirs target vector = record {
   frame = [];
   place = Closed;
 }
+
+-- the same sender at the start of a session: only the frame offered last stays
+abbrev pub renewed : Sender → Sender
+renewed tx = record (fresh_sender tx.sizes tx.own tx.theirs tx.target tx.vector) { frame = tx.frame }

@@ -10,9 +10,9 @@ ghost use Rattle.call_grammar.specs.Words.{words_for, frame_word, word_bytes};
 ghost use Rattle.call_grammar.specs.Bursts.{StepsThrough, WritesBurst};
 ghost use Rattle.call_grammar.specs.Orders.{word_kind};
 ghost use Rattle.link_handshake.specs.declared.Phase.TheVariants.{Run};
-ghost use Rattle.tx_engine.specs.Sender.{IsSender, fresh_sender, is_open, writes_ahead, IsFrame, IsPlace, IsInReach, entry_word_of};
+ghost use Rattle.tx_engine.specs.Sender.{IsSender, fresh_sender, renewed, is_open, writes_ahead, IsFrame, IsPlace, IsInReach, entry_word_of};
 ghost use Rattle.tx_engine.specs.Ahead.{bursts_of, words_of, listed, last_words, WritesAll};
-ghost use Rattle.tx_engine.specs.Refinement.{RefinesAt, TakesStep, StaysOpen, IsMadeFor, IsFreshSession, IdleEngineOutlivesSteps};
+ghost use Rattle.tx_engine.specs.Refinement.{RefinesAt, rings, TakesStep, StaysOpen, IsMadeFor, IsFreshSession, IdleEngineOutlivesSteps};
 
 use crate::ahead::{Burst, Bursts};
 use crate::place::{
@@ -109,7 +109,7 @@ impl Tx {
         self.queue.mtu() + 18
     }
 
-    /// The frame of the open offer, or of the last one since `reset`.
+    /// The frame offered last: by `begin`, or by `keep` for a later offer. It is empty before the first.
     pub fn frame(&self) -> &[u8]
         ensures value { result.now ≡ self.now.frame }
         ensures most { length result.now ≤ self.now.sizes.mtu + 18 }
@@ -125,12 +125,22 @@ impl Tx {
             RefinesAt self.new config end (laws.first_place config end (Offer frame.now)) }
         ensures value { self.new ≡ record self.old { frame = frame.now; place = Place.ReadingUsedIndex } }
     {
-        put_first(&mut self.buffer, frame);
-        self.length = frame.len() as u32;
+        self.keep(frame);
         self.place = Place::ReadingUsedIndex;
     }
 
-    /// Opens an offer of the frame of the last one since `reset` again, which isn't copied. The end is in RUN.
+    /// Takes this frame, which is copied, as the one offered last, and opens no offer.
+    pub fn keep(&mut self, frame: &[u8])
+        requires closed { is_open self.old.place ≡ false }
+        requires frame { IsFrame self.old.sizes frame.now }
+        ensures refines { (config : EndConfig) (end : End) → RefinesAt self.old config end laws.Closed → RefinesAt self.new config end laws.Closed }
+        ensures value { self.new ≡ record self.old { frame = frame.now } }
+    {
+        put_first(&mut self.buffer, frame);
+        self.length = frame.len() as u32;
+    }
+
+    /// Opens an offer of the frame offered last again, which isn't copied. The end is in RUN.
     pub fn begin_again(&mut self)
         requires closed { is_open self.old.place ≡ false }
         requires some { 14 ≤ length self.old.frame }
@@ -234,6 +244,13 @@ impl Tx {
             Place::ReadingAvailEvent => WordKind::EventRead,
             _ => WordKind::Plain,
         }
+    }
+
+    /// Is the next access the doorbell?
+    pub fn rings(&self) -> bool
+        ensures { (config : EndConfig) (end : End) (place : laws.Place) → RefinesAt self.now config end place → result ≡ rings place }
+    {
+        matches!(self.place, Place::Ringing)
     }
 
     /// How many of the coming accesses write the words of the frame, or those of its descriptor, each the next word and with no note;
@@ -351,16 +368,15 @@ impl Tx {
         }
     }
 
-    /// Forgets the offer, the frames and the entries: a session begins.
+    /// Forgets the offer, the frames in flight and the entries: a session begins. The frame offered last stays.
     pub fn reset(&mut self)
-        ensures value { self.new ≡ fresh_sender self.old.sizes self.old.own self.old.theirs self.old.target self.old.vector }
+        ensures value { self.new ≡ renewed self.old }
         ensures refines { (config : EndConfig) (end : End) → IsMadeFor self.old config → IsFreshSession config end → RefinesAt self.new config end laws.Closed }
     {
         self.accepted = 0;
         self.slots.reset();
         self.lengths.fill(0);
         self.entries.fill(0);
-        self.length = 0;
         self.place = Place::Closed;
     }
 

@@ -11,7 +11,7 @@ use Rattle.link_endpoint.proofs.WritingState.{opens_session}
 use Rattle.link_endpoint.proofs.endpoint.Endpoint.took_opening.Goals as goal
 
 taken : (c : goal.After-push) (value : ℕ) → Takes (seen c.self.inside) value (note.Over ∷ []) (seen (record (c.self.inside) { handshake = c.enter.new.self; place = Closed; tx = c.reset.new.self; rx = c.reset-2.new.self }))
-taken c value = opens_session (seen c.self.inside) _ value c.self.invariant.sections (grind (arith, common_steps)) (grind (arith, common_steps)) c.reset.ensures.refines c.reset-2.ensures.refines (grind (arith, common_steps))
+taken c value = opens_session (seen c.self.inside) _ value c.self.invariant.sections (grind (arith, common_steps)) (grind (arith, common_steps)) c.reset.ensures.refines c.reset-2.ensures.refines (grind (arith, common_steps)) (grind (arith, common_steps))
 
 pub returns-clause-steps : goal.returns-clause-steps
 returns-clause-steps c = λ value. rw (← c.self.view_is, c.push.ensures.items, c.requires.empty) (taken c value)

@@ -2,6 +2,7 @@ pub mod Engine
 pub mod Refinement
 pub mod Leaving
 pub mod Bursts
+pub mod Offered
 pub mod Orders
 pub mod Runs
 pub mod Representation

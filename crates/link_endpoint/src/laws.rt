@@ -1,6 +1,7 @@
 //! What holds of the calls of an end, and of two ends that make calls. Each law is the contract of a function that does nothing.
 ghost use Rattle.link_endpoint.specs.Refinement.{RefusedEndsStay};
 ghost use Rattle.link_endpoint.specs.Bursts.{BurstsGoOn};
+ghost use Rattle.link_endpoint.specs.Offered.{BurstsKeepOffers};
 
 pub use call_grammar::{
     calls_are_lists, calls_keep_rows, calls_meet_bounds, calls_stay_in_reach, calls_take_a_step,
@@ -20,4 +21,9 @@ pub fn refused_ends_stay()
 /// Steps that are taken at once are steps of the grammar, one after the other.
 pub fn bursts_go_on()
     ensures { BurstsGoOn }
+{}
+
+/// Steps that are taken at once leave the frame offered last, as each single step does.
+pub fn bursts_keep_offers()
+    ensures { BurstsKeepOffers }
 {}

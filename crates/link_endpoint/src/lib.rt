@@ -7,14 +7,15 @@
 //!
 //! - An `Endpoint` is seen as an `Engine`: whose end it is, its phase, what it refused, its place, its sender and its receiver. An offer's
 //!   place is the sender's, a poll's the receiver's.
-//! - `Endpoint::offered` tells the frame of the open offer, of which the endpoint has a copy: whoever writes a history needs it at the
-//!   Accept mark, and would have to hold it a second time.
+//! - `Endpoint::offered` tells the frame offered last, of which the endpoint has a copy: whoever writes a history needs it at the Accept
+//!   mark, and would have to hold it a second time; and `offer_again` offers it once more. It stays until another is offered.
 //! - `Auto::cut` begins the round of an automatic peer anew. A reset cuts the call that the peer chose, and only the caller knows of it.
 //! - An access is in reach without a condition, also before anything is known of the values read: the invariant says that the endpoint
 //!   stands for some end.
 //! - An automatic peer counts deliveries up to the number expected, so no count overflows; the rule asks only whether so many came.
-//! - A State step of READY resets sender and receiver, and so do the State step of a refusal and a device reset. The frame delivered
-//!   last stays through all of these (`renewed`).
+//! - A State step of READY resets sender and receiver, and so do the State step of a refusal and a device reset. The frame offered last and
+//!   the one delivered last stay through all of these (`renewed`).
+//! - A doorbell has no word. So the engines tell whether it is next (`rings`), and its order is no kind of word.
 #![tactic(auto)]
 
 mod auto;

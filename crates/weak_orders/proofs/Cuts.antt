@@ -1,0 +1,238 @@
+-- Two moments that may be looked at together.
+use Rattle.std.proofs.Common.{◌≡◌, ◌≢◌, ℕ, zero, suc, ◌+◌, ◌-◌, ◌<◌, ◌≤◌, ◌⊎◌, inl, inr, ⊎_elim, Bool, true, false, List, length, refl, sym, ap, ◌∙◌, subst, arith, eq-eqb, ne_eqb}
+use mathlib.Core.Logic.{dite}
+use native.Mathlib.Decide.{ℕ_discrete}
+use Rattle.std.specs.Prelude.{◌==◌, nat_le, nat_lt, ◌&&◌, ◌||◌, if◌then◌else◌}
+use Rattle.std.proofs.lemmas.Bool.Decides.{nat_tests}
+use Rattle.split_ring.specs.declared.steps.Access.{Access}
+use Rattle.split_ring.specs.declared.steps.Access.TheVariants as access
+use Rattle.call_grammar.specs.Ends.{End, end_after, after_reset}
+use Rattle.call_grammar.specs.Calls.{Call, Tick, Stop, Offer, Poll, in_run, pending_of}
+use Rattle.call_grammar.specs.Polls.{is_last}
+use Rattle.call_grammar.specs.Places.{Place, Closed, WritingState, Refusing, NotInRun, ReadingOtherState, ReadingUsedIndex, ReadingAvailIndex, first_place, access_at, next_place, step_at, is_open}
+use Rattle.call_grammar.proofs.OfferLists.{yes, no}
+use Rattle.link_invariant.specs.Fields.{Field}
+use Rattle.link_invariant.specs.LinkConfig.{LinkConfig, IsLinkConfig, section_of, config_of, fields, IsGivenTo}
+use Rattle.link_invariant.specs.Steps.{Stored, IsUntouched, ReadsMemory, MemoryAfter}
+use Rattle.link_invariant.specs.EndInvariant.{EndInvariant}
+use Rattle.link_invariant.specs.Pair.{freed_at, Polls, InFlight, IsAttached}
+use Rattle.link_invariant.proofs.Fields.{fields_same}
+use Rattle.link_invariant.proofs.Forms.{sent_same}
+use Rattle.link_invariant.proofs.AloneKept.{alone_kept}
+use Rattle.link_invariant.proofs.PairForms.{Before, Leads, link_same, takes_on}
+use Rattle.link_invariant.proofs.PairKept.{leads, untouched, by_state}
+use Rattle.link_invariant.proofs.Handshakes.{leads_reset, set_apart}
+use Rattle.weak_orders.specs.Memory.{is_own, seen}
+
+-- Words seen
+
+module _ (link_config : LinkConfig) (is : IsLinkConfig link_config) (p : ℕ) (p2 : p < 2) (x y : ℕ → ℕ) where
+  pub own_test : (w : ℕ) → w ≡ p → is_own link_config p w ≡ true
+  own_test w e = grind (arith, nat_tests)
+
+  section_test : (s k w j : ℕ) → w ≡ s + j → j < k → (nat_le s w && nat_lt w (s + k)) ≡ true
+  section_test s k w j e lt = grind (arith, nat_tests)
+
+  or_right : (a b : Bool) → b ≡ true → (a || b) ≡ true
+  or_right true b h = refl
+  or_right false b h = h
+
+  pub owns_section : (w j : ℕ) → w ≡ section_of link_config p + j → j < link_config.words → is_own link_config p w ≡ true
+  owns_section w j e lt = or_right _ _ (section_test (section_of link_config p) link_config.words w j e lt)
+
+  pub sees_own : (w : ℕ) → is_own link_config p w ≡ true → seen link_config p x y w ≡ x w
+  unfolding seen
+  sees_own w h = yes (is_own link_config p w) (x w) (y w) h
+
+  pub sees_theirs : (w : ℕ) → is_own link_config p w ≡ false → seen link_config p x y w ≡ y w
+  unfolding seen
+  sees_theirs w h = no (is_own link_config p w) (x w) (y w) h
+
+  pub own_state : seen link_config p x y p ≡ x p
+  own_state = sees_own p (own_test p refl)
+
+  pub own_word : (j : ℕ) → j < link_config.words → seen link_config p x y (section_of link_config p + j) ≡ x (section_of link_config p + j)
+  own_word j lt = sees_own (section_of link_config p + j) (or_right _ _ (section_test (section_of link_config p) link_config.words _ j refl lt))
+
+  apart_test : (s k w : ℕ) → w ≢ p → (w < s) ⊎ (s + k ≤ w) → ((w == p) || (nat_le s w && nat_lt w (s + k))) ≡ false
+  apart_test s k w ne out = grind (arith, nat_tests)
+
+  pub their_state : seen link_config p x y (1 - p) ≡ y (1 - p)
+  their_state = let first = is.first in sees_theirs (1 - p) (apart_test (section_of link_config p) link_config.words (1 - p) (omega arith) (inl (omega arith)))
+
+  pub their_word : (j : ℕ) → j < link_config.words → seen link_config p x y (section_of link_config (1 - p) + j) ≡ y (section_of link_config (1 - p) + j)
+  their_word j lt = let first = is.first in sees_theirs (section_of link_config (1 - p) + j) (apart_test (section_of link_config p) link_config.words _ (omega arith) (out p p2))
+    where
+      out : (p : ℕ) → p < 2 → (section_of link_config (1 - p) + j < section_of link_config p) ⊎ (section_of link_config p + link_config.words ≤ section_of link_config (1 - p) + j)
+      out zero p2 = inr (omega arith)
+      out (suc zero) p2 = inl (omega arith)
+      out (suc (suc p)) p2 = absurd (omega arith)
+
+low_test : (q s k w : ℕ) → w ≢ q → ((w == q) || (nat_le s w && nat_lt w (s + k))) ≡ true → s ≤ w
+low_test q s k w ne h = grind (arith, nat_tests)
+
+high_test : (q s k w : ℕ) → w ≢ q → ((w == q) || (nat_le s w && nat_lt w (s + k))) ≡ true → w < s + k
+high_test q s k w ne h = grind (arith, nat_tests)
+
+-- an end's own word is its state or a word of its section
+pub owned : (link_config : LinkConfig) (q w : ℕ) → is_own link_config q w ≡ true → (w ≡ q) ⊎ ((j : ℕ) × (j < link_config.words) × (w ≡ section_of link_config q + j))
+owned link_config q w h = dite (ℕ_discrete w q) (λ e. inl e) (λ ne. let s = section_of link_config q in let low = low_test q s link_config.words w ne h in let high = high_test q s link_config.words w ne h in inr (w - s, omega arith, omega arith))
+
+-- and stays where the end is left alone
+pub own_stays : (link_config : LinkConfig) (memory after : ℕ → ℕ) (q w : ℕ) → IsUntouched link_config memory after q → is_own link_config q w ≡ true → after w ≡ memory w
+own_stays link_config memory after q w keep h = ⊎_elim (λ (e : w ≡ q). ap after e ∙ (keep.state ∙ ap memory (sym e)))
+    (λ (j : (j : ℕ) × (j < link_config.words) × (w ≡ section_of link_config q + j)). ap after j.2 ∙ (keep.section j.0 j.1 ∙ ap memory (sym j.2))) (owned link_config q w h)
+
+-- Two ends at two moments
+
+-- the words, the end and the place of p, and those of the other: all that holds of the pair
+pub record Cut (link_config : LinkConfig) (p : ℕ) (x : ℕ → ℕ) (end : End) (place : Place) (y : ℕ → ℕ) (u : End) (w : Place) : Type 0 where
+  pub before : Before link_config (seen link_config p x y) p end place u w
+  pub calm : place ≢ Refusing
+  pub theirs : (u.handshake.mark ≡ false) × (w ≢ Refusing)
+
+-- the words of neither change
+pub moved : (link_config : LinkConfig) (memory after : ℕ → ℕ) (p : ℕ) (end : End) (place : Place) (u : End) (w : Place) → IsLinkConfig link_config → IsUntouched link_config memory after p → IsUntouched link_config memory after (1 - p) → Before link_config memory p end place u w → Before link_config after p end place u w
+moved link_config memory after p end place u w is mine theirs b = let same = fields_same link_config memory after p is mine.section in let same' = fields_same link_config memory after (1 - p) is theirs.section in record {
+  mine = alone_kept.others link_config p memory after end place is mine b.mine;
+  theirs = alone_kept.others link_config (1 - p) memory after u w is theirs b.theirs;
+  mark = b.mark;
+  from = b.from;
+  back = b.back;
+  faces = λ a. let f = b.faces a in record { mine = sent_same (λ g. same g) f.mine; theirs = sent_same (λ g. same' g) f.theirs; sends = link_same (λ g. same' g) f.sends; takes = link_same (λ g. same g) f.takes };
+}
+
+-- the same from the other
+module _ (link_config : LinkConfig) (memory : ℕ → ℕ) (end : End) (place : Place) (u : End) (w : Place) where
+  back_0 : u.handshake.mark ≡ false → Before link_config memory 0 end place u w → Before link_config memory 1 u w end place
+  back_0 mark b = record {
+    mine = b.theirs;
+    theirs = b.mine;
+    mark = mark;
+    from = b.back;
+    back = b.from;
+    faces = λ a. let f = b.faces (⊎_elim inr inl a) in record { mine = f.theirs; theirs = f.mine; sends = f.takes; takes = f.sends };
+  }
+
+  back_1 : u.handshake.mark ≡ false → Before link_config memory 1 end place u w → Before link_config memory 0 u w end place
+  back_1 mark b = record {
+    mine = b.theirs;
+    theirs = b.mine;
+    mark = mark;
+    from = b.back;
+    back = b.from;
+    faces = λ a. let f = b.faces (⊎_elim inr inl a) in record { mine = f.theirs; theirs = f.mine; sends = f.takes; takes = f.sends };
+  }
+
+module _ (link_config : LinkConfig) (is : IsLinkConfig link_config) where
+  -- p's words and the other's, whoever looks
+  swaps : (p : ℕ) → p < 2 → (x y : ℕ → ℕ) → IsUntouched link_config (seen link_config p x y) (seen link_config (1 - p) y x) p
+  swaps zero p2 x y = record { state = their_state link_config is 1 (omega arith) y x ∙ sym (own_state link_config is 0 p2 x y); section = λ j lt. their_word link_config is 1 (omega arith) y x j lt ∙ sym (own_word link_config is 0 p2 x y j lt) }
+  swaps (suc zero) p2 x y = record { state = their_state link_config is 0 (omega arith) y x ∙ sym (own_state link_config is 1 p2 x y); section = λ j lt. their_word link_config is 0 (omega arith) y x j lt ∙ sym (own_word link_config is 1 p2 x y j lt) }
+  swaps (suc (suc p)) p2 x y = absurd (omega arith)
+
+  swaps' : (p : ℕ) → p < 2 → (x y : ℕ → ℕ) → IsUntouched link_config (seen link_config p x y) (seen link_config (1 - p) y x) (1 - p)
+  swaps' p p2 x y = let o : 1 - p < 2 = omega arith in record { state = own_state link_config is (1 - p) o y x ∙ sym (their_state link_config is p p2 x y); section = λ j lt. own_word link_config is (1 - p) o y x j lt ∙ sym (their_word link_config is p p2 x y j lt) }
+
+  pub flip : (p : ℕ) → p < 2 → {x : ℕ → ℕ} {end : End} {place : Place} {y : ℕ → ℕ} {u : End} {w : Place} → Cut link_config p x end place y u w → Cut link_config (1 - p) y u w x end place
+  flip zero p2 {x} {end} {place} {y} {u} {w} c = record {
+    before = back_0 link_config (seen link_config 1 y x) end place u w c.theirs.0 (moved link_config (seen link_config 0 x y) (seen link_config 1 y x) 0 end place u w is (swaps 0 p2 x y) (swaps' 0 p2 x y) c.before);
+    calm = c.theirs.1;
+    theirs = (c.before.mark, c.calm);
+  }
+  flip (suc zero) p2 {x} {end} {place} {y} {u} {w} c = record {
+    before = back_1 link_config (seen link_config 0 y x) end place u w c.theirs.0 (moved link_config (seen link_config 1 x y) (seen link_config 0 y x) 1 end place u w is (swaps 1 p2 x y) (swaps' 1 p2 x y) c.before);
+    calm = c.theirs.1;
+    theirs = (c.before.mark, c.calm);
+  }
+  flip (suc (suc p)) p2 c = absurd (omega arith)
+
+-- What p does
+
+-- an access of p, on the words of all
+pub after_of : ℕ → (ℕ → ℕ) → Access → (ℕ → ℕ)
+after_of p memory (access.Write at n) = λ w. if w == at then n else memory w
+after_of p memory (access.State state) = λ w. if w == p then state else memory w
+after_of p memory a = memory
+
+pub put : (memory : ℕ → ℕ) (at n : ℕ) → Stored memory (λ w. if w == at then n else memory w) at n
+put memory at n = record { here = yes (at == at) n (memory at) (eq-eqb at at refl); neighbour_word = λ w ne. no (w == at) n (memory w) (ne_eqb w at ne) }
+
+pub left_so : (p : ℕ) (memory : ℕ → ℕ) (a : Access) → MemoryAfter p memory a (after_of p memory a)
+unfolding after_of
+left_so p memory (access.Write at n) = put memory at n
+left_so p memory (access.State state) = put memory p state
+left_so p memory (access.Read word) = refl
+left_so p memory (access.Ring target vector) = refl
+left_so p memory access.Nothing = refl
+
+-- and on its own
+pub one_put : (x x' m : ℕ → ℕ) (at n w : ℕ) → Stored x x' at n → m w ≡ x w → x' w ≡ (if w == at then n else m w)
+one_put x x' m at n w stored same = dite (ℕ_discrete w at)
+    (λ e. ap x' e ∙ (stored.here ∙ sym (yes (w == at) n (m w) (eq-eqb w at e))))
+    (λ ne. stored.neighbour_word w ne ∙ (sym same ∙ sym (no (w == at) n (m w) (ne_eqb w at ne))))
+
+pub own_after : (p : ℕ) (x x' m : ℕ → ℕ) (a : Access) (w : ℕ) → MemoryAfter p x a x' → m w ≡ x w → x' w ≡ after_of p m a w
+unfolding after_of
+own_after p x x' m (access.Write at n) w left same = one_put x x' m at n w left same
+own_after p x x' m (access.State state) w left same = one_put x x' m p state w left same
+own_after p x x' m (access.Read word) w left same = ap (λ (k : ℕ → ℕ). k w) left ∙ sym same
+own_after p x x' m (access.Ring target vector) w left same = ap (λ (k : ℕ → ℕ). k w) left ∙ sym same
+own_after p x x' m access.Nothing w left same = ap (λ (k : ℕ → ℕ). k w) left ∙ sym same
+
+module _ (link_config : LinkConfig) (is : IsLinkConfig link_config) (p : ℕ) (p2 : p < 2) (x x' y : ℕ → ℕ) (end : End) (place : Place) (u : End) (w : Place) where
+  -- what is left so on the words of all is so on the words as they are seen
+  settled : (end' : End) (place' : Place) (after : ℕ → ℕ) → ((v : ℕ) → seen link_config p x y v ≡ x v → x' v ≡ after v) → IsUntouched link_config (seen link_config p x y) after (1 - p) → EndInvariant link_config after p end' place' → Leads link_config after p u w end' place' → Cut link_config p x end place y u w → Cut link_config p x' end' place' y u w
+  settled end' place' after same keep mine leads c = record {
+    before = moved link_config after (seen link_config p x' y) p end' place' u w is
+        record { state = own_state link_config is p p2 x' y ∙ same p (own_state link_config is p p2 x y); section = λ j lt. own_word link_config is p p2 x' y j lt ∙ same _ (own_word link_config is p p2 x y j lt) }
+        record { state = their_state link_config is p p2 x' y ∙ (sym (their_state link_config is p p2 x y) ∙ sym keep.state); section = λ j lt. their_word link_config is p p2 x' y j lt ∙ (sym (their_word link_config is p p2 x y j lt) ∙ sym (keep.section j lt)) }
+        record { mine = mine; theirs = alone_kept.others link_config (1 - p) (seen link_config p x y) after u w is keep c.before.theirs; mark = leads.sound.0; from = leads.from; back = leads.back; faces = leads.faces };
+    calm = leads.sound.1;
+    theirs = c.theirs;
+  }
+
+  -- a step whose read meets what is seen
+  pub step_cut : (value : ℕ) → is_open place ≡ true → MemoryAfter p x (access_at (config_of link_config p) place) x' → ReadsMemory (seen link_config p x y) (access_at (config_of link_config p) place) value → Cut link_config p x end place y u w →
+      Cut link_config p x' (end_after end (step_at (config_of link_config p) place value)) (next_place (config_of link_config p) place value) y u w
+  step_cut value opened left met c = let m = seen link_config p x y in let a = access_at (config_of link_config p) place in let after = after_of p m a in let l = left_so p m a in
+      let mine = alone_kept.steps link_config p m after end place value is p2 opened l c.before.mine in
+      settled _ _ after (λ v same. own_after p x x' m a v left same) (untouched link_config is p p2 m after end place c.before.mine l) mine
+      (leads link_config is p p2 m end u w after place value opened c.calm met l mine c.before) c
+
+  -- a reset
+  pub reset_cut : Stored x x' p 0 → Cut link_config p x end place y u w → Cut link_config p x' (after_reset end) Closed y u w
+  reset_cut stored c = let m = seen link_config p x y in let after : ℕ → ℕ = λ v. if v == p then 0 else m v in let l = put m p 0 in
+      settled _ _ after (λ v same. one_put x x' m p 0 v stored same) (by_state link_config is p p2 m after end 0 l) (alone_kept.resets link_config p m after end place is p2 l c.before.mine)
+      (leads_reset link_config m after p end u w place is p2 l c.before) c
+
+-- A call begins (as PairKept has it)
+
+enters : (link_config : LinkConfig) (memory : ℕ → ℕ) (p : ℕ) (end u : End) (w : Place) (next : Place) → next ≢ Refusing → next ≢ WritingState 3 → next ≢ WritingState 1 → freed_at end.freed next ≡ end.freed → ((field : Field → ℕ) (frames : List (List ℕ)) → Polls link_config field frames next) → Before link_config memory p end Closed u w → Leads link_config memory p u w end next
+enters link_config memory p end u w next calm three one read polls b = record {
+  sound = (b.mark, calm);
+  from = λ a. b.from (earlier a);
+  back = λ a. ((b.back a).0, one);
+  faces = λ a. let f = b.faces (⊎_elim (λ x. inl (earlier x)) inr a) in record { mine = f.mine; theirs = f.theirs; sends = subst (λ k. InFlight link_config (fields link_config memory (1 - p)) end.accepted end.freed k u.delivered u.returned w) (sym read) f.sends; takes = takes_on next (λ k. refl) (polls (fields link_config memory p) u.accepted) f.takes };
+}
+  where
+    earlier : IsAttached end next → IsAttached end Closed
+    earlier (inl e) = inl e
+    earlier (inr h) = absurd (three h.1)
+
+either : (link_config : LinkConfig) (memory : ℕ → ℕ) (p : ℕ) (end u : End) (w : Place) (b : Bool) (x : Place) → Leads link_config memory p u w end x → Leads link_config memory p u w end NotInRun → Leads link_config memory p u w end (if b then x else NotInRun)
+either link_config memory p end u w true x h g = h
+either link_config memory p end u w false x h g = g
+
+first_leads : (link_config : LinkConfig) (memory : ℕ → ℕ) (p : ℕ) (end u : End) (w : Place) (call : Call) → Before link_config memory p end Closed u w → Leads link_config memory p u w end (first_place (config_of link_config p) end call)
+first_leads link_config memory p end u w Tick b = enters link_config memory p end u w (ReadingOtherState end.handshake) (λ e. cc) (λ e. cc) (λ e. cc) refl (λ f fs. tt) b
+first_leads link_config memory p end u w Stop b = enters link_config memory p end u w (WritingState 0) (λ e. cc) (set_apart refl (λ e. omega arith)) (set_apart refl (λ e. omega arith)) refl (λ f fs. tt) b
+first_leads link_config memory p end u w (Offer frame) b = either link_config memory p end u w (in_run end.handshake.phase) (ReadingUsedIndex (pending_of (config_of link_config p) end frame) end.freed) (enters link_config memory p end u w _ (λ e. cc) (λ e. cc) (λ e. cc) refl (λ f fs. tt) b) (enters link_config memory p end u w NotInRun (λ e. cc) (λ e. cc) (λ e. cc) refl (λ f fs. tt) b)
+first_leads link_config memory p end u w Poll b = either link_config memory p end u w (in_run end.handshake.phase) (ReadingAvailIndex (length end.delivered) (is_last (config_of link_config p) end.found_none)) (enters link_config memory p end u w _ (λ e. cc) (λ e. cc) (λ e. cc) refl (λ f fs. tt) b) (enters link_config memory p end u w NotInRun (λ e. cc) (λ e. cc) (λ e. cc) refl (λ f fs. tt) b)
+
+pub begin_cut : (link_config : LinkConfig) (is : IsLinkConfig link_config) (p : ℕ) (p2 : p < 2) {x y : ℕ → ℕ} {end : End} {u : End} {w : Place} (call : Call) → IsGivenTo link_config call → Cut link_config p x end Closed y u w → Cut link_config p x end (first_place (config_of link_config p) end call) y u w
+begin_cut link_config is p p2 {x} {y} {end} {u} {w} call given c = let m = seen link_config p x y in let l = first_leads link_config m p end u w call c.before in record {
+  before = record { mine = alone_kept.begins link_config p m end call is given c.before.mine; theirs = c.before.theirs; mark = l.sound.0; from = l.from; back = l.back; faces = l.faces };
+  calm = l.sound.1;
+  theirs = c.theirs;
+}

@@ -1,0 +1,15 @@
+pub mod Cuts
+pub mod Diamond
+pub mod Held
+pub mod Advance
+pub mod Same
+pub mod Apart
+pub mod Looks
+pub mod Main
+pub mod OneEnd
+pub mod Sessions
+pub mod Rise
+pub mod Wake
+pub mod Extend
+pub mod Sequential
+pub mod Buffered

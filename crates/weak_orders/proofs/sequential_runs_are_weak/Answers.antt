@@ -1,0 +1,5 @@
+use Rattle.weak_orders.proofs.Sequential.{sequential_lem}
+use Rattle.weak_orders.proofs.sequential_runs_are_weak.Goals as goal
+
+pub returns : goal.returns
+returns c = sequential_lem

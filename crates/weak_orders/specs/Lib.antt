@@ -1,0 +1,7 @@
+pub mod Orders
+pub mod Memory
+pub mod Runs
+pub mod Sessions
+pub mod Wake
+pub mod OneEnd
+pub mod Stronger

@@ -1,8 +1,9 @@
 /* A fuzz target for a driver of peer 0 (driver.h), for libFuzzer and AFL++:
  *
  *     clang -g -O1 -fsanitize=fuzzer,address fuzz.c DRIVER.c -o fuzz && ./fuzz CORPUS
- *     afl-clang-fast -O1 -fsanitize=fuzzer fuzz.c DRIVER.c -o fuzz && afl-fuzz -i CORPUS -o FOUND ./fuzz
- *     cc -DSTANDALONE fuzz.c DRIVER.c -o fuzz && ./fuzz FILE..          (these inputs once, without a fuzzer)
+ *     afl-clang-fast -O1 -fsanitize=fuzzer fuzz.c DRIVER.c -o fuzz
+ *     afl-fuzz -i CORPUS -o FOUND ./fuzz
+ *     cc -DSTANDALONE fuzz.c DRIVER.c -o fuzz && ./fuzz FILE..     these once, without a fuzzer
  *
  * The bytes of the input choose the calls and the value of each read, so the other peer and the
  * words between two reads are whatever the fuzzer makes of them. After each access the laws

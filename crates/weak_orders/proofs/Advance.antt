@@ -4,8 +4,9 @@ use Rattle.split_ring.specs.declared.steps.Access.{Access}
 use Rattle.split_ring.specs.declared.steps.Access.TheVariants as access
 use Rattle.call_grammar.specs.Ends.{End, end_after}
 use Rattle.link_handshake.specs.HandshakeState.{HandshakeState}
-use Rattle.split_ring.specs.Layout.{word_offset, AvailIndex}
-use Rattle.call_grammar.specs.Places.{Place, access_at, next_place, step_at, ReadingOtherState, ReadingAvailIndex, ReadingAvailEvent}
+use Rattle.split_ring.specs.Layout.{word_offset, AvailIndex, UsedIndex}
+use Rattle.call_grammar.specs.Places.{Place, access_at, next_place, step_at, ReadingOtherState, ReadingUsedIndex, ReadingAvailIndex, ReadingAvailEvent}
+use Rattle.call_grammar.specs.Offers.{PendingOffer}
 use Rattle.link_invariant.specs.LinkConfig.{LinkConfig, IsLinkConfig, config_of, section_of}
 use Rattle.link_invariant.specs.Steps.{ReadsMemory, MemoryAfter}
 use Rattle.link_invariant.specs.EndInvariant.{EndInvariant}
@@ -30,6 +31,12 @@ Found link_config p m m' others (Takes value) = (t : ℕ) (last : Bool) → m.pl
     (s : ℕ) × (m.view ≤ s) × (s ≤ m'.view) × (value ≡ seen link_config p m.words (others s).words (section_of link_config (1 - p) + word_offset link_config.sizes AvailIndex))
 Found link_config p m m' others _ = Unit {0}
 
+-- and of a look at the used index
+abbrev pub Reclaimed : LinkConfig → ℕ → (m m' : Moment) → (others : ℕ → Moment) → Action → Type 0
+Reclaimed link_config p m m' others (Takes value) = (pending : PendingOffer) (freed : ℕ) → m.place ≡ ReadingUsedIndex pending freed →
+    (s : ℕ) × (m.view ≤ s) × (s ≤ m'.view) × (value ≡ seen link_config p m.words (others s).words (section_of link_config (1 - p) + word_offset link_config.sizes UsedIndex))
+Reclaimed link_config p m m' others _ = Unit {0}
+
 -- and a doorbell that was heard
 abbrev pub Rung : LinkConfig → ℕ → Moment → (others : ℕ → Moment) → Action → Type 0
 Rung link_config p m' others (Hears k) = Heard link_config p m' others k
@@ -43,6 +50,7 @@ pub record Trail (link_config : LinkConfig) (p : ℕ) (past : ℕ → Moment) (k
   pub fence : (past (suc k)).action ≡ Fences → (past (suc k)).fenced ≡ suc k
   pub took : Took link_config p (past k) (past (suc k)) others (past (suc k)).action
   pub found : Found link_config p (past k) (past (suc k)) others (past (suc k)).action
+  pub reclaimed : Reclaimed link_config p (past k) (past (suc k)) others (past (suc k)).action
   pub rung : Rung link_config p (past (suc k)) others (past (suc k)).action
 
 -- each two moments of which neither knows of more than the other has done hold together; what an end knows the other has done; of two full fences the later one knows

@@ -10,6 +10,7 @@ pub mod OneEnd
 pub mod Sessions
 pub mod Rise
 pub mod Wake
+pub mod Bell
 pub mod Extend
 pub mod Sequential
 pub mod Buffered

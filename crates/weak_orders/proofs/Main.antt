@@ -10,8 +10,9 @@ use Rattle.link_handshake.specs.PhaseTable.{state_of}
 use Rattle.call_grammar.specs.Ends.{End, fresh, end_after}
 use Rattle.call_grammar.proofs.Phases.{phases}
 use Rattle.link_handshake.specs.HandshakeState.{HandshakeState}
-use Rattle.split_ring.specs.Layout.{word_offset, AvailIndex}
+use Rattle.split_ring.specs.Layout.{word_offset, AvailIndex, UsedIndex}
 use Rattle.call_grammar.specs.Calls.{Call, Tick, Stop, Offer, Poll, in_run, pending_of}
+use Rattle.call_grammar.specs.Offers.{PendingOffer}
 use Rattle.call_grammar.specs.Polls.{is_last}
 use Rattle.call_grammar.specs.Places.{Place, Closed, WritingState, Refusing, ReadingAvailEvent, access_at, next_place, step_at, ReadingOtherState, ReadingAvailIndex, ReadingUsedIndex, NotInRun, first_place}
 use Rattle.link_invariant.specs.LinkConfig.{LinkConfig, IsLinkConfig, config_of, section_of}
@@ -25,7 +26,7 @@ use Rattle.weak_orders.specs.Memory.{Moment, Action, Starts, Begins, Takes, Fenc
 use Rattle.weak_orders.specs.Runs.{WeakRuns, starts, goes, WeakRunsAgree, IsFirst}
 use Rattle.weak_orders.proofs.Cuts.{own_state, Cut, flip, their_state}
 use Rattle.weak_orders.proofs.Held.{At, like, met, action_cut, Comes}
-use Rattle.weak_orders.proofs.Advance.{Held, Trail, Sourced, Took, Found, Rung, left_read, beside}
+use Rattle.weak_orders.proofs.Advance.{Held, Trail, Sourced, Took, Found, Reclaimed, Rung, left_read, beside}
 use Rattle.weak_orders.proofs.Apart.{IsKey, key_released}
 use Rattle.weak_orders.proofs.Looks.{Kind, kinds, event_cut, acquired, relaxed}
 
@@ -131,6 +132,23 @@ module _ (link_config : LinkConfig) (is : IsLinkConfig link_config) (pasts : ℕ
             let view = held.views p p2 (now p) (omega arith) in
             let h : PlaceInvariant link_config (seen link_config p Old.words (pasts (1 - p) (now (1 - p))).words) p Old.end (ReadingAvailIndex t last) = subst (PlaceInvariant link_config (seen link_config p Old.words (pasts (1 - p) (now (1 - p))).words) p Old.end) at (beside link_config is pasts now held p p2 (now (1 - p)) view (omega arith)).before.mine.holds in
             (suc store.0, omega arith, store.5 (ap acquires at) (is_released store.0 _ (omega arith) store.2 (inr (inl refl)) (inl h.0) store.3), store.4)
+
+    -- and of a look at the used index
+    new_reclaimed : (action : Action) → Loads link_config p Old New knows.base (pasts (1 - p)) (now (1 - p)) action → Reclaimed link_config p Old New (pasts (1 - p)) action
+    new_reclaimed Starts l = tt
+    new_reclaimed (Begins call) l = tt
+    new_reclaimed Fences l = tt
+    new_reclaimed (Hears h) l = tt
+    new_reclaimed Resets l = tt
+    new_reclaimed (Takes v) l = λ pending freed at. from_gives pending freed at (gives_of link_config p Old New knows.base (pasts (1 - p)) (now (1 - p)) v (section_of link_config (1 - p) + word_offset link_config.sizes UsedIndex) _ (ap (λ (k : Place). access_at (config_of link_config p) k) at) l)
+      where
+        from_gives : (pending : PendingOffer) (freed : ℕ) → Old.place ≡ ReadingUsedIndex pending freed → Gives link_config p Old New knows.base (pasts (1 - p)) (now (1 - p)) (section_of link_config (1 - p) + word_offset link_config.sizes UsedIndex) v →
+            (s : ℕ) × (Old.view ≤ s) × (s ≤ New.view) × (v ≡ seen link_config p Old.words (pasts (1 - p) s).words (section_of link_config (1 - p) + word_offset link_config.sizes UsedIndex))
+        from_gives pending freed at (inl gave) = (knows.base, knows.rises, knows.keeps, gave)
+        from_gives pending freed at (inr store) = let rises = knows.rises in let low = store.1 in let lt = store.2 in
+            let view = held.views p p2 (now p) (omega arith) in
+            let h : PlaceInvariant link_config (seen link_config p Old.words (pasts (1 - p) (now (1 - p))).words) p Old.end (ReadingUsedIndex pending freed) = subst (PlaceInvariant link_config (seen link_config p Old.words (pasts (1 - p) (now (1 - p))).words) p Old.end) at (beside link_config is pasts now held p p2 (now (1 - p)) view (omega arith)).before.mine.holds in
+            (suc store.0, omega arith, store.5 (ap acquires at) (is_released store.0 _ (omega arith) store.2 (inr (inr refl)) (inl h.0) store.3), store.4)
 
 no_false : true ≡ false → ⊥
 no_false e = let g : ⊥ = cc in g
@@ -268,7 +286,7 @@ module _ (link_config : LinkConfig) (is : IsLinkConfig link_config) (pasts : ℕ
 
   mine_trail : (k : ℕ) → suc k ≤ suc (now p) → Trail link_config p (pasts p) k (pasts (1 - p)) (now (1 - p))
   mine_trail k le = dite (ℕ_discrete k (now p))
-      (λ e. subst (λ k. Trail link_config p (pasts p) k (pasts (1 - p)) (now (1 - p))) (sym e) record { does = does; sourced = new_source link_config is pasts now held p p2 knows (pasts p (suc (now p))).action knows.loads; rises = (let rises = knows.rises in let keeps = knows.keeps in omega arith); took = new_took link_config is pasts now held p p2 knows (pasts p (suc (now p))).action knows.loads; found = new_found link_config is pasts now held p p2 knows (pasts p (suc (now p))).action knows.loads; rung = new_rung link_config is pasts now held p p2 knows (pasts p (suc (now p))).action knows.loads; climbs = mine_low (now p) (omega arith); fence = (λ (e : (pasts p (suc (now p))).action ≡ Fences). let f : FencedBy (pasts p (now p)) (pasts p (suc (now p))) (suc (now p)) (pasts (1 - p)) (now (1 - p)) Fences = subst (λ d. FencedBy (pasts p (now p)) (pasts p (suc (now p))) (suc (now p)) (pasts (1 - p)) (now (1 - p)) d) e knows.fence in f.1) })
+      (λ e. subst (λ k. Trail link_config p (pasts p) k (pasts (1 - p)) (now (1 - p))) (sym e) record { does = does; sourced = new_source link_config is pasts now held p p2 knows (pasts p (suc (now p))).action knows.loads; rises = (let rises = knows.rises in let keeps = knows.keeps in omega arith); took = new_took link_config is pasts now held p p2 knows (pasts p (suc (now p))).action knows.loads; found = new_found link_config is pasts now held p p2 knows (pasts p (suc (now p))).action knows.loads; reclaimed = new_reclaimed link_config is pasts now held p p2 knows (pasts p (suc (now p))).action knows.loads; rung = new_rung link_config is pasts now held p p2 knows (pasts p (suc (now p))).action knows.loads; climbs = mine_low (now p) (omega arith); fence = (λ (e : (pasts p (suc (now p))).action ≡ Fences). let f : FencedBy (pasts p (now p)) (pasts p (suc (now p))) (suc (now p)) (pasts (1 - p)) (now (1 - p)) Fences = subst (λ d. FencedBy (pasts p (now p)) (pasts p (suc (now p))) (suc (now p)) (pasts (1 - p)) (now (1 - p)) d) e knows.fence in f.1) })
       (λ ne. held.trail p p2 k (omega arith))
 
   pub held_on : (next : ℕ → ℕ) → next p ≡ suc (now p) → next (1 - p) ≡ now (1 - p) → Held link_config pasts next
@@ -303,7 +321,7 @@ module _ (link_config : LinkConfig) (is : IsLinkConfig link_config) (pasts : ℕ
         (λ a al. held.near (1 - p) o2 a (omega arith));
     trail = pick p p2 (λ r. (k : ℕ) → suc k ≤ next r → Trail link_config r (pasts r) k (pasts (1 - r)) (next (1 - r)))
         (λ k kl. subst (λ n. Trail link_config p (pasts p) k (pasts (1 - p)) n) (sym nq) (mine_trail k (omega arith)))
-        (λ k kl. let t = held.trail (1 - p) o2 k (omega arith) in let nn = ap now back in record { does = t.does; sourced = sourced_on link_config (1 - p) (pasts (1 - p) k) (pasts (1 - (1 - p))) (now (1 - (1 - p))) (next (1 - (1 - p))) (pasts (1 - p) (suc k)).action (omega arith) t.sourced; rises = t.rises; took = t.took; found = t.found; rung = t.rung; climbs = t.climbs; fence = t.fence });
+        (λ k kl. let t = held.trail (1 - p) o2 k (omega arith) in let nn = ap now back in record { does = t.does; sourced = sourced_on link_config (1 - p) (pasts (1 - p) k) (pasts (1 - (1 - p))) (now (1 - (1 - p))) (next (1 - (1 - p))) (pasts (1 - p) (suc k)).action (omega arith) t.sourced; rises = t.rises; took = t.took; found = t.found; reclaimed = t.reclaimed; rung = t.rung; climbs = t.climbs; fence = t.fence });
   }
 
 -- the start

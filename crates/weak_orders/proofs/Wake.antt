@@ -35,7 +35,7 @@ use Rattle.weak_orders.proofs.OneEnd.{safe_lem, alone_of}
 use Rattle.weak_orders.proofs.Sessions.{opened_up, one_lem}
 
 -- frames accepted stay where no session is opened
-not_two : (link_config : LinkConfig) (q : ℕ) (place : Place) (v : ℕ) → opens_at place (Takes v) ≡ 0 → (s : ℕ) → access_at (config_of link_config q) place ≡ access.State s → s ≢ 2
+pub not_two : (link_config : LinkConfig) (q : ℕ) (place : Place) (v : ℕ) → opens_at place (Takes v) ≡ 0 → (s : ℕ) → access_at (config_of link_config q) place ≡ access.State s → s ≢ 2
 not_two link_config q place v none s e f = by_place place none (ap state_in e ∙ f)
   where
     by_place : (place : Place) → opens_at place (Takes v) ≡ 0 → state_in (access_at (config_of link_config q) place) ≡ 2 → ⊥

@@ -3,5 +3,6 @@ pub mod Memory
 pub mod Runs
 pub mod Sessions
 pub mod Wake
+pub mod Bell
 pub mod OneEnd
 pub mod Stronger

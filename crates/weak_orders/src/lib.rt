@@ -18,6 +18,7 @@
 ghost use Rattle.weak_orders.specs.Runs.{WeakRunsAgree};
 ghost use Rattle.weak_orders.specs.Sessions.{WeakSessionsRise};
 ghost use Rattle.weak_orders.specs.Wake.{WeakDoorbellsRing};
+ghost use Rattle.weak_orders.specs.Bell.{DoorbellsFollowIndexes};
 ghost use Rattle.weak_orders.specs.OneEnd.{EndsAreSafe};
 ghost use Rattle.weak_orders.specs.Stronger.{SequentialRunsAreWeak, StoreBufferRunsAreWeak, LoadsMayBeStale};
 
@@ -37,6 +38,12 @@ pub fn weak_sessions_rise()
 /// reads the event, one sees the other.
 pub fn weak_doorbells_ring()
     ensures { WeakDoorbellsRing }
+{}
+
+/// A doorbell doesn't overtake its index: an end that hears it, and then looks, finds the frames that
+/// were accepted before it was rung.
+pub fn doorbells_follow_indexes()
+    ensures { DoorbellsFollowIndexes }
 {}
 
 /// One honest end keeps what holds of it alone, stores to its own words alone and stays refused,

@@ -26,3 +26,4 @@ pub mod OwnEntries
 pub mod MadeCalls
 pub mod Marking
 pub mod Waking
+pub mod SpelledReads

@@ -1,5 +1,5 @@
 -- A peer that found nothing is rung at the next frame.
-use Rattle.std.proofs.Common.{◌≡◌, ◌≢◌, ℕ, ◌-◌, ◌%◌, ◌<◌, ◌⊎◌, inl, inr, true, false, List, [], ◌∷◌, ◌++◌, length, length-append, refl, sym, ap, ◌∙◌, subst, append_assoc, arith, eq-eqb}
+use Rattle.std.proofs.Common.{◌≡◌, ◌≢◌, ℕ, ◌-◌, ◌%◌, ◌<◌, ◌⊎◌, inl, inr, true, false, List, [], ◌∷◌, ◌++◌, length, length-append, refl, sym, ap, ◌∙◌, subst, append_assoc, arith, eq-eqb, ne_eqb}
 use mathlib.Core.Logic.{dite}
 use native.Mathlib.Decide.{ℕ_discrete}
 use Rattle.std.specs.Prelude.{◌==◌, reverse, All}
@@ -12,7 +12,7 @@ use Rattle.scenario_text.specs.Scenario.{World, IsWorld, is_link}
 use Rattle.call_grammar.specs.Steps.{Mark, Saw, Reclaim, Full, Accept, Look, Deliver, Return, Done, Down, Refuse, Over}
 use Rattle.call_grammar.specs.Offers.{wants_doorbell}
 use Rattle.link_machine.specs.LinkMachine.{Side, SideEvent, Gave, Wrote, Marked, WasReset, MayLook}
-use Rattle.call_grammar.proofs.OfferLists.{yes}
+use Rattle.call_grammar.proofs.OfferLists.{yes, no}
 use Rattle.link_invariant.proofs.Wakes.{asks_there}
 use Rattle.lawful_history.specs.declared.line.Line.{Line}
 use Rattle.lawful_history.specs.declared.line.Line.TheVariants as line
@@ -98,7 +98,7 @@ mark_keeps peer p Over side e none = refl
 
 after_keeps : (peer p : ℕ) (told : SideEvent) (side : Side) → peer ≡ p → AcceptsNothing p (Tells peer told) → (side_after told side).accepted ≡ side.accepted
 after_keeps peer p (Gave value) side e none = refl
-after_keeps peer p (Wrote state) side e none = absurd (none e)
+after_keeps peer p (Wrote state) side e none = no (state == 2) [] side.accepted (ne_eqb state 2 (none e))
 after_keeps peer p (Marked mark) side e none = mark_keeps peer p mark side e none
 after_keeps peer p WasReset side e none = refl
 
@@ -119,7 +119,7 @@ goes_marked peer p mark goes = tt
 
 goes_told : (p : ℕ) (t : LineSideEvent) → GoesOn p t → AcceptsNothing p t
 goes_told p (Tells peer (Gave value)) goes = tt
-goes_told p (Tells peer (Wrote state)) goes = goes
+goes_told p (Tells peer (Wrote state)) goes = λ same. absurd (goes same)
 goes_told p (Tells peer (Marked mark)) goes = goes_marked peer p mark goes
 goes_told p (Tells peer WasReset) goes = tt
 goes_told p Silent goes = tt

@@ -6,6 +6,7 @@ pub mod Sessions
 pub mod Marks
 pub mod Reads
 pub mod Spelled
+pub mod Delivered
 pub mod Devices
 pub mod Indexes
 pub mod Quiet

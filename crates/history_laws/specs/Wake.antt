@@ -40,9 +40,9 @@ GoesOn p Silent = Unit {0}
 abbrev pub IsRungIn : World → ℕ → List Line → Type 0
 IsRungIn world p lines = (earlier later : List Line) × (lines ≡ earlier ++ doorbell_of world p ∷ later)
 
--- the line is no accept and no write of the state of peer p
+-- the line is no accept of peer p and doesn't open a session of p, which a write of State 2 does
 abbrev pub AcceptsNothing : ℕ → LineSideEvent → Type 0
-AcceptsNothing p (Tells peer (Wrote state)) = peer ≢ p
+AcceptsNothing p (Tells peer (Wrote state)) = peer ≡ p → state ≢ 2
 AcceptsNothing p (Tells peer (Marked (mark.Accept frame))) = peer ≢ p
 AcceptsNothing p (Tells peer _) = Unit {0}
 AcceptsNothing p Silent = Unit {0}

@@ -11,11 +11,14 @@
 //!   an open one is held against the bound of each list that it may end as, and against one number for the whole queue.
 //! - What a peer has read is what stands since its last mark or reset; a write or a doorbell between two reads breaks nothing. So the
 //!   reads of one item are a list of lines, with no place of a call in it.
+//! - A delivered frame is told twice: by the reads of its item, which a reader of lines can look up, and as spelled by the values of these
+//!   reads, in the words by which a section spells a frame.
 //! - That a refused side writes 0 alone is a row of the link machine, which speaks of one write at a time. `refused_peers_rest` says
 //!   the same of the whole burst of lines from a refusal to the next reset, with no side in it.
 #![tactic(auto)]
 
 ghost use Rattle.history_laws.specs.Calls.{CallsEndWithinBounds};
+ghost use Rattle.history_laws.specs.Delivered.{DeliveredFramesAreSpelled};
 ghost use Rattle.history_laws.specs.Devices.{DeviceActsChangeNothing};
 ghost use Rattle.history_laws.specs.Indexes.{IndexesAreReadOnce};
 ghost use Rattle.history_laws.specs.Marks.{SessionsAreNumbered};
@@ -77,6 +80,11 @@ pub fn accepted_frames_stand_in_the_section()
 /// A delivered frame is the one that was read for its item: each field once, in its order and in range.
 pub fn delivered_frames_are_read()
     ensures { DeliveredFramesAreRead }
+{}
+
+/// The values that a peer reads for an item spell the frame that it delivers, at the position of the item. No word is read twice for it.
+pub fn delivered_frames_are_spelled()
+    ensures { DeliveredFramesAreSpelled }
 {}
 
 /// A refused value stands in what its peer read last, in the field by whose name it is refused, and is outside that field's range.

@@ -1,8 +1,8 @@
 //! Each law may be called: none of them asks anything of its caller.
 use history_laws::{
     accepted_frames_stand_in_the_section, calls_end_within_bounds, delivered_frames_are_read,
-    device_acts_change_nothing, done_polls_deliver_all, histories_deliver,
-    histories_run_the_machine, honest_peers_never_refuse, indexes_are_read_once,
+    delivered_frames_are_spelled, device_acts_change_nothing, done_polls_deliver_all,
+    histories_deliver, histories_run_the_machine, honest_peers_never_refuse, indexes_are_read_once,
     refused_peers_rest, refused_values_are_out_of_range, refused_values_are_read, resets_are_quiet,
     sessions_are_numbered, values_out_of_range_are_refused, wakes_are_rung,
 };
@@ -17,6 +17,7 @@ fn laws_of_histories() {
     histories_deliver();
     accepted_frames_stand_in_the_section();
     delivered_frames_are_read();
+    delivered_frames_are_spelled();
     refused_values_are_read();
     values_out_of_range_are_refused();
     indexes_are_read_once();

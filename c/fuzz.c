@@ -34,8 +34,8 @@ static struct {
     bool refused;               /* State 0 was written in an offer or a poll, and no reset came since */
     uint64_t span;              /* a number for the reads between two stores, of all inputs so far */
     uint64_t read_in[REGION];   /* in which span a word was read last */
-    uint32_t values[LONGEST];   /* that the reads of the call gave, in turn */
-    uint32_t reads;             /* of the call */
+    uint32_t values[LONGEST];   /* that the reads of this span gave, in turn */
+    uint32_t reads;             /* of the span */
 } seen;
 
 /* ---- the input ---- */
@@ -105,6 +105,7 @@ void world_store(uint32_t word, uint32_t value)
     law(word >= FIRST && word < OTHER, "a write is in the own section");
     law(!seen.refused, "a refusal stays: no write");
     seen.span++;
+    seen.reads = 0;
 }
 
 void world_state(uint32_t value)

@@ -101,7 +101,9 @@ IsBeyond sizes side field_name.UsedId value =
 abbrev pub frame_fits : Sizes → Side → List ℕ → Bool
 frame_fits sizes side frame = has_room sizes (lengths_of (side.accepted ++ frame ∷ [])) side.freed (length side.accepted)
 
--- a frame that may be offered has no room, and no more are in flight than may be: where there are slots, just as many as may be
+-- a frame that may be offered does not fit, and at most `limit` frames are in flight; with slots, exactly as many as the limit. The mark
+-- carries no frame, so with a byte ring this says less than that the offered frame does not fit. `full_marks` of
+-- call_grammar/specs/Offers says exactly that of each offer, by `frame_fits`
 pub record IsFull (sizes : Sizes) (side : Side) : Type 0 where
   pub frame : List ℕ
   pub least : 14 ≤ length frame

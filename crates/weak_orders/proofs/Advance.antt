@@ -15,7 +15,7 @@ use Rattle.weak_orders.proofs.Cuts.{Cut, flip}
 use Rattle.weak_orders.proofs.Diamond.{Looked, looked, Clash, diamond}
 use Rattle.weak_orders.proofs.Held.{At, like, turn, met, action_cut, Comes, no_clash}
 
--- where the look of a action came from
+-- where the look of an action came from
 abbrev pub Sourced : LinkConfig → ℕ → Moment → (others : ℕ → Moment) → (now : ℕ) → Action → Type 0
 Sourced link_config p m others now (Takes value) = (word : ℕ) → access_at (config_of link_config p) m.place ≡ access.Read word → Comes link_config p m others now value word
 Sourced link_config p m others now _ = Unit {0}

@@ -37,7 +37,7 @@ met (access.State state) value = inl (λ m. tt)
 met (access.Ring target vector) value = inl (λ m. tt)
 met access.Nothing value = inl (λ m. tt)
 
--- a action of p beside the other: what it reads is what is seen
+-- an action of p beside the other: what it reads is what is seen
 abbrev pub MeetsBy : LinkConfig → ℕ → Moment → (ℕ → ℕ) → Action → Type 0
 MeetsBy link_config p old y (Takes value) = ReadsMemory (seen link_config p old.words y) (access_at (config_of link_config p) old.place) value
 MeetsBy link_config p old y _ = Unit {0}

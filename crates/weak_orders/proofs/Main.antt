@@ -159,7 +159,7 @@ unfenced link_config p (WritingState state) next s f e = no_false f
 unfenced link_config p Refusing next s f e = no_false f
 unfenced link_config p place next s f e = cc
 
--- a action after which no fence is owed is a fence, or owed none before it and left the phase as it was
+-- an action after which no fence is owed is a fence, or owed none before it and left the phase as it was
 frees : (link_config : LinkConfig) (p : ℕ) (old new : Moment) (action : Action) → Does link_config p old new action → new.owed ≡ false → (action ≡ Fences) ⊎ ((old.owed ≡ false) × (new.end.handshake.phase ≡ old.end.handshake.phase))
 frees link_config p old new Starts d f = absurd d
 frees link_config p old new (Begins call) d f = inr (sym d.5 ∙ f, ap (λ (e : End). e.handshake.phase) d.3)
@@ -191,7 +191,7 @@ event_fenced link_config p old new Fences t d f e = inl refl
 event_fenced link_config p old new (Hears k) t d f e = inr ((k, refl), sym d.3 ∙ f, sym d.2 ∙ e)
 event_fenced link_config p old new Resets t d f e = absurd (no_false (sym d.3 ∙ f))
 
--- a action is a fence, or the last fence stays
+-- an action is a fence, or the last fence stays
 fence_or : (old new : Moment) (at : ℕ) (theirs : ℕ → Moment) (now : ℕ) (action : Action) → FencedBy old new at theirs now action → (((theirs now).fenced ≤ new.view) × (new.fenced ≡ at)) ⊎ (new.fenced ≡ old.fenced)
 fence_or old new at theirs now Starts f = inr f
 fence_or old new at theirs now (Begins call) f = inr f

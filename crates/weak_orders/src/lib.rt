@@ -28,8 +28,8 @@ pub fn weak_runs_agree()
     ensures { WeakRunsAgree }
 {}
 
-/// Each session in which an end attends is of one session of the other, whose frames it delivers in
-/// order, and later ones are of later ones.
+/// While an end is attached, the other's session is one and the same, and its frames are delivered in
+/// order. A later session of the end is attached to a later session of the other.
 pub fn weak_sessions_rise()
     ensures { WeakSessionsRise }
 {}

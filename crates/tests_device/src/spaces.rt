@@ -9,12 +9,19 @@ use pci_space::{
 use section_map::Geometry;
 use std::test::Fail;
 
+/// The space of a device of the worked configuration, with this protocol.
+fn space_of(protocol: u16, wiring: Wiring) -> Result<ConfigSpace, Fail>
+    requires { IsWiring wiring }
+{
+    let geometry = Geometry::new(2, 4096, 0, 16384)?;
+    Ok(device_space(&geometry, protocol, wiring))
+}
+
 /// The space of a device of the worked configuration.
 fn worked_space(wiring: Wiring) -> Result<ConfigSpace, Fail>
     requires { IsWiring wiring }
 {
-    let geometry = Geometry::new(2, 4096, 0, 16384)?;
-    Ok(device_space(&geometry, 1, wiring))
+    space_of(1, wiring)
 }
 
 /// All bytes of a space.
@@ -177,6 +184,14 @@ fn finds_the_device(rt: HostRuntime) -> Result<(), Fail> {
             ..found
         })
     );
+    Ok(())
+}
+
+/// Whether a walk finds the protocol of sampling ports, 4001h.
+#[test]
+fn finds_the_protocol_of_ports(rt: HostRuntime) -> Result<(), Fail> {
+    let bytes = bytes_of(&space_of(0x4001, Wiring::Msix(2))?)?;
+    assert_eq!(rt; walk(&bytes).map(|found| found.protocol), Ok(16385));
     Ok(())
 }
 

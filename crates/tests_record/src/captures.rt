@@ -1,14 +1,14 @@
 //! Files, histories and scenarios by their bytes.
-ghost use Rattle.std.specs.Prelude.{◌≡◌, ◌≤◌, All, IfOk, IsTrue, length, vec_len};
+ghost use Rattle.std.specs.Prelude.{All, IsTrue};
 ghost use Rattle.frame_capture.specs.Deliveries.{IsShortLine};
 
 use frame_capture::{
-    Capture, CaptureFault, FeedFault, Packet, Packets, captured, faults_are_exact,
-    file_is_of_one_capture, frames_are_delivered, parse, print, scenario_of,
+    Capture, FeedFault, Packet, Packets, captured, faults_are_exact, file_is_of_one_capture,
+    frames_are_delivered, parse, print, scenario_of,
 };
 use ivs_base::Frame;
 use lawful_history::Line;
-use std::alloc::{AllocError, Global};
+use std::alloc::Global;
 use std::process::Abort;
 use std::test::Fail;
 
@@ -43,131 +43,6 @@ fn one_packet_in_both_orders(rt: HostRuntime) -> Result<(), Fail> {
     }
     file_is_of_one_capture();
     faults_are_exact();
-    Ok(())
-}
-
-/// The file with these bytes at a place, where they fit.
-fn with(alloc: Global, file: &[u8], place: usize, bytes: &[u8]) -> Result<Vec<u8>, AllocError>
-    ensures { IfOk result (λ edited. vec_len edited ≡ length file.now) }
-{
-    let mut edited = file.to_vec(alloc)?;
-    if place <= edited.len() && bytes.len() <= edited.len() - place {
-        edited[place..place + bytes.len()].copy_from_slice(bytes);
-    }
-    Ok(edited)
-}
-
-#[test]
-fn a_fault_of_each_kind(rt: HostRuntime) -> Result<(), Fail> {
-    let alloc = rt.alloc();
-    // what is put at a place of the little file, and of the big one
-    let cases: [(usize, &[u8], &[u8], Option<CaptureFault>); 13] = [
-        (
-            0,
-            b"\xd4\xc3\xb2\xa2",
-            b"\xd4\xc3\xb2\xa2",
-            Some(CaptureFault::BadMagic(2_729_624_532)),
-        ),
-        // nanoseconds
-        (
-            0,
-            b"\x4d\x3c\xb2\xa1",
-            b"\x4d\x3c\xb2\xa1",
-            Some(CaptureFault::BadMagic(2_712_812_621)),
-        ),
-        (
-            4,
-            b"\x04\x00\x02\x00",
-            b"\x00\x04\x00\x02",
-            Some(CaptureFault::BadVersion { major: 4, minor: 2 }),
-        ),
-        (
-            6,
-            b"\x03\x00",
-            b"\x00\x03",
-            Some(CaptureFault::BadVersion { major: 2, minor: 3 }),
-        ),
-        // zone and figures may be any
-        (
-            8,
-            b"\x10\x0e\x00\x00\x06\x00\x00\x00",
-            b"\xff\xff\xff\xff\xff\xff\xff\xff",
-            None,
-        ),
-        (
-            20,
-            b"\x65\x00\x00\x00",
-            b"\x00\x00\x00\x65",
-            Some(CaptureFault::BadLinkType(101)),
-        ),
-        (
-            20,
-            b"\x00\x00\x00\x01",
-            b"\x01\x00\x00\x00",
-            Some(CaptureFault::BadLinkType(16_777_216)),
-        ),
-        // a captured length of 2^32 - 1, of 262,145, of 262,144, and one byte too many
-        (
-            32,
-            b"\xff\xff\xff\xff",
-            b"\xff\xff\xff\xff",
-            Some(CaptureFault::BadPacket(1)),
-        ),
-        (
-            32,
-            b"\x01\x00\x04\x00",
-            b"\x00\x04\x00\x01",
-            Some(CaptureFault::BadPacket(1)),
-        ),
-        (
-            32,
-            b"\x00\x00\x04\x00",
-            b"\x00\x04\x00\x00",
-            Some(CaptureFault::CutPacket(1)),
-        ),
-        (
-            32,
-            b"\x0f\x00\x00\x00",
-            b"\x00\x00\x00\x0f",
-            Some(CaptureFault::CutPacket(1)),
-        ),
-        // an original length of 2^32 - 1, and times
-        (36, b"\xff\xff\xff\xff", b"\xff\xff\xff\xff", None),
-        (
-            24,
-            b"\xff\xff\xff\xff\xff\xff\xff\xff",
-            b"\xff\xff\xff\xff\xff\xff\xff\xff",
-            None,
-        ),
-    ];
-    for (place, little, big, fault) in cases {
-        let file = with(alloc, &LITTLE, place, little)?;
-        assert!(rt; parse(alloc, &file).err() == fault, "little at {place}");
-        let file = with(alloc, &BIG, place, big)?;
-        assert!(rt; parse(alloc, &file).err() == fault, "big at {place}");
-    }
-    Ok(())
-}
-
-#[test]
-fn cut_at_each_byte(rt: HostRuntime) -> Result<(), Fail> {
-    let alloc = rt.alloc();
-    for file in [LITTLE, BIG] {
-        let mut two = file.to_vec(alloc)?;
-        two.extend_from_slice(&file[24..])?;
-        for cut in 0..=60 {
-            let fault = match cut {
-                0..=23 => Some(CaptureFault::Short(cut as u64)),
-                24 | 54 => None,
-                25..=53 => Some(CaptureFault::CutPacket(1)),
-                _ => Some(CaptureFault::CutPacket(2)),
-            };
-            assert!(rt; cut <= two.len());
-            assert!(rt; parse(alloc, &two[..cut]).err() == fault, "{cut} bytes");
-        }
-        let capture = parse(alloc, &two)?;
-        assert_eq!(rt; capture.packets.items().len(), 2);
-    }
     Ok(())
 }
 
@@ -238,55 +113,6 @@ fn lines_above_a_million_have_seconds(rt: HostRuntime) -> Result<(), Fail> {
         b"\x02\x00\x00\x00\x07\x00\x00\x00\x01\x00\x00\x00\x01\x00\x00\x00\xff",
     )?;
     assert!(rt; file_of(&rt, alloc, &record, 0)?.as_slice() == want.as_slice());
-    Ok(())
-}
-
-/// The text of a scenario up to its acts.
-const HEAD: &[u8] =
-    b"ivshm 1\npeers 2\ntable 4096\ncommon 0\nout 520192\nmtu 16384\nirq msix 2\npeer 0 honest\npeer 1 honest\nbegin\n";
-
-/// The text of the scenario made of a file.
-fn fed<R: Abort>(rt: &R, alloc: Global, file: &[u8], peer: u32) -> Result<Vec<u8>, Fail> {
-    let capture = parse(alloc, file)?;
-    assert!(rt; peer < 2);
-    let scenario = scenario_of(alloc, &capture, peer)?;
-    Ok(scenario_text::print(alloc, &scenario)?)
-}
-
-/// The head, these acts, so many rounds and the end.
-fn text_of(alloc: Global, acts: &[u8], rounds: u32) -> Result<Vec<u8>, Fail> {
-    let mut text = HEAD.to_vec(alloc)?;
-    text.extend_from_slice(acts)?;
-    for _ in 0..rounds {
-        text.extend_from_slice(b"turn 0 1000\nturn 1 1000\n")?;
-    }
-    text.extend_from_slice(b"end\n")?;
-    Ok(text)
-}
-
-#[test]
-fn whole_frames_are_offered(rt: HostRuntime) -> Result<(), Fail> {
-    let alloc = rt.alloc();
-    let want = text_of(
-        alloc,
-        b"auto 0 0\nauto 1 1\noffer 0 ffffffffffff0200000000010800\n",
-        300,
-    )?;
-    assert!(rt; fed(&rt, alloc, &BIG, 0)?.as_slice() == want.as_slice());
-    // the second packet was shortened to 14 bytes of 60
-    let mut two = LITTLE.to_vec(alloc)?;
-    two.extend_from_slice(&with(alloc, &LITTLE, 36, b"\x3c")?[24..])?;
-    let want = text_of(
-        alloc,
-        b"auto 1 0\nauto 0 1\noffer 1 ffffffffffff0200000000010800\n",
-        300,
-    )?;
-    assert!(rt; fed(&rt, alloc, &two, 1)?.as_slice() == want.as_slice());
-    // a frame of 13 bytes is too short for an offer
-    let mut file = with(alloc, &LITTLE, 32, b"\x0d\x00\x00\x00\x0d")?;
-    file.truncate(53);
-    let want = text_of(alloc, b"auto 0 0\nauto 1 0\n", 300)?;
-    assert!(rt; fed(&rt, alloc, &file, 0)?.as_slice() == want.as_slice());
     Ok(())
 }
 

@@ -13,5 +13,3 @@ mod models;
 mod schedules;
 #[cfg(test)]
 mod sizes;
-#[cfg(test)]
-mod verdicts;

@@ -1,13 +1,6 @@
-//! Tests of the two plain programs, in a crate of their own, so that the crates that they test are proved once.
+//! Tests of the calls of the reference program, in a crate of their own, so that the crate that they test is proved once. Whole histories
+//! are worked rows.
 #![tactic(auto)]
 
 #[cfg(test)]
 mod calls;
-#[cfg(test)]
-mod histories;
-#[cfg(test)]
-mod worked;
-#[cfg(test)]
-mod worked_bytes;
-#[cfg(test)]
-mod worked_events;

@@ -30,6 +30,11 @@ fn geometry_and_queue(rt: HostRuntime) {
         room: 14_592,
     };
     assert_eq!(rt; Queue::of(16_384, 16_384).err(), Some(no_slot));
+    let no_slot = QueueFault::NoSlot {
+        slot: 65_600,
+        room: 14_592,
+    };
+    assert_eq!(rt; Queue::of(16_384, 65_535).err(), Some(no_slot));
     assert_eq!(rt;
         Queue::of(16_384, 65_536).err(),
         Some(QueueFault::BadMtu(65_536))

@@ -6,4 +6,6 @@ mod gates;
 #[cfg(test)]
 mod heads;
 #[cfg(test)]
+mod laws;
+#[cfg(test)]
 mod run_rows;

@@ -30,6 +30,19 @@ impl Told {
             .count()
     }
 
+    /// The lines of sessions, of resets and of peers that were spent, in their order.
+    fn sessions(&self, alloc: Global) -> Result<Vec<u8>, AllocError> {
+        let mut found = Vec::new(alloc);
+        for line in self.text.split(|byte| *byte == b'\n') {
+            let is_one = line.starts_with(b"session ") || line.starts_with(b"x ");
+            if is_one || line == b"spent".as_slice() {
+                found.extend_from_slice(line)?;
+                found.push(b'\n')?;
+            }
+        }
+        Ok(found)
+    }
+
     /// How many lines are this one.
     fn lines(&self, is: &[u8]) -> usize {
         self.text
@@ -101,15 +114,15 @@ fn check_delivered<R: Abort>(rt: &R, told: &Told, frames: [u32; 2]) {
 #[test]
 fn near_peers_exchange_frames(rt: HostRuntime) -> Result<(), Fail> {
     let alloc = rt.alloc();
-    for (head, frames) in [
-        (HONEST, [1000, 1000]),
-        (HONEST, [40, 0]),
-        (WITH_EVENTS, [1000, 1000]),
-        (WITH_EVENTS, [40, 0]),
-        (IN_BYTES, [1000, 1000]),
-        (IN_BYTES, [40, 0]),
+    for (head, frames, turns) in [
+        (HONEST, [1000, 1000], 1_500_000),
+        (HONEST, [40, 0], 100_000),
+        (WITH_EVENTS, [1000, 1000], 1_500_000),
+        (WITH_EVENTS, [40, 0], 100_000),
+        (IN_BYTES, [1000, 1000], 1_500_000),
+        (IN_BYTES, [40, 0], 100_000),
     ] {
-        let scenario = automatic(alloc, head, frames, 1_500_000)?;
+        let scenario = automatic(alloc, head, frames, turns)?;
         let gate = Near::new(64);
         let told = run(&rt, alloc, scenario.as_str(), &gate)?;
         assert!(rt; !gate.is_spent());
@@ -123,8 +136,13 @@ fn near_peers_exchange_frames(rt: HostRuntime) -> Result<(), Fail> {
 #[test]
 fn peers_run_beside_one_another(rt: HostRuntime) -> Result<(), Fail> {
     let alloc = rt.alloc();
-    for head in [HONEST, WITH_EVENTS, IN_BYTES] {
-        let scenario = automatic(alloc, head, [1000, 1000], 1_500_000)?;
+    for (head, frames, turns) in [
+        (HONEST, [1000, 1000], 1_500_000),
+        (HONEST, [40, 0], 100_000),
+        (WITH_EVENTS, [1000, 1000], 1_500_000),
+        (IN_BYTES, [1000, 1000], 1_500_000),
+    ] {
+        let scenario = automatic(alloc, head, frames, turns)?;
         let gate = Meeting::new();
         let told = run(&rt, alloc, scenario.as_str(), &gate)?;
         assert!(rt; gate.was_passed());
@@ -133,7 +151,7 @@ fn peers_run_beside_one_another(rt: HostRuntime) -> Result<(), Fail> {
         let gate = NearAssembly::new(2, 64);
         let told = run(&rt, alloc, scenario.as_str(), &gate)?;
         assert!(rt; gate.assembly.was_passed() && !gate.near.is_spent());
-        check_delivered(&rt, &told, [1000, 1000]);
+        check_delivered(&rt, &told, frames);
     }
     Ok(())
 }
@@ -185,37 +203,11 @@ fn a_reset_peer_opens_a_session_anew(rt: HostRuntime) -> Result<(), Fail> {
     assert!(rt; !gate.is_spent());
     assert_eq!(rt; told.status, Status::Done);
     assert!(rt; told.text.starts_with(b"run 2\n"));
-    assert_eq!(rt; told.count(b"session "), 4);
-    for mark in [
-        "session 0 1 1",
-        "session 0 2 2",
-        "session 1 1 1",
-        "session 1 2 2",
-        "x 0",
-    ] {
-        assert_eq!(rt; told.lines(mark.as_bytes()), 1, "{mark}");
-    }
-    assert_eq!(rt; told.count(b"x "), 1);
+    let order: &[u8] =
+        b"session 0 1 1\nx 0\nsession 0 2 2\nspent\nsession 1 1 1\nsession 1 2 2\nspent\n";
+    assert!(rt; told.sessions(alloc)?.as_slice() == order);
     assert_eq!(rt; told.count(b"refuse "), 0);
-    assert_eq!(rt; told.lines(b"spent"), 2);
     assert_eq!(rt; told.lines(b"turns 406001"), 1);
-    Ok(())
-}
-
-#[test]
-fn resets_that_are_not_run(rt: HostRuntime) -> Result<(), Fail> {
-    let alloc = rt.alloc();
-    let first = restarting(alloc)?;
-    for (acts, line) in [
-        ("turn 1 5\nend\n", "refused 57 NotRunning\n"),
-        ("reset 0\nend\n", "refused 57 NotRunning\n"),
-        ("cfg 1 w 4 2 6\nend\n", "refused 53 NotRunning\n"),
-    ] {
-        let scenario = format!(in alloc; "{}{acts}", first.as_str())?;
-        let told = run(&rt, alloc, scenario.as_str(), &OpenGate)?;
-        assert_eq!(rt; told.status, Status::Refused, "{acts}");
-        assert_eq!(rt; told.text.as_slice(), line.as_bytes(), "{acts}");
-    }
     Ok(())
 }
 
@@ -243,39 +235,6 @@ fn a_storm_beside_an_honest_peer(rt: HostRuntime) -> Result<(), Fail> {
         if line.starts_with(b"w 1 ") {
             assert!(rt; number(line, 2).is_some_and(|word| (5120..9216).contains(&word)));
         }
-    }
-    Ok(())
-}
-
-#[test]
-fn scenarios_that_are_not_run(rt: HostRuntime) -> Result<(), Fail> {
-    let alloc = rt.alloc();
-    let three =
-        "ivshm 1\npeers 3\ntable 4096\ncommon 0\nout 16384\nmtu 256\nirq msix 2\npeer 0 honest\npeer 1 honest\npeer 2 hostile\nbegin\n";
-    let cases = [
-        (HONEST, "tick 0\nturn 0 2\nend\n", "refused 11 NotRunning\n"),
-        (
-            HONEST,
-            "auto 0 0\nturn 0 1\nturn 0 1\nend\n",
-            "refused 13 NotRunning\n",
-        ),
-        (HONEST, "tick 0\nturn 0 02\nend\n", "refused 12 BadNumber\n"),
-        (HONEST, "tick 0\n", "refused 0 NoEnd\n"),
-        (three, "tick 0\nend\n", "refused 12 NotRunning\n"),
-        (
-            three,
-            "auto 0 0\nmmio 1 r 8\nturn 0 1\nend\n",
-            "refused 13 NotRunning\n",
-        ),
-        (WITH_EVENTS, "tick 0\nend\n", "refused 11 NotRunning\n"),
-        (WITH_EVENTS, "auto 0 0\nturn 0 1\n", "refused 0 NoEnd\n"),
-    ];
-    for (head, acts, line) in cases {
-        let scenario = format!(in alloc; "{head}{acts}")?;
-        let told = run(&rt, alloc, scenario.as_str(), &OpenGate)?;
-        assert_eq!(rt; told.status, Status::Refused, "{acts}");
-        assert_eq!(rt; told.text.as_slice(), line.as_bytes(), "{acts}");
-        assert!(rt; told.ran.is_none(), "{acts}");
     }
     Ok(())
 }

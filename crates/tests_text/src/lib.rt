@@ -1,13 +1,10 @@
-//! Tests of the texts, and of the ends that bytes come from and go to, in a crate of their own, so that the crates that they test are proved once.
+//! Tests of the ends that bytes come from and go to, and of what texts have no row for, in a crate of their own, so that the crates that
+//! they test are proved once. The texts themselves are worked rows.
 #![tactic(auto)]
 
 #[cfg(test)]
-mod bridge_scripts;
-#[cfg(test)]
 mod ends;
 #[cfg(test)]
-mod port_scripts;
+mod laws;
 #[cfg(test)]
 mod records;
-#[cfg(test)]
-mod scenarios;

@@ -1,0 +1,30 @@
+//! Worked rows, which are data: reads the pages that standard input names, asks for the answer to
+//! each row in them, and writes a line for each row: its name, or where its answer differs from the
+//! page. docs/ROWS.md has the format of a page.
+#![tactic(auto)]
+
+mod answers;
+mod bytes;
+mod calls;
+mod checks;
+mod pages;
+mod rows;
+
+use pages::Pages;
+use std::process::ExitCode;
+use std::{fs, io};
+
+fn main(rt: HostRuntime) -> io::Result<ExitCode> {
+    let alloc = rt.alloc();
+    let mut pages = Pages::new(alloc);
+    for name in rt.lines(alloc) {
+        let name = name?;
+        let page = fs::read_to_string(&rt, name.as_str())?;
+        pages.try_page(&rt, alloc, name.as_str(), page.as_str())?;
+    }
+    Ok(if pages.all_hold() {
+        ExitCode::SUCCESS
+    } else {
+        ExitCode::FAILURE
+    })
+}

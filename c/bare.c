@@ -262,6 +262,7 @@ static int check_events(void) {
     ivshm_notes notes;
     WANT(ivshm_end_new_version(&a, &found, 2, 0, 256, 1, 0) == IVSHM_BAD_VERSION && ivshm_end_new_version(&a, &found, 2, 2, 256, 1, 2) == IVSHM_BAD_PEER);
     WANT(ivshm_end_new_version(&a, &found, 2, 0, 256, 1, IVSHM_VERSION + 1) == IVSHM_BAD_VERSION && a.at == NULL);
+    WANT(ivshm_end_new_version(&a, &found, 2, 0, 256, 65536, 0) == IVSHM_BAD_VERSION && ivshm_end_new(&a, &found, 1, 0, 256, 65536) == IVSHM_BAD_VECTOR);
     WANT(ivshm_end_new_version(&a, &found, 2, 0, 256, 1, 2) == IVSHM_DONE && ivshm_end_new_version(&b, &found, 2, 1, 256, 1, 2) == IVSHM_DONE);
     WANT(ivshm_end_new_version(&a, &found, 2, 0, 256, 1, 2) == IVSHM_HAS_END && run(&a, 0) == 0 && run(&b, 1) == 0);
     for (int i = 0; i < 10; i++) {

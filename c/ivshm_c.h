@@ -84,10 +84,10 @@ enum {
     IVSHM_NO_CALL = 4,    /* no call is open: there is no access to make, begin another call */
     IVSHM_NO_MEMORY = 5,  /* memory ran out */
     IVSHM_BAD_CALL = 6,   /* ivshm_end_begin: none of the three calls */
-    IVSHM_SHORT_FRAME = 7,/* ivshm_end_offer: fewer than IVSHM_SHORTEST bytes */
+    IVSHM_SHORT_FRAME = 7,/* ivshm_end_offer: fewer than IVSHM_SHORTEST bytes; ivshm_end_offer_again: no frame was offered yet */
     IVSHM_LONG_FRAME = 8, /* ivshm_end_offer: more than the MTU and 18 bytes */
     IVSHM_SHORT_ROOM = 9, /* ivshm_end_frame, ivshm_end_bursts, ivshm_end_tail: what is to be copied doesn't fit */
-    /* why sizes make no end: the first that is wrong */
+    /* why sizes make no end: the first that is wrong, after IVSHM_BAD_PEER, IVSHM_BAD_VERSION and IVSHM_BAD_VECTOR, in this order */
     IVSHM_BAD_PEER = 10,     /* the peer isn't 0 or 1 */
     IVSHM_BAD_PEERS = 11,    /* the peers aren't 2 to 65,536 */
     IVSHM_BAD_TABLE = 12,    /* the State Table isn't whole pages of 4,096 bytes, one at least */
@@ -108,8 +108,9 @@ enum {
     /* why some steps aren't taken at once */
     IVSHM_OTHER_ACCESS = 26, /* reads were taken, or writes, and no count of such is told; or all before the index, and no word of a frame is next */
     IVSHM_BAD_COUNT = 27,    /* no word, not whole words, or more than the count that is told */
-    /* why a version makes no end */
-    IVSHM_BAD_VERSION = 28   /* ivshm_end_new_version: the version isn't 1 to IVSHM_VERSION */
+    /* why a version or a vector makes no end */
+    IVSHM_BAD_VERSION = 28,  /* ivshm_end_new_version: the version isn't 1 to IVSHM_VERSION */
+    IVSHM_BAD_VECTOR = 29    /* ivshm_end_new, ivshm_end_new_version: the vector has more than 16 bits */
 };
 
 /* The highest version of the link, and bounds; ivshm_limits tells the same numbers of the library that is linked. */
@@ -182,7 +183,8 @@ uint32_t ivshm_layout(const ivshm_found *found, uint32_t peers, uint32_t mtu, iv
 /* Makes the end of peer `me`, 0 or 1, of a region of these sizes: those that a walk found. `peers` is the Maximum Peers register. `mtu` bounds
  * the frames that this end offers. `vector` is the one by which the other peer is rung: 1 where it has two MSI-X vectors or more, else 0.
  * Afterwards the call is open whose one access is State 0. The link is of version 1.
- * IVSHM_DONE, IVSHM_HAS_END, IVSHM_NO_MEMORY, or one of IVSHM_BAD_PEER to IVSHM_NO_SLOT. */
+ * IVSHM_DONE; or the handle is as it was, and the answer is the first of these that has its cause: IVSHM_HAS_END, IVSHM_BAD_PEER, IVSHM_BAD_VECTOR, one of
+ * IVSHM_BAD_PEERS to IVSHM_NO_SLOT, IVSHM_NO_MEMORY. */
 uint32_t ivshm_end_new(ivshm_end *end, const ivshm_found *found, uint32_t peers, uint32_t me, uint32_t mtu, uint32_t vector);
 
 /* The same in a link of this version. Both ends have the same one: nothing in the region tells it.
@@ -190,7 +192,7 @@ uint32_t ivshm_end_new(ivshm_end *end, const ivshm_found *found, uint32_t peers,
  *   2: it rings where the other's event index asks for it. A poll that finds nothing, the first after frames or in a session, writes the own event
  *      and looks again: once it has found nothing then, the next frame rings. Both need the full fences that an access tells.
  *   3: as 2, and a frame takes as many bytes of the section as it has, up to the next multiple of 64: more short frames are in flight at once.
- * The answers of ivshm_end_new, or IVSHM_BAD_VERSION. */
+ * The answers of ivshm_end_new, and IVSHM_BAD_VERSION, which comes before IVSHM_BAD_VECTOR. */
 uint32_t ivshm_end_new_version(ivshm_end *end, const ivshm_found *found, uint32_t peers, uint32_t me, uint32_t mtu, uint32_t vector, uint32_t version);
 
 /* Frees the end. The handle is IVSHM_END_NONE then. Stop first, or write State 0 yourself.
@@ -207,13 +209,15 @@ enum {
 /* Begins a call. IVSHM_DONE, IVSHM_NO_END, IVSHM_BAD_CALL, IVSHM_CALL_OPEN. */
 uint32_t ivshm_end_begin(ivshm_end *end, uint32_t call);
 
-/* Begins an offer of this frame, which is copied at once. Its outcome is told by the notes, and by ivshm_end_view.
- * A link that is full costs an offer one access: offer the frame again after the other peer had time to poll, by ivshm_end_offer_again.
+/* Begins an offer of this frame, which is copied at once, in whatever State. Its outcome is told by the notes, and by ivshm_end_view.
+ * A link that is full costs an offer one access: offer the frame again after the other peer had time to poll, by ivshm_end_offer_again. So too a frame
+ * whose offer was down: offer it again in RUN.
  * IVSHM_DONE, IVSHM_NO_END, IVSHM_SHORT_FRAME, IVSHM_LONG_FRAME, IVSHM_CALL_OPEN. */
 uint32_t ivshm_end_offer(ivshm_end *end, const uint8_t *frame, size_t length);
 
-/* Begins an offer of the frame of the last one, which is still here and isn't copied. It stays until another is offered or a session opens.
- * IVSHM_DONE, IVSHM_NO_END, IVSHM_SHORT_FRAME (no frame was offered since the session opened), IVSHM_CALL_OPEN. */
+/* Begins an offer of the frame offered last, which is still here and isn't copied: the last one for which ivshm_end_offer answered IVSHM_DONE, in whatever
+ * State that was and whatever came of it. It stays until another is offered: through all other calls, refusals, sessions and resets.
+ * IVSHM_DONE, IVSHM_NO_END, IVSHM_SHORT_FRAME (no frame was offered yet), IVSHM_CALL_OPEN. */
 uint32_t ivshm_end_offer_again(ivshm_end *end);
 
 /* An access of an open call. */
@@ -222,14 +226,14 @@ enum {
     IVSHM_READ = 1,    /* read `word`, and hand its value over. `value` is 0 */
     IVSHM_WRITE = 2,   /* write `value` to `word`, which is in the own section */
     IVSHM_STATE = 3,   /* write `value` to the own State. `word` is 0 */
-    IVSHM_RING = 4     /* ring the peer `word` by the vector `value` */
+    IVSHM_RING = 4     /* ring the peer `word` by the vector `value`, after all stores before it: the index that it announces is one of them */
 };
 
 /* The order of an access with those before and after it, for whom makes them weaker than sequentially consistent (docs/ORDERS.md). */
 enum {
     IVSHM_RELAXED = 0, /* it may go to memory sooner or later than its neighbours */
     IVSHM_ACQUIRE = 1, /* a load before all accesses that follow it: the other's State, and the indices that are read */
-    IVSHM_RELEASE = 2  /* a store after all accesses before it: the own State, and the indices that are written */
+    IVSHM_RELEASE = 2  /* a store after all accesses before it: the own State, the indices that are written, and the doorbell */
 };
 
 typedef struct ivshm_access {
@@ -322,7 +326,7 @@ typedef struct ivshm_burst {
 uint32_t ivshm_end_bursts(ivshm_end *end, ivshm_burst bursts[3], uint8_t *room, size_t size);
 
 /* Tells the same bursts, and puts the words of the descriptor and of the entry alone at the front of `room`, 20 bytes; the rest of it stays. The words
- * of the frame are the last bursts[0].count ones of the frame that was handed to ivshm_end_offer, as four bytes each, with 0 after its last byte:
+ * of the frame are the last bursts[0].count ones of the frame that was handed to ivshm_end_offer last, as four bytes each, with 0 after its last byte:
  * write them from there, where you have it still. So the library's own copy of the frame is read no more. Then call ivshm_end_took_bursts.
  * IVSHM_DONE; or the bursts and the room are as they were: IVSHM_NO_END, IVSHM_NO_CALL, IVSHM_OTHER_ACCESS (no word of a frame is next),
  * IVSHM_SHORT_ROOM (size < 20). */
@@ -368,8 +372,8 @@ uint32_t ivshm_end_view(ivshm_end *end, ivshm_view *view);
  * the next IVSHM_DELIVER, through resets too. IVSHM_DONE, IVSHM_NO_END, IVSHM_SHORT_ROOM (the length is told, nothing is copied). */
 uint32_t ivshm_end_frame(ivshm_end *end, uint8_t *room, size_t size, size_t *length);
 
-/* The end's own device was reset: the open call is cut, and what was refused is forgotten. Afterwards the call is open whose one access is
- * State 0. IVSHM_DONE, IVSHM_NO_END. */
+/* The end's own device was reset: the open call is cut, and what was refused is forgotten. The frames offered last and delivered last stay. Afterwards
+ * the call is open whose one access is State 0. IVSHM_DONE, IVSHM_NO_END. */
 uint32_t ivshm_end_reset(ivshm_end *end);
 
 #ifdef __cplusplus

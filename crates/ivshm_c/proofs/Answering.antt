@@ -2,7 +2,7 @@
 use Rattle.std.proofs.Common.{◌≡◌, ◌*◌, ◌++◌, ℕ, List, sym, ap, ◌∙◌, subst, length, take, drop, Option, Some, None, IfSome, true, false, nat_lt, if◌then◌else◌}
 use Rattle.std.proofs.Math.Seq.{take-append_seam, drop-append_seam}
 use Rattle.section_map.specs.Geometry.{Shape, IsShape}
-use Rattle.split_ring.specs.Layout.{Sizes, IsQueue, IsVersion}
+use Rattle.split_ring.specs.Layout.{Sizes, IsQueue}
 use Rattle.ivshm_c.specs.declared.device.Found.{Found}
 use Rattle.ivshm_c.specs.declared.device.Layout.{Layout}
 use Rattle.ivshm_c.specs.declared.end_state.EndState.{EndState}
@@ -22,7 +22,7 @@ use Rattle.ivshm_c.specs.declared.crossing.Bursts as crossed
 use Rattle.ivshm_c.specs.Crossing.{access_crossed, bursts_crossed}
 use Rattle.ivshm_c.specs.EndStates.{IsNext, IsAhead, AreBursts, AreBurstTail}
 use Rattle.ivshm_c.specs.Sizes.{shape_found, sizes_found, layout_of, LaysOut, laid_out}
-use Rattle.ivshm_c.specs.Answers.{IsNew, RefusesNew, MakesAnswered, GivesNext, GivesBursts, GivesTail, Where, room_answer, bursts_answer, took_tail_answer, tail_answer, made, has_end, refused}
+use Rattle.ivshm_c.specs.Answers.{IsNew, MayMake, RefusesNew, MakesAnswered, GivesNext, GivesBursts, GivesTail, Where, room_answer, bursts_answer, took_tail_answer, tail_answer, made, has_end, refused}
 
 -- the words of the sizes that were found
 pub words_told : (found : Found) (peers mtu : ℕ) (before after : Layout) (shape : Shape) (queue : Sizes) → shape ≡ shape_found found peers → IsShape shape
@@ -88,9 +88,9 @@ module _ (found : Found) (version peers me mtu vector : ℕ) (old new : Option E
   holds_one port was is = subst (MakesAnswered old found version peers me mtu vector HasEnd) (was ∙ sym is) (has_end (λ e. let wrong : Some port ≡ None = sym was ∙ e in absurd cc))
 
   -- an empty one holds the new end
-  pub new_one : (port : EndState) → old ≡ None → IsVersion version → IsNew found version peers me mtu vector port → new ≡ Some port → MakesAnswered old found version peers me mtu vector Done new
-  new_one port was known is_new is = subst (MakesAnswered old found version peers me mtu vector Done) (sym is) (made port was known is_new)
+  pub new_one : (port : EndState) → old ≡ None → MayMake found version peers me mtu vector → IsNew found version peers me mtu vector port → new ≡ Some port → MakesAnswered old found version peers me mtu vector Done new
+  new_one port was right is_new is = subst (MakesAnswered old found version peers me mtu vector Done) (sym is) (made port was right is_new)
 
   -- an empty one stays so where none is made
-  pub none_made : (status : Status) → RefusesNew found version peers me mtu status → old ≡ new → MakesAnswered old found version peers me mtu vector status new
-  none_made status why is = subst (MakesAnswered old found version peers me mtu vector status) is (refused status why)
+  pub none_made : (status : Status) → RefusesNew found version peers me mtu vector status → old ≡ None → old ≡ new → MakesAnswered old found version peers me mtu vector status new
+  none_made status why was is = subst (MakesAnswered old found version peers me mtu vector status) is (refused status was why)

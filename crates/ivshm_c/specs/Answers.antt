@@ -1,6 +1,7 @@
 -- The exact answer of each export, and what it does to the end of a handle.
-use Rattle.std.specs.Prelude.{ℕ, ◌≡◌, ◌≢◌, ◌+◌, ◌*◌, ◌/◌, ◌%◌, ◌==◌, ◌≤◌, nat_lt, if◌then◌else◌, List, length, take, drop, Option, Some, None, is_none, IfSome}
-use Rattle.split_ring.specs.Layout.{IsVersion}
+use Rattle.std.specs.Prelude.{ℕ, ◌≡◌, ◌≢◌, ◌+◌, ◌*◌, ◌/◌, ◌%◌, ◌==◌, ◌<◌, ◌≤◌, nat_lt, if◌then◌else◌, List, length, take, drop, Option, Some, None, is_none, IfSome}
+use Rattle.section_map.specs.Geometry.{IsShape}
+use Rattle.split_ring.specs.Layout.{IsVersion, IsQueue}
 use Rattle.split_ring.specs.declared.steps.Access as steps
 use Rattle.split_ring.specs.declared.steps.Note.{Note}
 use Rattle.tx_engine.specs.declared.ahead.Bursts.{Bursts}
@@ -14,7 +15,7 @@ use Rattle.ivshm_c.specs.declared.device.Found.{Found}
 use Rattle.ivshm_c.specs.declared.end_state.EndState.{EndState}
 use Rattle.ivshm_c.specs.declared.end_state.Outcome.TheVariants.{Never, Open}
 use Rattle.ivshm_c.specs.declared.status.Status.{Status}
-use Rattle.ivshm_c.specs.declared.status.Status.TheVariants.{Done, NoEnd, HasEnd, CallOpen, NoCall, NoMemory, BadCall, ShortFrame, LongFrame, ShortRoom, BadPeer, OtherAccess, BadCount, BadVersion}
+use Rattle.ivshm_c.specs.declared.status.Status.TheVariants.{Done, NoEnd, HasEnd, CallOpen, NoCall, NoMemory, BadCall, ShortFrame, LongFrame, ShortRoom, BadPeer, OtherAccess, BadCount, BadVersion, BadVector}
 use Rattle.ivshm_c.specs.Crossing.{call_numbered, access_crossed, bursts_crossed, notes_crossed}
 use Rattle.ivshm_c.specs.EndStates.{Begins, Offers, IsNext, IsAhead, AreWritten, AreBursts, AreBurstTail, ReadsAtOnce, ReadsWhole, WritesAtOnce, Steps, IsStarted, Restarts, outcome_after, outcome_cut}
 use Rattle.ivshm_c.specs.Sizes.{shape_found, sizes_found, IsSizeFault}
@@ -50,7 +51,7 @@ offer_answer frame port =
     else if is_busy port.endpoint then CallOpen
     else Done
 
--- the frame of the last offer is offered again
+-- the frame offered last is offered again
 abbrev pub again_answer : EndState → Status
 again_answer port = offer_answer (offered port.endpoint) port
 
@@ -119,7 +120,7 @@ BeginsAnswered call old new = Where (begin_answer call old)
 abbrev pub OffersAnswered : List ℕ → EndState → EndState → Type 0
 OffersAnswered frame old new = Where (offer_answer frame old) (Offers frame old.endpoint new.endpoint × (new.outcome ≡ Open)) (new ≡ old)
 
--- an offer of the frame of the last one begins
+-- an offer of the frame offered last begins
 abbrev pub OffersAgain : EndState → EndState → Type 0
 OffersAgain old new = OffersAnswered (offered old.endpoint) old new
 
@@ -186,16 +187,30 @@ abbrev pub IsNew : Found → (version peers me mtu vector : ℕ) → EndState �
 IsNew found version peers me mtu vector port =
     IsStarted (config_of (shape_found found peers) (sizes_found found version mtu) me vector) port.endpoint × (port.outcome ≡ Never)
 
--- why no end is made, but for want of memory, which is free to come
-pub data RefusesNew (found : Found) (version peers me mtu : ℕ) : Status → Type 0 where
-  bad_peer : 2 ≤ me → RefusesNew found version peers me mtu BadPeer
-  bad_version : ¬ IsVersion version → RefusesNew found version peers me mtu BadVersion
-  bad_sizes : (status : Status) → IsVersion version → IsSizeFault found version peers mtu status → RefusesNew found version peers me mtu status
-  no_memory : RefusesNew found version peers me mtu NoMemory
+-- the numbers by which an end is made are right, but for the sizes: it is one of the link's two peers, the version is known, and a vector has 16 bits
+pub record AreNumbers (version me vector : ℕ) : Type 0 where
+  pub one_of_two : me ≤ 1
+  pub known : IsVersion version
+  pub has_16_bits : vector < 65536
 
--- the answer where an end is to be made, and what the handle holds then
+-- all is right: there is a region of these sizes, and a queue in its sections
+pub record MayMake (found : Found) (version peers me mtu vector : ℕ) : Type 0 where
+  pub numbers : AreNumbers version me vector
+  pub shape : IsShape (shape_found found peers)
+  pub queue : IsQueue (sizes_found found version mtu)
+
+-- why no end is made: the first of these that is wrong, and where nothing is, for want of memory, which is free to come
+pub data RefusesNew (found : Found) (version peers me mtu vector : ℕ) : Status → Type 0 where
+  bad_peer : 2 ≤ me → RefusesNew found version peers me mtu vector BadPeer
+  bad_version : me ≤ 1 → ¬ IsVersion version → RefusesNew found version peers me mtu vector BadVersion
+  bad_vector : me ≤ 1 → IsVersion version → 65536 ≤ vector → RefusesNew found version peers me mtu vector BadVector
+  bad_sizes : (status : Status) → AreNumbers version me vector → IsSizeFault found version peers mtu status → RefusesNew found version peers me mtu vector status
+  no_memory : MayMake found version peers me mtu vector → RefusesNew found version peers me mtu vector NoMemory
+
+-- the answer where an end is to be made, and what the handle holds then. A handle that holds an end keeps it, whatever else is wrong
 pub data MakesAnswered (old : Option EndState) (found : Found) (version peers me mtu vector : ℕ) : Status → Option EndState → Type 0 where
-  made : (port : EndState) → old ≡ None → IsVersion version → IsNew found version peers me mtu vector port →
+  made : (port : EndState) → old ≡ None → MayMake found version peers me mtu vector → IsNew found version peers me mtu vector port →
       MakesAnswered old found version peers me mtu vector Done (Some port)
   has_end : old ≢ None → MakesAnswered old found version peers me mtu vector HasEnd old
-  refused : (status : Status) → RefusesNew found version peers me mtu status → MakesAnswered old found version peers me mtu vector status old
+  refused : (status : Status) → old ≡ None → RefusesNew found version peers me mtu vector status →
+      MakesAnswered old found version peers me mtu vector status old

@@ -1,6 +1,5 @@
 -- An end and the outcome of its last offer: what its calls do.
 use Rattle.std.specs.Prelude.{ℕ, ◌≡◌, ◌*◌, ◌↔◌, List, [], ◌∷◌, ◌++◌, length, take, flat_map, true, not, IsTrue, Some, IfSome}
-use Rattle.link_handshake.specs.declared.Phase.TheVariants.{Run}
 use Rattle.split_ring.specs.declared.steps.Access.{Access}
 use Rattle.split_ring.specs.declared.steps.Access.TheVariants.{Nothing, Read, Write, State}
 use Rattle.split_ring.specs.declared.steps.Note.{Note}
@@ -33,6 +32,7 @@ pub record Begins (call : Call) (old new : Engine) : Type 0 where
   pub opened : is_busy new ≡ true
   pub down : is_down new ≡ comes_down call old.phase
   pub looks : is_reading_state new ≡ is_tick call
+  pub offered : offered new ≡ offered old
   pub kept : Opens old new
 
 -- an offer of this frame opens
@@ -41,7 +41,7 @@ pub record Offers (frame : List ℕ) (old new : Engine) : Type 0 where
   pub few : (config : EndConfig) (end : End) (place : places.Place) → RefinesAt old config end place → HasFewInFlight config end
   pub opened : is_busy new ≡ true
   pub down : is_down new ≡ not (in_run old.phase)
-  pub holds : old.phase ≡ Run → offered new ≡ frame
+  pub holds : offered new ≡ frame
   pub kept : Opens old new
 
 -- this is the access of the open call: the one at its place, and in reach of the peer. It is none exactly where the call is down, and State 0
@@ -69,7 +69,7 @@ AreBursts engine bursts bytes = (config : EndConfig) (end : End) (place : places
     WritesAll config place (listed bursts) (take (4 * words_of (Some bursts)) bytes)
 
 -- the first of these bytes are the words of the descriptor and of the entry, which are written next behind those of the frame: the last words of the frame
--- that was offered
+-- offered last
 abbrev pub AreBurstTail : Engine → Bursts → (bytes : List ℕ) → Type 0
 AreBurstTail engine bursts bytes = (config : EndConfig) (end : End) (place : places.Place) → RefinesAt engine config end place →
     WritesAll config place (listed bursts) (last_words (offered engine) bursts.frame.count ++ take 20 bytes)
@@ -99,12 +99,13 @@ pub record IsStarted (config : EndConfig) (new : Engine) : Type 0 where
   pub refines : RefinesAt new config fresh (places.first_place config fresh (call_of Stop))
   pub begins : Begins Stop (fresh_engine config) new
 
--- the device was reset: the open call is cut, and a Stop is open, which begins with State 0. The frame delivered last stays
+-- the device was reset: the open call is cut, and a Stop is open, which begins with State 0. The frame delivered last stays, and the one offered last
 pub record Restarts (old new : Engine) : Type 0 where
   pub refines : (config : EndConfig) (end : End) (place : places.Place) → RefinesAt old config end place →
       RefinesAt new config (after_reset end) (places.first_place config (after_reset end) (call_of Stop))
   pub begins : Begins Stop (engine_after_reset old) new
   pub delivered : delivered new ≡ delivered old
+  pub offered : offered new ≡ offered old
 
 -- The outcome of the last offer
 

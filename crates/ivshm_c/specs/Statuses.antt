@@ -40,6 +40,7 @@ number_of status.NoVendor = 25
 number_of status.OtherAccess = 26
 number_of status.BadCount = 27
 number_of status.BadVersion = 28
+number_of status.BadVector = 29
 
 -- why sizes make no region
 abbrev pub geometry_status : GeometryFault → Status

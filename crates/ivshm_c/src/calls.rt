@@ -1,9 +1,8 @@
 //! The calls of an end with their answers, where what a program in C hands over is tested.
 ghost use Rattle.std.specs.Prelude.{◌≡◌, ◌*◌, ◌%◌, ◌<◌, ◌≤◌, length, Some, IfOk, IfErr};
-ghost use Rattle.split_ring.specs.Layout.{IsVersion};
 ghost use Rattle.tx_engine.specs.Ahead.{words_of};
 ghost use Rattle.link_endpoint.specs.Engine.{delivered, offered};
-ghost use Rattle.ivshm_c.specs.Answers.{begin_answer, offer_answer, step_answer, count_answer, bytes_answer, reads_answer, words_answer, writes_answer, bursts_answer, tail_answer, took_bursts_answer, frame_answer, BeginsAnswered, OffersAnswered, GivesNext, TakesAnswered, TakesWords, GivesWords, TakesWrites, GivesBursts, GivesTail, TakesBursts, CopiesFrame, IsNew, RefusesNew};
+ghost use Rattle.ivshm_c.specs.Answers.{begin_answer, offer_answer, step_answer, count_answer, bytes_answer, reads_answer, words_answer, writes_answer, bursts_answer, tail_answer, took_bursts_answer, frame_answer, BeginsAnswered, OffersAnswered, GivesNext, TakesAnswered, TakesWords, GivesWords, TakesWrites, GivesBursts, GivesTail, TakesBursts, CopiesFrame, IsNew, MayMake, RefusesNew};
 
 use crate::crossing::{access_crossed, bursts_crossed, call_numbered, notes_crossed};
 use crate::device::{Found, sized};
@@ -14,7 +13,7 @@ use link_endpoint::Endpoint;
 use split_ring::steps;
 use std::alloc::Global;
 
-/// Makes an end of a link of this version.
+/// Makes an end of a link of this version. The tests are in this order: the peer, the version, the vector, and then the sizes.
 pub(crate) fn made(
     alloc: Global,
     found: &Found,
@@ -24,15 +23,18 @@ pub(crate) fn made(
     mtu: u32,
     vector: u32,
 ) -> Result<Box<EndState>, Status>
-    ensures version { IfOk result (λ port. IsVersion version) }
+    ensures right { IfOk result (λ port. MayMake found.now version peers me mtu vector) }
     ensures made { IfOk result (λ port. IsNew found.now version peers me mtu vector port.value) }
-    ensures refused { IfErr result (λ status. RefusesNew found.now version peers me mtu status) }
+    ensures refused { IfErr result (λ status. RefusesNew found.now version peers me mtu vector status) }
 {
     if me > 1 {
         return Err(Status::BadPeer);
     }
     if !(1..=3).contains(&version) {
         return Err(Status::BadVersion);
+    }
+    if vector > 65_535 {
+        return Err(Status::BadVector);
     }
     let (geometry, queue) = match sized(found, version, peers, mtu) {
         Ok(sizes) => sizes,
@@ -81,7 +83,7 @@ pub(crate) fn offered(port: &mut EndState, frame: &[u8]) -> Status
     Status::Done
 }
 
-/// Opens an offer of the frame of the last one again.
+/// Opens an offer of the frame offered last again.
 pub(crate) fn offered_again(port: &mut EndState) -> Status
     ensures answer { result ≡ offer_answer (offered port.old.endpoint) port.old }
     ensures step { OffersAnswered (offered port.old.endpoint) port.old port.new }

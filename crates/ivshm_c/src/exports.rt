@@ -104,7 +104,7 @@ pub extern "C" fn ivshm_end_offer(alloc: Global, end: &mut End, frame: &[u8]) ->
     status.number()
 }
 
-/// Opens an offer of the frame of the last one again, which isn't copied: of none, where no frame was offered since the session opened.
+/// Opens an offer of the frame offered last again, which isn't copied: of none, where no frame was offered yet.
 #[unsafe(no_mangle)]
 pub extern "C" fn ivshm_end_offer_again(alloc: Global, end: &mut End) -> u32
     ensures answer { result ≡ number_of (answer_at end.old.port again_answer) }

@@ -38,6 +38,7 @@ pub(crate) enum Status {
     OtherAccess,
     BadCount,
     BadVersion,
+    BadVector,
 }
 
 impl Status {
@@ -75,6 +76,7 @@ impl Status {
             Status::OtherAccess => 26,
             Status::BadCount => 27,
             Status::BadVersion => 28,
+            Status::BadVector => 29,
         }
     }
 }

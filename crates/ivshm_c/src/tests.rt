@@ -258,7 +258,7 @@ fn an_offer_by_its_tail(rt: HostRuntime) -> Result<(), Fail> {
     Ok(())
 }
 
-/// Outside RUN an offer is down, and nothing was delivered.
+/// Outside RUN an offer is down, and nothing was delivered; its frame may be offered again, also after a reset.
 #[test]
 fn an_offer_outside_run(rt: HostRuntime) -> Result<(), Fail> {
     let alloc = rt.alloc();
@@ -277,6 +277,11 @@ fn an_offer_outside_run(rt: HostRuntime) -> Result<(), Fail> {
     assert_eq!(rt; ivshm_end_view(alloc, &mut end, &mut view), 0);
     assert_eq!(rt; view.outcome, 5);
     assert_eq!(rt; view.longest, 274);
+    assert_eq!(rt; ivshm_end_offer_again(alloc, &mut end), 0);
+    assert_eq!(rt; ivshm_end_reset(alloc, &mut end), 0);
+    assert_eq!(rt; ivshm_end_offer_again(alloc, &mut end), 3);
+    assert_eq!(rt; ivshm_end_took(alloc, &mut end, 0, &mut notes), 0);
+    assert_eq!(rt; ivshm_end_offer_again(alloc, &mut end), 0);
     let mut room = [1; 4];
     let mut size = 9;
     assert_eq!(rt; ivshm_end_frame(alloc, &mut end, &mut room, &mut size), 0);

@@ -2,16 +2,9 @@
 use Rattle.std.specs.Prelude.{ℕ, List}
 use Rattle.scenario_text.specs.Scenario.{World}
 use Rattle.lawful_history.specs.declared.line.Line.{Line}
-use Rattle.sim_world.specs.RecordWriting.{lawful_record}
 use Rattle.record_text.specs.Spelling.{IsSpelling}
 use Rattle.trace_replay.specs.declared.verdict.Verdict.{Verdict}
 use Rattle.trace_replay.specs.Verdict.{IsVerdict}
-
--- the bytes spell the record of some version that tells the lawful history of some scenario
-pub record IsLawfulText (bytes : List ℕ) : Type 0 where
-  pub version : ℕ
-  pub world : World
-  pub spelled : IsSpelling (lawful_record version world) bytes
 
 -- the bytes spell the record of a scenario and of a history, and this is the verdict on it
 pub record IsVerdictOfText (bytes : List ℕ) (verdict : Verdict) : Type 0 where

@@ -12,11 +12,11 @@
 //!   text by the reader: each in one place.
 #![tactic(auto)]
 
-ghost use Rattle.std.specs.Prelude.{◌≡◌, true, IfOk, IfErr};
+ghost use Rattle.std.specs.Prelude.{IfOk, IfErr};
 ghost use Rattle.scenario_text.specs.Spelling.{world_of};
 ghost use Rattle.record_text.specs.Judge.{answer};
 ghost use Rattle.record_text.specs.Answers.{Refuses};
-ghost use Rattle.trace_replay.specs.Texts.{IsLawfulText, IsVerdictOfText};
+ghost use Rattle.trace_replay.specs.Texts.{IsVerdictOfText};
 ghost use Rattle.trace_replay.specs.Verdict.{IsVerdict};
 
 mod beside;
@@ -24,7 +24,6 @@ mod verdict;
 
 use beside::{judge, pass_alike};
 use ivs_base::NoMemory;
-use lawful_history::records_tell_one_history;
 use link_model::{ExpectedRun, Run, StepFault};
 pub use link_model::{Law, Unlawful};
 use record_text::{Reader, RecordFault, Trace};
@@ -69,17 +68,4 @@ pub fn replay_text(alloc: Global, bytes: &[u8]) -> Result<Verdict, RecordFault>
         Err(_) => return Err(RecordFault::NoMemory),
     }
     judge(alloc, &mut expected_run, &mut reader)
-}
-
-/// Is this the text of a record of either version with the lawful history of its scenario? NoMemory says that memory ran out.
-pub fn is_lawful_text(alloc: Global, bytes: &[u8]) -> Result<bool, NoMemory>
-    ensures { IfOk result (λ is. is ≡ true → IsLawfulText bytes.now) }
-{
-    records_tell_one_history();
-    match replay_text(alloc, bytes) {
-        Ok(Verdict::Same) => Ok(true),
-        Ok(Verdict::Differs(_)) => Ok(false),
-        Err(RecordFault::NoMemory) => Err(NoMemory),
-        Err(_) => Ok(false),
-    }
 }

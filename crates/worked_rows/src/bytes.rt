@@ -15,19 +15,26 @@ pub(crate) fn halves<'a>(text: &'a str) -> (&'a str, &'a str) {
     text.split_once(' ').unwrap_or((text, ""))
 }
 
+/// The digit of a number below 16.
+fn digit(value: u8) -> u8 {
+    match value {
+        0..=9 => 48 + value,
+        10..=15 => 87 + value,
+        _ => b'0',
+    }
+}
+
 /// Adds the digits of so many bytes: `COUNT@FIRST+STEP`, each of which is the one before it with
 /// the step added, modulo 256.
 fn add_counted(bytes: &mut Vec<u8>, counted: &str) -> io::Result<()> {
     let (count, rest) = counted.split_once('@').ok_or(ErrorKind::InvalidData)?;
     let (first, step) = rest.split_once('+').ok_or(ErrorKind::InvalidData)?;
-    let mut byte = number(first)? % 256;
-    let step = number(step)? % 256;
+    let mut byte = first.parse::<u8>().map_err(|_| ErrorKind::InvalidData)?;
+    let step = step.parse::<u8>().map_err(|_| ErrorKind::InvalidData)?;
     for _ in 0..number(count)? {
-        for digit in [byte / 16, byte % 16] {
-            let sign = if digit < 10 { 48 + digit } else { 87 + digit };
-            bytes.push(sign as u8)?;
-        }
-        byte = (byte + step) % 256;
+        bytes.push(digit(byte / 16))?;
+        bytes.push(digit(byte % 16))?;
+        byte = byte.wrapping_add(step);
     }
     Ok(())
 }

@@ -1,6 +1,9 @@
 -- Looks between the turns of an automatic peer.
-use Rattle.std.proofs.Common.{◌≡◌, ℕ, suc, ◌+◌, Bool, true, false, List, [], ◌++◌, refl, sym, ap, ◌∙◌, arith, append_assoc}
-use Rattle.std.specs.Prelude.{◌&&◌, nat_lt, if◌then◌else◌}
+use Rattle.std.proofs.Common.{◌≡◌, ℕ, zero, suc, ◌+◌, ◌/◌, ◌^◌, ◌<◌, ◌≤◌, Bool, true, false, List, [], ◌∷◌, ◌++◌, refl, sym, ap, ◌∙◌, subst, arith, append_assoc, append-nil}
+use Rattle.std.specs.Prelude.{◌-◌, ◌*◌, ◌==◌, ◌&&◌, nat_lt, if◌then◌else◌}
+use Rattle.std.proofs.Math.Nat.{lt-div-mul-add}
+use Rattle.std.proofs.lemmas.Nat.{pow_pos}
+use Rattle.std.proofs.lemmas.Nat.Bits.{bit_at_above}
 use Rattle.std.proofs.lemmas.Bool.{le-ltb}
 use Rattle.call_grammar.specs.Calls.{EndConfig}
 use Rattle.call_grammar.specs.Places.{Place, RingingOffer, RingingPoll, access_at, is_open}
@@ -11,6 +14,7 @@ use Rattle.peer_runner.specs.DerivedStates.{CallAccess, MemoryOp}
 use Rattle.peer_runner.specs.Actions.{Action}
 use Rattle.peer_runner.specs.RunSetups.{config_in}
 use Rattle.lawful_history.specs.declared.line.Line.{Line}
+use Rattle.lawful_history.specs.declared.line.Line.TheVariants as line
 use Rattle.peer_runner.specs.Turns.{interrupt_line, interrupt_lines, sleeps}
 use Rattle.peer_runner.specs.Runners.{Runner, MayRingBy, due_of, looks_now, RunnerRefines}
 use Rattle.peer_runner.proofs.Keys.{clash}
@@ -53,3 +57,16 @@ pub heard_more : (n me found : ℕ) (first was now : List Line) → was ≡ firs
 unfolding interrupt_lines
 heard_more n me found first was now is more = let next : n + 1 ≡ suc n = omega arith in
     more ∙ (ap (λ ls. ls ++ interrupt_line me n found) is ∙ (append_assoc first (interrupt_lines n me found) (interrupt_line me n found) ∙ sym (ap (λ k. first ++ interrupt_lines k me found) next)))
+
+-- where no bit from n on is set, all bits are told with those below n
+heard_below : (n k me found : ℕ) → found < 2 ^ n → interrupt_lines (n + k) me found ≡ interrupt_lines n me found
+unfolding interrupt_lines
+heard_below n zero me found small = let same : n + 0 ≡ n = omega arith in ap (λ (m : ℕ). interrupt_lines m me found) same
+heard_below n (suc k) me found small = let next : n + suc k ≡ suc (n + k) = omega arith in
+    let clear : interrupt_line me (n + k) found ≡ [] = ap (λ (b : ℕ). if b == 0 then [] else line.Interrupt me (n + k) ∷ []) (bit_at_above found n (n + k) small (omega arith)) in
+    ap (λ (m : ℕ). interrupt_lines m me found) next ∙ ((λ i. heard_below n k me found small i ++ clear i) ∙ append-nil (interrupt_lines n me found))
+
+pub heard_rest : (bit me found : ℕ) (first now : List Line) → bit ≤ 64 → found / 2 ^ bit ≡ 0 → now ≡ first ++ interrupt_lines bit me found → now ≡ first ++ interrupt_lines 64 me found
+heard_rest bit me found first now most none is = let all : bit + (64 - bit) ≡ 64 = omega arith in
+    let under : found < found / 2 ^ bit * 2 ^ bit + 2 ^ bit = lt-div-mul-add (pow_pos bit) in let small : found < 2 ^ bit = let at = subst (λ (q : ℕ). found < q * 2 ^ bit + 2 ^ bit) none under in omega (arith, at) in
+    is ∙ ap (λ (ls : List Line). first ++ ls) (sym (heard_below bit (64 - bit) me found small) ∙ ap (λ (n : ℕ). interrupt_lines n me found) all)

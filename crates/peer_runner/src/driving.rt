@@ -200,7 +200,6 @@ fn drive_auto<G: Gate>(
         )?;
     }
     let choice = choose(&mut peer.auto, &peer.end);
-    gate.ended(me);
     Ok(OwnTrace {
         peer: me,
         lines,
@@ -265,7 +264,6 @@ fn drive_storm<G: Gate>(
             take_step(words, pass, routes, &mut storm, &mut ringing, &mut lines)?;
         }
     }
-    gate.ended(storm.peer);
     Ok(OwnTrace {
         peer: storm.peer,
         lines,
@@ -274,12 +272,8 @@ fn drive_storm<G: Gate>(
     })
 }
 
-/// The peer of a plan takes the turns of its spans, and waits for nobody; between two spans it is reset. The pass is of the words, has
-/// this peer alone, and its list is empty; the driver is at its start; the routes are those with which the words were made. The answer
-/// is the peer's own trace, without its quiet calls: it has taken all its turns, or is finished.
-///
-/// NoMemory says that memory ran out. Then the pass has what was done so far, and the gate isn't told the end.
-pub fn drive<G: Gate>(
+/// The turns of a plan's peer, by whatever drives it.
+fn drive_plan<G: Gate>(
     alloc: Global,
     words: &Words,
     pass: &mut Pass,
@@ -327,4 +321,29 @@ pub fn drive<G: Gate>(
             drive_storm(alloc, words, pass, spans, storm, routes, gate)
         }
     }
+}
+
+/// The peer of a plan takes the turns of its spans, and waits for nobody; between two spans it is reset. The pass is of the words, has
+/// this peer alone, and its list is empty; the driver is at its start; the routes are those with which the words were made. The answer
+/// is the peer's own trace, without its quiet calls: it has taken all its turns, or is finished.
+///
+/// NoMemory says that memory ran out. Then the pass has what was done so far. The gate's `ended` is called once in either case.
+pub fn drive<G: Gate>(
+    alloc: Global,
+    words: &Words,
+    pass: &mut Pass,
+    plan: PeerPlan,
+    gate: &G,
+) -> Result<OwnTrace, NoMemory>
+    requires of { IsOf words.now.shared.table_id words.now.shared.key pass.old }
+    requires alone { (pass.old.from ≡ plan.peer) × (pass.old.lists ≡ [] ∷ []) }
+    requires drives { MayDrive words.now.shared.key plan.peer plan.driver }
+    requires few { all_turns plan.spans < 2 ^ 32 }
+    requires routes { AreRoutes words.now.shared.key plan.routes.items }
+    ensures { (list : List (Action (MemoryOp CallAccess))) × (pass.new ≡ held pass.old.table_id plan.peer (list ∷ [])) × Drove words.now.shared.key plan.routes.items plan.peer plan.spans (starting plan.driver) list result }
+{
+    let peer = plan.peer;
+    let trace = drive_plan(alloc, words, pass, plan, gate);
+    gate.ended(peer);
+    trace
 }

@@ -5,11 +5,12 @@ pub trait Gate {
     /// Called before each turn of a peer, with the number of the turn, from 1.
     fn pass(&self, peer: u32, turn: u64);
 
-    /// Called once after the last turn of a peer. A peer for which memory ran out doesn't call it.
+    /// Called once for each peer that is driven, after its last turn, also where memory ran out.
     fn ended(&self, peer: u32);
 }
 
 /// A gate whose calls do nothing.
+#[derive(Clone, Copy, Debug)]
 pub struct OpenGate;
 
 impl Gate for OpenGate {

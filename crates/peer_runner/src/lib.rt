@@ -46,4 +46,4 @@ pub use rule::Rule;
 pub use run_setup::RunSetup;
 pub use spans::Spans;
 pub use view::View;
-pub use words::{Pass, Words, join_pass, split_pass, words_for};
+pub use words::{Pass, Words, join_pass, learn, split_pass, words_for};

@@ -162,11 +162,15 @@ fn record_interrupt(me: u32, bit: u32, found: u64, lines: &mut Lines) -> Result<
     })
 }
 
-/// Tells the bits that a look found, ascending.
+/// Tells the bits that a look found, ascending, up to the highest one. Where it found none this is one test.
 pub fn record_interrupts(me: u32, found: u64, lines: &mut Lines) -> Result<(), NoMemory>
     ensures { OnOk result (lines.new ≡ lines.old ++ interrupt_lines 64 me found) }
 {
     for bit in 0..64 {
+        let rest = found >> bit;
+        if rest == 0 {
+            return Ok(());
+        }
         record_interrupt(me, bit, found, lines)?;
     }
     Ok(())

@@ -9,10 +9,10 @@ ghost use Rattle.peer_runner.specs.RunSetups.{IsMadeFor};
 ghost use Rattle.peer_runner.specs.Actions.{Action};
 ghost use Rattle.peer_runner.specs.DerivedStates.{CallAccess, MemoryOp};
 ghost use Rattle.peer_runner.specs.Passes.{IsOf, IsWhole, IsUnused, held};
-ghost use Rattle.peer_runner.specs.Drives.{RanOne, RanAll, BothOk};
+ghost use Rattle.peer_runner.specs.Drives.{IsPlanFor, RanOne, RanAll, BothOk};
 ghost use Rattle.peer_runner.specs.RunningRecord.{IsRunOf};
 
-use crate::driving::drive;
+use crate::driving::{PeerPlan, drive};
 use crate::gate::Gate;
 use crate::plans::plan_of;
 use crate::words::{Pass, Words, join_pass, learn, split_pass};
@@ -21,6 +21,24 @@ use record_text::{OwnTrace, OwnTraces, RunTrace};
 use scenario_text::Scenario;
 use std::alloc::Global;
 use std::thread::{Threads, join};
+
+/// The plan of a peer, if it has a turn line. Where memory runs out the peer takes no turn, and the gate's `ended` is called.
+fn plan_for<G: Gate>(
+    alloc: Global,
+    scenario: &Scenario,
+    me: u32,
+    gate: &G,
+) -> Result<Option<PeerPlan>, NoMemory>
+    requires there { me < scenario.now.geometry.peers }
+    requires running { not_running (world_of scenario.now) ≡ None }
+    ensures { IfOk result (IsPlanFor (world_of scenario.now) me) }
+{
+    let plan = plan_of(alloc, scenario, me);
+    if plan.is_err() {
+        gate.ended(me);
+    }
+    plan
+}
 
 /// One peer runs, if it has a turn line: its trace, or none.
 fn run_one<G: Gate>(
@@ -38,7 +56,7 @@ fn run_one<G: Gate>(
     ensures { (list : List (Action (MemoryOp CallAccess))) × (pass.new ≡ held pass.old.table_id me (list ∷ []))
         × IfOk result (λ traces. RanOne (world_of scenario.now) words.now.shared.key me list traces.items) }
 {
-    let Some(plan) = plan_of(alloc, scenario, me)? else {
+    let Some(plan) = plan_for(alloc, scenario, me, gate)? else {
         return Ok(Vec::new(alloc));
     };
     let trace = drive(alloc, words, pass, plan, gate)?;
@@ -128,7 +146,7 @@ fn listed(alloc: Global, traces: Vec<OwnTrace>) -> Result<OwnTraces, NoMemory>
 /// for this scenario, and no access was made by the pass. After either answer the pass has all peers again, with the list of the
 /// accesses of each.
 ///
-/// NoMemory says that memory ran out, in whichever thread.
+/// NoMemory says that memory ran out, in whichever thread. The gate's `ended` is called once for each peer that has a turn line, also then.
 pub fn run_peers<R: Threads + Sync, G: Gate + Sync>(
     rt: &R,
     alloc: Global,

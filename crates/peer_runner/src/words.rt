@@ -125,8 +125,10 @@ fn learn_by<M: Play<u8, View>>(words: &Words, pass: &mut Pass)
     words.shared.load::<M>(&mut pass.seat, 0);
 }
 
-/// What the rule says of the lists, where the pass has all of them.
-pub(crate) fn learn(words: &Words, pass: &mut Pass)
+/// What the rule says of the lists, where the pass has all of them: of two honest peers the pairing of their sessions, that neither refuses,
+/// and that a doorbell that was asked for is rung; of one beside a hostile peer that its sessions carry none; and of all that no interrupt is
+/// found that wasn't rung. The pass stays as it was.
+pub fn learn(words: &Words, pass: &mut Pass)
     requires of { IsOf words.now.shared.table_id words.now.shared.key pass.old }
     ensures same { pass.new ≡ pass.old }
     ensures told { IsLearned words.now.shared.key pass.old.from pass.old.lists }

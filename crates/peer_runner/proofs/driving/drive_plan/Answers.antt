@@ -5,7 +5,7 @@ use Rattle.peer_runner.specs.DerivedStates.{CallAccess, MemoryOp}
 use Rattle.peer_runner.specs.Actions.{Action}
 use Rattle.peer_runner.specs.Passes.{held}
 use Rattle.peer_runner.specs.Drives.{starting, Drove}
-use Rattle.peer_runner.proofs.driving.drive.Goals as goal
+use Rattle.peer_runner.proofs.driving.drive_plan.Goals as goal
 
 pub returns-in-Auto : goal.returns-in-Auto
 returns-in-Auto g c = let p = c.args.plan.peer in let key = c.args.words.now.shared.key in let id = c.args.pass.now.table_id in let done = c.drive_auto.new.pass in let result = c.drive_auto.result in

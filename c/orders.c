@@ -1,15 +1,19 @@
 /* orders RUNS STEPS SEED [--version 2] [--without ROW]: random runs of two ends over a memory that is weaker than sequentially consistent, with each
  * access in the order that the library tells of it. ROW takes one order away: state-release, state-fence, state-acquire, available-release,
- * available-acquire, used-release, used-acquire, and in a link of version 2 event-store-fence or event-load-fence. It ends with 0 where each run was as
- * it is to be, and with 1 at the first that isn't.
+ * available-acquire, used-release, used-acquire, doorbell-release, and in a link of version 2 event-store-fence or event-load-fence. It ends with 0
+ * where each run was as it is to be, and with 1 at the first that isn't.
  *
  * The memory: each word has a list of messages. A store adds one; a load may give any message that its thread's view doesn't rule out, and the view
  * goes on to it. A releasing store carries its thread's view along, and an acquiring load takes over the view that its message carries. A full fence
- * joins the thread's view with that of all fences before it. Loads don't see stores that come later. Each word has one writer and one reader.
+ * joins the thread's view with that of all fences before it. Loads don't see stores that come later. Each word has one writer and one reader. A
+ * doorbell is a store too: if it is a releasing one it carries its thread's view, and the interrupt takes over what came with it, at any later step of
+ * the peer that is rung. Doorbells that were rung until then come as one. In most runs no interrupt comes, so that nothing else is hidden by what it
+ * carries.
  *
  * What is to hold: nothing is refused; and in each of its sessions an end delivers a beginning of what the other accepted in one session, whole, in
- * order, each session of the other once at most, and these rising. And in a link of version 2 no doorbell is lost: where the last look of a poll found
- * nothing, the other's next frame in that session rings. */
+ * order, each session of the other once at most, and these rising. What a doorbell announces is found after its interrupt: a look finds the frames that
+ * were accepted before it was rung, and an offer the frames that were returned. And in a link of version 2 no doorbell is lost: where the last look of a
+ * poll found nothing, the other's next frame in that session rings. */
 #include <inttypes.h>
 #include <stdbool.h>
 #include <stdio.h>
@@ -20,10 +24,10 @@
 
 enum { OUT = 16384, MTU = 256, WORDS = 1024 + 2 * OUT / 4, SESSIONS = 4096, FLIGHT = 256 };
 enum row { NONE, STATE_RELEASE, STATE_FENCE, STATE_ACQUIRE, AVAILABLE_RELEASE, AVAILABLE_ACQUIRE, USED_RELEASE, USED_ACQUIRE,
-           EVENT_STORE_FENCE, EVENT_LOAD_FENCE, ROWS };
+           DOORBELL_RELEASE, EVENT_STORE_FENCE, EVENT_LOAD_FENCE, ROWS };
 
 static const char *const rows[ROWS] = {"none", "state-release", "state-fence", "state-acquire", "available-release", "available-acquire",
-                                       "used-release", "used-acquire", "event-store-fence", "event-load-fence"};
+                                       "used-release", "used-acquire", "doorbell-release", "event-store-fence", "event-load-fence"};
 
 struct view { uint32_t at[WORDS]; }; /* the number of the oldest message of each word that may be read still */
 
@@ -37,9 +41,16 @@ struct word {
     struct message *list;
 };
 
+/* What a doorbell announces: the frames that its peer accepted in its session, and those that it returned of the session that it attends. */
+struct news { uint32_t session, accepted, attended, returned; };
+
 struct peer {
     ivshm_end end;
     struct view view;
+    struct view carried;        /* by the doorbells that were rung for it and whose interrupt hasn't come */
+    struct news rung, heard;    /* what the last of them announces, and what the last doorbell whose interrupt came */
+    bool due;                   /* an interrupt is to come */
+    uint32_t freed, returned;   /* frames that it found returned in its session; those of the other that it returned */
     uint32_t me, own, theirs, ready, accepted[SESSIONS]; /* `ready`: sessions of its own so far; `accepted`: frames in each */
     uint32_t attended, taken, last;                      /* the other's session whose frames it takes, how many, and the one before */
     uint8_t offered[300];                                /* the frame of its open offer, and its length */
@@ -55,8 +66,9 @@ static struct peer peers[2];
 static ivshm_words layout;
 static enum row without;
 static uint32_t version = 1;
-static uint64_t generator, delivered, sessions, rests, silences;
+static uint64_t generator, delivered, sessions, rests, silences, rings;
 static uint32_t resets, ticks; /* one step in so many is a reset, and one call in so many a Tick: drawn for each run */
+static uint32_t hears;         /* an interrupt that is due comes at one step in so many, or at none in this run: drawn too */
 static const char *wrong;
 
 static uint32_t draw(uint32_t below) {
@@ -137,6 +149,34 @@ static void take(struct peer *p, const uint32_t *room) {
     p->taken++;
 }
 
+/* The doorbell is rung: an interrupt is due at the other. */
+static void ring(const struct peer *p, bool release) {
+    struct peer *other = &peers[1 - p->me];
+    if (release) join(&other->carried, &p->view);
+    other->rung = (struct news){p->ready, p->ready ? p->accepted[p->ready] : 0, p->taken ? p->attended : 0, p->returned};
+    other->due = true;
+}
+
+/* The interrupt comes: a step of its own. */
+static void hear(struct peer *p) {
+    join(&p->view, &p->carried);
+    p->heard = p->rung;
+    p->due = false;
+    rings++;
+}
+
+/* A look found so many frames: those that a doorbell announced are among them, where its session is the one that is attended. */
+static void look(struct peer *p, uint64_t found) {
+    p->rests = false;
+    if (p->taken && p->heard.session == p->attended && p->taken + found < p->heard.accepted) wrong = "a doorbell came before the frame that it announces";
+}
+
+/* An offer found so many more frames returned. */
+static void reclaim(struct peer *p, uint64_t found) {
+    p->freed += (uint32_t)found;
+    if (p->ready && p->heard.attended == p->ready && p->freed < p->heard.returned) wrong = "a doorbell came before the slot that it announces";
+}
+
 /* A peer that rests at this frame of the other's session is to be rung for it. Which session it attends is known after its first frame. */
 static void wake(const struct peer *resting, const struct peer *other, uint32_t number) {
     bool same = resting->rests && resting->taken == number && number > 0 && resting->attended == other->ready;
@@ -163,7 +203,7 @@ static void enter(struct peer *p, uint32_t state) {
     p->rests = false;
     if (state != IVSHM_READY) return;
     if (p->taken) p->last = p->attended;
-    p->taken = 0;
+    p->taken = p->freed = p->returned = 0;
     p->accepted[++p->ready] = 0;
     sessions++;
 }
@@ -171,6 +211,7 @@ static void enter(struct peer *p, uint32_t state) {
 static enum row row_of(const struct peer *p, const ivshm_access *access) {
     bool stores = access->kind == IVSHM_WRITE;
     if (access->kind == IVSHM_STATE) return STATE_RELEASE;
+    if (access->kind == IVSHM_RING) return DOORBELL_RELEASE;
     if (access->kind == IVSHM_READ && access->word == 1 - p->me) return STATE_ACQUIRE;
     uint32_t at = access->word - (stores ? p->own : p->theirs);
     if (at == layout.available_index) return stores ? AVAILABLE_RELEASE : AVAILABLE_ACQUIRE;
@@ -190,7 +231,9 @@ static void heed(struct peer *p, const ivshm_access *access, const ivshm_notes *
         uint32_t kind = notes->note[i].kind;
         if (kind == IVSHM_REFUSE) wrong = "an honest peer was refused";
         if (kind == IVSHM_DELIVER) take(p, room);
-        if (kind == IVSHM_LOOK) p->rests = false;
+        if (kind == IVSHM_LOOK) look(p, notes->note[i].value);
+        if (kind == IVSHM_RECLAIM) reclaim(p, notes->note[i].value);
+        if (kind == IVSHM_RETURN) p->returned++;
         if (kind == IVSHM_FINISH && access->kind == IVSHM_READ) rest(p);
         if (kind == IVSHM_OVER && at_event) keep_silent(p);
         if (kind == IVSHM_ACCEPT) {
@@ -261,6 +304,7 @@ static void step(struct peer *p) {
             store(p, p->me, access.value, ordered);
             enter(p, access.value);
         }
+        if (access.kind == IVSHM_RING) ring(p, ordered);
         ivshm_end_took(&p->end, value, &notes);
     }
     p->fencing = access.fence_after && fences_at(&access);
@@ -295,12 +339,15 @@ static void run(uint32_t steps) {
     }
     resets = 20u << draw(6);
     ticks = 1 + draw(4);
+    hears = draw(4) ? 0 : 2u << draw(6);
     for (uint32_t i = 0; i < steps && !wrong; i++) {
         struct peer *p = &peers[draw(2)];
         ivshm_access access;
         if (p->fencing) {
             fence(p);
             p->fencing = false;
+        } else if (hears && p->due && draw(hears) == 0) {
+            hear(p);
         } else if (draw(resets) == 0) {
             ivshm_end_reset(&p->end);
             p->fenced = p->rests = false;
@@ -337,6 +384,6 @@ int main(int argc, char **argv) {
         return 1;
     }
     printf("without %s: %" PRIu64 " runs, %" PRIu64 " sessions, %" PRIu64 " frames delivered, %" PRIu64 " polls that found nothing, %" PRIu64
-           " frames that didn't ring, nothing wrong\n", rows[without], runs, sessions, delivered, rests, silences);
+           " frames that didn't ring, %" PRIu64 " interrupts, nothing wrong\n", rows[without], runs, sessions, delivered, rests, silences, rings);
     return 0;
 }

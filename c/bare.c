@@ -2,18 +2,10 @@
  * each call of the header, its answers among them. It ends with the number of the first line that isn't as it should be, or with 0. */
 #include "ivshm_c.h"
 
-struct rattle_block {
-    uint64_t ok;
-    void *at;
-};
-
 static _Alignas(16) unsigned char arena[1 << 18];
 static size_t top;
 
-struct rattle_block rattle_alloc(size_t size, size_t align);
-void rattle_dealloc(void *at);
 int check(void);
-void _start(void);
 
 struct rattle_block rattle_alloc(size_t size, size_t align) {
     (void)align;
@@ -223,7 +215,7 @@ static int check_bursts(void) {
     memset(room, 1, sizeof room);
     WANT(ivshm_end_words(&a, room, 64) == IVSHM_DONE && room[0] == 0 && room[63] == 0 && ivshm_end_took_reads(&a, room, 4, &notes) == IVSHM_OTHER_ACCESS);
     WANT(ivshm_end_took_writes(&a, 0) == IVSHM_BAD_COUNT && ivshm_end_took_writes(&a, 4097) == IVSHM_BAD_COUNT);
-    memset(words + 1024, 0, 4 * 4096);
+    memset(words + 1024, 0, (size_t)4 * 4096);
     WANT(ivshm_end_took_writes(&a, 4096) == IVSHM_DONE && run(&a, 0) == 0 && words[0] == IVSHM_READY);
     for (int i = 0; i < 10; i++) {
         tick(&b, 1);
@@ -396,5 +388,10 @@ int check(void) {
 #ifdef HOSTED
 int main(void) { return check(); }
 #else
-__attribute__((naked, noreturn)) void _start(void) { __asm__("and $-16, %rsp\n call check\n mov %eax, %edi\n mov $60, %eax\n syscall"); }
+/* Calls check on an aligned stack, and ends with its answer. */
+#ifdef __aarch64__
+__asm__(".globl _start\n_start:\n bl check\n mov x8, #93\n svc #0");
+#else
+__asm__(".globl _start\n_start:\n and $-16, %rsp\n call check\n mov %eax, %edi\n mov $60, %eax\n syscall");
+#endif
 #endif

@@ -46,8 +46,40 @@
  *  8. Poll until a poll delivers nothing before you stop: what the other peer published, and you didn't poll, is lost with the session.
  *     Its doorbell comes with its frames, from version 2 on with the first one after a poll that found nothing; but poll too where none
  *     came: interrupts may be lost.
- *  9. rattle_alloc and rattle_dealloc are yours or those of heap.c, and memcpy, memmove and memset are what C says. The library takes
- *     memory in ivshm_end_new and ivshm_end_new_version alone. It may use the vector registers of its processor: a kernel saves them around its calls.
+ *  9. rattle_alloc and rattle_dealloc do what their declarations say, and memcpy, memmove and
+ *     memset do what C says.
+ * 10. The archive fits the code that calls it. For x86-64 there are two forms:
+ *
+ *                                            tools/c_library       tools/c_library --kernel
+ *       the 128 bytes below the stack        hold values           are not used
+ *       pointer (the red zone)
+ *       the stack at a call is aligned to    16 bytes              8 bytes
+ *       the vector registers                 are used              are not used
+ *       the program is linked                anywhere              in the lowest 2 GB, or in the
+ *                                                                  highest 2 GB
+ *
+ *     Code in ring 0 links the second form. There an interrupt overwrites the red zone: a valid
+ *     configuration space is then answered by IVSHM_LOOP, and two honest ends refuse each other.
+ *     And Linux aligns its stack to 8 bytes, where the first form faults. kernel_fpu_begin saves
+ *     registers alone, so it doesn't make the first form safe. ARM64 has no red zone; there the
+ *     second form is the one without vector registers.
+ *
+ * THREADS. The library has no data of its own: the state of an end is in the blocks that its
+ * handle leads to. Calls on different handles may overlap if rattle_alloc and rattle_dealloc may.
+ * Calls on one handle don't overlap (duty 3). No call waits.
+ *
+ * STACK. A call uses at most IVSHM_STACK bytes of stack, without what memcpy, memmove, memset,
+ * rattle_alloc and rattle_dealloc use.
+ *
+ * ALIGNMENT. A pointer to a struct is aligned as C aligns that struct. A pointer to bytes, to a
+ * frame or a room, has any alignment.
+ *
+ * BOTH ENDS of a link have the same version, the same MTU and the same vector. Nothing in the
+ * region says which: the two programs agree on them. The proof about two ends is of such a pair.
+ * checks/c_library tries ends that differ in version and MTU: no value is refused and no frame is
+ * lost, and each end bounds the frames that it offers itself. But a doorbell may be missing: an
+ * end of version 1 never writes its event index, so an end of version 2 or 3 rings it for one
+ * frame in 65,536, and it finds the other frames when it polls.
  *
  * WHAT IS PROVED of the library, for all values that a program hands over, where those duties are kept: each answer has exactly the cause
  * that stands here, but for IVSHM_NO_MEMORY, which is free to come; an answer other than IVSHM_DONE changes neither the end nor what a
@@ -60,12 +92,24 @@
 #ifndef IVSHM_C_H
 #define IVSHM_C_H
 
+#ifdef __KERNEL__
+#include <linux/stddef.h>
+#include <linux/types.h>
+#else
 #include <stddef.h>
 #include <stdint.h>
+#endif
 
 #ifdef __cplusplus
 extern "C" {
 #endif
+
+/* The version of the library, and the version of its binary interface. A program compiled with
+ * this header works with each archive of the same IVSHM_ABI_VERSION: there no function leaves, no
+ * constant changes and no struct grows. c/ivshm_c.abi lists them, and checks/c_style compares the
+ * list with this header and with the archive. */
+#define IVSHM_LIBRARY_VERSION "1.0"
+#define IVSHM_ABI_VERSION 1
 
 /* The handle of an end. Its one field is the library's. */
 typedef struct ivshm_end {
@@ -115,11 +159,13 @@ enum {
 
 /* The highest version of the link, and bounds; ivshm_limits tells the same numbers of the library that is linked. */
 #define IVSHM_VERSION 3
+#define IVSHM_PROTOCOL 1     /* ivshm_found.protocol of the link */
 #define IVSHM_LEAST_MTU 256
 #define IVSHM_MOST_MTU 65535
 #define IVSHM_SHORTEST 14    /* bytes of the shortest frame: an Ethernet header */
 #define IVSHM_LONGEST 65553  /* bytes of the longest frame of all: a room of so many takes any delivery */
 #define IVSHM_LARGEST_REGION 16777216
+#define IVSHM_STACK 1024     /* bytes of stack that a call uses at most */
 
 typedef struct ivshm_limit_values {
     uint32_t version;
@@ -141,7 +187,7 @@ typedef struct ivshm_found {
     uint64_t out;            /* each output section */
     uint64_t base;           /* where the region is in guest-physical memory, if has_base */
     uint32_t table;          /* the State Table */
-    uint32_t protocol;       /* Sub-Class << 8 | Interface: 1 is the link's */
+    uint32_t protocol;       /* Sub-Class << 8 | Interface. No call looks at it: leave a device alone if it isn't IVSHM_PROTOCOL */
     uint32_t one_shot;       /* 1 where Privileged Control asks for one-shot mode */
     uint32_t has_base;       /* 0: the region lies behind Base Address Register 2 */
     uint32_t vectors;        /* of MSI-X; 0: there is no such capability, and interrupts come by INTx */
@@ -177,6 +223,24 @@ typedef struct ivshm_words {
 
 /* Tells the words of a region of these sizes, which are the same in each version, but for what is said of the slots. IVSHM_DONE, or one of IVSHM_BAD_PEERS to IVSHM_NO_SLOT. */
 uint32_t ivshm_layout(const ivshm_found *found, uint32_t peers, uint32_t mtu, ivshm_words *layout);
+
+/* ---- memory ---- */
+
+/* A block of memory, or none. */
+struct rattle_block {
+    uint64_t ok; /* 1: `at` is the block. 0: there is no memory, and `at` is any pointer but NULL */
+    void *at;
+};
+
+/* The program defines these two functions, or links heap.c. The library calls rattle_alloc in
+ * ivshm_end_new and ivshm_end_new_version alone, for six blocks: two of the longest frame that may
+ * come, one of the longest frame that may be offered, one of two bytes for each descriptor, one of
+ * four bytes for each frame that may be in flight, and one of some hundred bytes. rattle_alloc
+ * returns a new block of `size` bytes, at least 1, at a multiple of `align`: 1, 2, 4, 8 or 16.
+ * The library calls rattle_dealloc once for each block: in ivshm_end_free, and in
+ * ivshm_end_new and ivshm_end_new_version if a later block is missing. */
+struct rattle_block rattle_alloc(size_t size, size_t align);
+void rattle_dealloc(void *at);
 
 /* ---- an end ---- */
 
@@ -257,7 +321,7 @@ enum {
     IVSHM_FULL = 3,    /* full: the frame that is offered has no room; the offer is over */
     IVSHM_ACCEPT = 4,  /* accept: the frame offered is published */
     IVSHM_LOOK = 5,    /* look: a poll found `value` frames */
-    IVSHM_DELIVER = 6, /* deliver: a frame was read whole; take it by ivshm_end_frame before the next step, or from the words that were read at once */
+    IVSHM_DELIVER = 6, /* deliver: a frame was read whole; ivshm_end_frame copies it until the next IVSHM_DELIVER, and it is in the words that were read at once */
     IVSHM_RETURN = 7,  /* return: a frame's slot was handed back */
     IVSHM_FINISH = 8,  /* done: the poll is over */
     IVSHM_DOWN = 9,    /* down: the call was made outside RUN; it is over */

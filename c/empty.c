@@ -17,7 +17,7 @@ struct list {
 struct empty {
     uint32_t me, own, theirs, at;
     size_t length; /* of the frames that the lists are for */
-    struct list *now, tick, offer, poll;
+    struct list *now, first, tick, offer, poll;
 };
 
 static void add(struct list *l, uint32_t kind, uint32_t word, uint32_t count, uint32_t order) {
@@ -58,7 +58,7 @@ static void lay_out(struct empty *e, size_t length) {
 
 uint32_t ivshm_layout(const ivshm_found *found, uint32_t peers, uint32_t mtu, ivshm_words *layout) {
     (void)peers, (void)mtu;
-    *layout = (ivshm_words){.first = found->table / 4, .words = (uint32_t)(found->out / 4), .data_area = 4 * DATA};
+    *layout = (ivshm_words){.first = found->table / 4, .words = (uint32_t)(found->out / 4), .data_area = 4 * DATA, .longest_delivery = IVSHM_LONGEST};
     return IVSHM_DONE;
 }
 
@@ -70,7 +70,9 @@ uint32_t ivshm_end_new_version(ivshm_end *end, const ivshm_found *found, uint32_
     e->own = found->table / 4 + me * (uint32_t)(found->out / 4);
     e->theirs = found->table / 4 + (1 - me) * (uint32_t)(found->out / 4);
     lay_out(e, 64);
-    e->now = &e->tick;
+    add(&e->first, IVSHM_STATE, 0, 0, IVSHM_RELEASE);
+    e->first.access[0].value = IVSHM_RUN;
+    e->now = &e->first;
     end->at = e;
     return IVSHM_DONE;
 }

@@ -3,6 +3,8 @@
  * into the other end. It prints frames a second; the layout is the library's. */
 #include "region.h"
 
+#include <stdatomic.h>
+
 enum { BATCH = 8 };
 
 struct side {

@@ -8,7 +8,7 @@
 #include <sched.h>
 
 struct side {
-    struct link link;
+    struct region region;
     size_t size;
     uint64_t frames, sent, taken, bad;
     uint8_t next[IVSHM_LONGEST], expected[IVSHM_LONGEST];
@@ -33,16 +33,16 @@ static void make(uint8_t *frame, uint32_t from, uint64_t number, size_t size) {
     }
 }
 
-static void take(struct link *l, const uint8_t *frame, size_t length) {
-    struct side *s = l->context;
-    make(s->expected, l->other, s->taken++, s->size);
-    if (length != s->size || memcmp(frame, s->expected, length)) s->bad++;
+static void take(struct region *r, const uint8_t *frame, size_t length) {
+    struct side *s = r->context;
+    make(s->expected, 1 - r->link.setup.me, s->taken++, s->size);
+    if (length != s->size || memcmp(frame, s->expected, length) != 0) s->bad++;
 }
 
 static void begin(struct side *s, const char *path, uint32_t me, char **sizes, struct record *record) {
-    attach(&s->link, path, me, strtoull(sizes[0], NULL, 10), (uint32_t)strtoul(sizes[1], NULL, 10), record);
-    s->link.context = s;
-    s->link.deliver = take;
+    attach(&s->region, path, me, strtoull(sizes[0], NULL, 10), (uint32_t)strtoul(sizes[1], NULL, 10), record);
+    s->region.context = s;
+    s->region.deliver = take;
     s->frames = strtoull(sizes[2], NULL, 10);
     s->size = strtoull(sizes[3], NULL, 10);
     make(s->next, me, 0, s->size);
@@ -51,34 +51,33 @@ static void begin(struct side *s, const char *path, uint32_t me, char **sizes, s
 /* Offers up to `most` frames, and polls once. */
 static void exchange(struct side *s, int most) {
     for (int i = 0; i < most && s->sent < s->frames; i++) {
-        if (offer(&s->link, s->next, s->size) != IVSHM_ACCEPTED) break;
-        make(s->next, s->link.me, ++s->sent, s->size);
+        if (offer(&s->region, s->next, s->size) != IVSHM_ACCEPTED) break;
+        make(s->next, s->region.link.setup.me, ++s->sent, s->size);
     }
-    call(&s->link, IVSHM_POLL);
+    take_frames(&s->region);
 }
 
 static bool is_done(const struct side *s) { return s->sent == s->frames && s->taken == s->frames; }
 
-static bool is_running(struct side *s) { return view(&s->link).state == IVSHM_RUN; }
-
-static int told(const struct side *s, double seconds) {
-    const struct link *l = &s->link;
+/* Prints what the side did, and returns 0 if all of it was right. */
+static int report(const struct side *s, double seconds) {
+    const ivshm_link_counts *counts = &s->region.link.counts;
     printf("peer %u: %" PRIu64 " frames of %zu bytes sent, %" PRIu64 " taken, %" PRIu64 " changed, %" PRIu64 " refusals, %" PRIu64
            " stray accesses; %" PRIu64 " accesses, %.0f frames a second each way\n",
-           l->me, s->sent, s->size, s->taken, s->bad, l->refusals, l->stray, l->accesses, (double)s->taken / seconds);
-    return s->bad || l->refusals || l->stray || !is_done(s);
+           s->region.link.setup.me, s->sent, s->size, s->taken, s->bad, counts->refusals, counts->stray, counts->accesses, (double)s->taken / seconds);
+    return s->bad || counts->refusals || counts->stray || !is_done(s);
 }
 
 static int one(const char *path, uint32_t me, char **sizes) {
     static struct side s;
     begin(&s, path, me, sizes, NULL);
     double started = now();
-    while (!is_running(&s) && now() - started < 20) {
-        call(&s.link, IVSHM_TICK);
+    while (!is_running(&s.region) && now() - started < 20) {
+        tick(&s.region);
         sched_yield();
     }
     double start = now(), last = start;
-    for (uint64_t idle = 0; !is_done(&s) && is_running(&s) && now() - last < 20;) {
+    for (uint64_t idle = 0; !is_done(&s) && is_running(&s.region) && now() - last < 20;) {
         uint64_t before = s.taken;
         exchange(&s, 16);
         if (s.taken != before) {
@@ -90,14 +89,15 @@ static int one(const char *path, uint32_t me, char **sizes) {
     }
     double seconds = now() - start;
     /* the other may not have taken the last ones: the session goes on until it leaves */
-    for (last = now(); is_running(&s) && now() - last < 2;) {
-        call(&s.link, IVSHM_POLL);
-        call(&s.link, IVSHM_TICK);
-        if (atomic_load(&s.link.sections.read[s.link.layout.used_index]) >> 16 == (s.sent & 0xffff)) break;
+    const uint32_t *used_index = &s.region.link.setup.other_section[s.region.link.layout.used_index];
+    for (last = now(); is_running(&s.region) && now() - last < 2;) {
+        take_frames(&s.region);
+        tick(&s.region);
+        if (load_word(used_index) >> 16 == (s.sent & 0xffff)) break;
         usleep(100);
     }
-    detach(&s.link);
-    return told(&s, seconds);
+    detach(&s.region);
+    return report(&s, seconds);
 }
 
 static int both(char **sizes, const char *record) {
@@ -110,25 +110,25 @@ static int both(char **sizes, const char *record) {
     begin(&a, path, 0, sizes, record ? &lines : NULL);
     begin(&b, path, 1, sizes, record ? &lines : NULL);
     unlink(path);
-    while (!is_running(&a) || !is_running(&b)) {
-        call(&a.link, IVSHM_TICK);
-        call(&b.link, IVSHM_TICK);
+    while (!is_running(&a.region) || !is_running(&b.region)) {
+        tick(&a.region);
+        tick(&b.region);
     }
     double start = now();
-    while ((!is_done(&a) || !is_done(&b)) && is_running(&a) && is_running(&b)) {
+    while ((!is_done(&a) || !is_done(&b)) && is_running(&a.region) && is_running(&b.region)) {
         exchange(&a, 8);
         exchange(&b, 8);
     }
     double seconds = now() - start;
-    detach(&a.link);
-    detach(&b.link);
+    detach(&a.region);
+    detach(&b.region);
     if (record) record_end(&lines, record, strtoull(sizes[0], NULL, 10), (uint32_t)strtoul(sizes[1], NULL, 10));
-    int failed = told(&a, seconds);
-    return told(&b, seconds) || failed;
+    int failed = report(&a, seconds);
+    return report(&b, seconds) || failed;
 }
 
 int main(int argc, char **argv) {
-    if (argc == 7 && strcmp(argv[1], "--both")) return one(argv[1], (uint32_t)strtoul(argv[2], NULL, 10), argv + 3);
+    if (argc == 7 && strcmp(argv[1], "--both") != 0) return one(argv[1], (uint32_t)strtoul(argv[2], NULL, 10), argv + 3);
     if (argc == 6 && !strcmp(argv[1], "--both")) return both(argv + 2, NULL);
     if (argc == 8 && !strcmp(argv[1], "--both") && !strcmp(argv[6], "--record")) return both(argv + 2, argv[7]);
     fprintf(stderr, "usage: pair REGION ME OUT MTU FRAMES SIZE | pair --both OUT MTU FRAMES SIZE [--record FILE]\n");

@@ -1,74 +1,69 @@
-/* speed OUT MTU SIZE ROUNDS: what the library costs, both ends in one thread. In a round each end offers 8 frames of SIZE bytes and polls, and a
- * frame that is delivered is copied out of the library, where its words weren't read at once. It prints calls of ivshm_end_next a frame and frames a second. Built with WAY 0 it prints
- * too what an access costs, and the floor of that: the accesses of the rounds made again, by a loop that has them as a list and no end in
- * between. */
+/* speed OUT MTU SIZE ROUNDS: what the library costs, with both ends in one thread. In a round each
+ * end offers 8 frames of SIZE bytes and polls. The program prints the calls of ivshm_end_next for
+ * a frame, and frames a second. Built with WAY 0 it also prints what an access costs, and the floor
+ * of that: the accesses of a round made again by a loop that has them as a list, with no end. */
 #include "region.h"
 
 enum { BATCH = 8 };
 
 struct made {
     ivshm_access access;
-    uint32_t me;
+    struct region *by;
 };
 
 static struct made *list;
 static size_t count, room;
 static uint8_t frame[IVSHM_LONGEST];
+static volatile uint32_t sink; /* keeps the reads of `again` */
 
-static uint64_t calls;
-
-/* The loop that is measured: what a driver does, without counts. */
-static inline void run(struct link *l, bool listed) {
-    ivshm_access access;
-    ivshm_notes notes;
-    while (ivshm_end_next(&l->end, &access) == IVSHM_DONE) {
-        calls++;
-        if (at_once(l, &access, &notes) == 0) {
-            uint32_t value = 0;
-            if (access.kind == IVSHM_READ) value = load(&l->words[access.word], &access);
-            else if (access.kind == IVSHM_WRITE) store(&l->sections.written[access.word - l->sections.own], &access);
-            else if (access.kind == IVSHM_STATE) store(l->state, &access);
-            ivshm_end_took(&l->end, value, &notes);
-        }
-        if (notes.count > 0 && notes.note[0].kind == IVSHM_DELIVER) {
-            size_t length;
-            (void)delivered_frame(&l->end, &l->sections, l->frame, &length);
-        }
-        if (listed) {
-            if (count == room) list = realloc(list, (room = 2 * room + 1024) * sizeof *list);
-            list[count++] = (struct made){access, l->me};
-        }
+/* Appends an access to the list. */
+static void append(void *context, const ivshm_access *access, uint32_t value) {
+    (void)value;
+    if (count == room) {
+        struct made *grown = realloc(list, (2 * room + 1024) * sizeof *list);
+        if (!grown) fail("realloc");
+        list = grown;
+        room = 2 * room + 1024;
     }
+    list[count++] = (struct made){*access, context};
 }
 
-static void round_of(struct link *a, struct link *b, size_t size, bool listed) {
+static void send(struct region *r, size_t size) {
+    uint32_t outcome;
+    must(ivshm_link_send(&r->link, frame, size, &outcome), "send");
+}
+
+static void round_of(struct region *a, struct region *b, size_t size) {
     for (int i = 0; i < BATCH; i++) {
-        open_offer(&a->end, &a->sections, frame, size);
-        run(a, listed);
-        open_offer(&b->end, &b->sections, frame, size);
-        run(b, listed);
+        send(a, size);
+        send(b, size);
     }
-    must(ivshm_end_begin(&a->end, IVSHM_POLL), "poll");
-    run(a, listed);
-    must(ivshm_end_begin(&b->end, IVSHM_POLL), "poll");
-    run(b, listed);
+    ivshm_link_poll(&a->link, IVSHM_LINK_ALL);
+    ivshm_link_poll(&b->link, IVSHM_LINK_ALL);
+}
+
+/* A round whose accesses become the list. */
+static void listed_round(struct region *a, struct region *b, size_t size) {
+    a->link.setup.accessed = b->link.setup.accessed = append;
+    round_of(a, b, size);
+    a->link.setup.accessed = b->link.setup.accessed = NULL;
 }
 
 /* The accesses of the list, once. */
-static uint32_t again(struct link *ends[2]) {
+static uint32_t again(void) {
     uint32_t sum = 0;
     for (size_t i = 0; i < count; i++) {
-        struct link *l = ends[list[i].me];
+        struct region *r = list[i].by;
         const ivshm_access *access = &list[i].access;
         switch (access->kind) {
         case IVSHM_READ:
-            sum += atomic_load(&l->words[access->word]);
+            sum += load_word(&r->words[access->word]);
             break;
         case IVSHM_WRITE:
-            atomic_store(&l->sections.written[access->word - l->sections.own], access->value);
+            store_word(&r->link.setup.own_section[access->word - r->link.own], access->value);
             break;
         case IVSHM_STATE:
-            atomic_store(l->state, access->value);
+            store_word(r->state, access->value);
             break;
         default:
             break;
@@ -77,9 +72,16 @@ static uint32_t again(struct link *ends[2]) {
     return sum;
 }
 
+/* Prints what an access costs, and the same accesses without an end. */
+static void print_floor(double seconds, uint64_t rounds, size_t size) {
+    double start = spent(), accesses = (double)(rounds * count);
+    for (uint64_t i = 0; i < rounds; i++) sink = again();
+    double floor_ns = (spent() - start) * 1e9 / accesses, ends_ns = seconds * 1e9 / accesses;
+    printf("%zu bytes: %.1f ns an access; floor %.1f ns an access; %.2f times the floor\n", size, ends_ns, floor_ns, ends_ns / floor_ns);
+}
+
 int main(int argc, char **argv) {
-    static struct link a, b;
-    struct link *links[2] = {&a, &b};
+    static struct region a, b;
     char path[64];
     snprintf(path, sizeof path, "/dev/shm/ivshm-speed-%ld", (long)getpid());
     if (argc != 5) return 2;
@@ -91,21 +93,18 @@ int main(int argc, char **argv) {
     attach(&a, path, 0, out, mtu, NULL);
     attach(&b, path, 1, out, mtu, NULL);
     unlink(path);
-    while (view(&a).state != IVSHM_RUN || view(&b).state != IVSHM_RUN) {
-        call(&a, IVSHM_TICK);
-        call(&b, IVSHM_TICK);
+    while (!is_running(&a) || !is_running(&b)) {
+        tick(&a);
+        tick(&b);
     }
-    for (int i = 0; i < 4; i++) round_of(&a, &b, size, i == 3 && WAY == 0);
-    calls = 0;
+    for (int i = 0; i < 3; i++) round_of(&a, &b, size);
+    if (WAY == 0) listed_round(&a, &b, size);
+    uint64_t steps = a.link.counts.steps + b.link.counts.steps;
     double start = spent();
-    for (uint64_t i = 0; i < rounds; i++) round_of(&a, &b, size, false);
-    double frames = 2.0 * BATCH * (double)rounds, ends = spent() - start;
-    printf("%zu bytes, way %d: %.1f calls a frame, %.0f frames a second\n", size, WAY, (double)calls / frames, frames / ends);
-    if (WAY != 0) return 0;
-    volatile uint32_t sink = 0;
-    start = spent();
-    for (uint64_t i = 0; i < rounds; i++) sink += again(links);
-    double floor_ns = (spent() - start) * 1e9 / (double)(rounds * count), ends_ns = ends * 1e9 / (double)(rounds * count);
-    printf("%zu bytes: %.1f ns an access; floor %.1f ns an access; %.2f times the floor\n", size, ends_ns, floor_ns, ends_ns / floor_ns);
+    for (uint64_t i = 0; i < rounds; i++) round_of(&a, &b, size);
+    double frames = 2.0 * BATCH * (double)rounds, seconds = spent() - start;
+    steps = a.link.counts.steps + b.link.counts.steps - steps;
+    printf("%zu bytes, way %d: %.1f calls a frame, %.0f frames a second\n", size, WAY, (double)steps / frames, frames / seconds);
+    if (WAY == 0) print_floor(seconds, rounds, size);
     return 0;
 }

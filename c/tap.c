@@ -17,14 +17,14 @@ static void stop(int number) {
     over = 1;
 }
 
-static void take(struct link *l, const uint8_t *frame, size_t length) {
-    (void)l;
+static void take(struct region *r, const uint8_t *frame, size_t length) {
+    (void)r;
     if (write(tap, frame, length) == (ssize_t)length) to_tap++;
     else lost++;
 }
 
-static void ring(struct link *l, uint32_t peer, uint32_t vector) {
-    (void)l, (void)peer, (void)vector;
+static void ring(struct region *r) {
+    (void)r;
     if (write(other_bell, "", 1) < 0 && errno != EAGAIN) perror("bell");
 }
 
@@ -47,21 +47,24 @@ static int open_tap(const char *name) {
     return file;
 }
 
-/* Takes frames of the TAP device to the link: 32 at most, and none after the link is full. A frame that found no room waits. */
-static bool send_some(struct link *l, uint8_t *frame, ssize_t *waiting, uint32_t longest) {
+/* Takes frames of the TAP device to the link: 32 at most, and none after the link is full. A frame
+ * that found no room waits. */
+static bool send_some(ivshm_link *link, uint8_t *frame, ssize_t *waiting) {
+    uint32_t outcome;
     bool moved = false;
     for (int i = 0; i < 32; i++) {
         if (*waiting == 0) {
             ssize_t length = read(tap, frame, IVSHM_LONGEST);
             if (length <= 0) break;
             from_tap++;
-            if (length < IVSHM_SHORTEST || length > longest) {
+            if (length < IVSHM_SHORTEST || length > link->layout.longest_offer) {
                 lost++;
                 continue;
             }
             *waiting = length;
         }
-        if (offer(l, frame, (size_t)*waiting) != IVSHM_ACCEPTED) break;
+        must(ivshm_link_send(link, frame, (size_t)*waiting, &outcome), "send");
+        if (outcome != IVSHM_ACCEPTED) break;
         *waiting = 0;
         moved = true;
     }
@@ -75,41 +78,46 @@ static void wait_for_work(bool waiting) {
     while (read(own_bell, drain, sizeof drain) == sizeof drain) {}
 }
 
-int main(int argc, char **argv) {
-    static struct link l;
+static void report(const ivshm_link *link) {
+    const ivshm_link_counts *counts = &link->counts;
+    printf("peer %u: %" PRIu64 " frames from the tap, %" PRIu64 " accepted, %" PRIu64 " delivered, %" PRIu64 " to the tap, %" PRIu64 " lost, %" PRIu64
+           " times full, %" PRIu64 " refusals, %" PRIu64 " stray accesses, %" PRIu64 " doorbells\n",
+           link->setup.me, from_tap, counts->accepted, counts->delivered, to_tap, lost, counts->full, counts->refusals, counts->stray, counts->rings);
+}
+
+/* Moves frames both ways until the program is to end or a value is refused. */
+static void run(ivshm_link *link) {
     static uint8_t frame[IVSHM_LONGEST];
     ssize_t waiting = 0;
     double ticked = 0;
-    uint32_t state = IVSHM_RESET;
-    if (argc != 6) return 2;
-    attach(&l, argv[1], (uint32_t)strtoul(argv[2], NULL, 10), strtoull(argv[3], NULL, 10), (uint32_t)strtoul(argv[4], NULL, 10), NULL);
-    l.deliver = take;
-    l.ring = ring;
-    own_bell = bell(argv[1], l.me);
-    other_bell = bell(argv[1], l.other);
-    tap = open_tap(argv[5]);
-    signal(SIGTERM, stop);
-    signal(SIGINT, stop);
-    uint32_t longest = view(&l).longest;
-    while (!over) {
+    while (!over && !link->counts.refusals) {
         if (now() - ticked > 0.01) {
-            call(&l, IVSHM_TICK);
+            must(ivshm_link_tick(link), "tick");
             ticked = now();
-            state = view(&l).state;
         }
-        if (l.refusals) break;
-        if (state != IVSHM_RUN) {
+        if (link->state != IVSHM_RUN) {
             usleep(1000);
             continue;
         }
-        uint64_t before = l.delivered;
-        call(&l, IVSHM_POLL);
-        bool moved = send_some(&l, frame, &waiting, longest);
-        if (!moved && l.delivered == before) wait_for_work(waiting > 0);
+        uint32_t delivered = ivshm_link_poll(link, IVSHM_LINK_ALL);
+        bool moved = send_some(link, frame, &waiting);
+        if (!moved && delivered == 0) wait_for_work(waiting > 0);
     }
-    detach(&l);
-    printf("peer %u: %" PRIu64 " frames from the tap, %" PRIu64 " accepted, %" PRIu64 " delivered, %" PRIu64 " to the tap, %" PRIu64 " lost, %" PRIu64
-           " times full, %" PRIu64 " refusals, %" PRIu64 " stray accesses, %" PRIu64 " doorbells\n",
-           l.me, from_tap, l.accepted, l.delivered, to_tap, lost, l.full, l.refusals, l.stray, l.rings);
-    return l.refusals || l.stray;
+}
+
+int main(int argc, char **argv) {
+    static struct region r;
+    if (argc != 6) return 2;
+    attach(&r, argv[1], (uint32_t)strtoul(argv[2], NULL, 10), strtoull(argv[3], NULL, 10), (uint32_t)strtoul(argv[4], NULL, 10), NULL);
+    r.deliver = take;
+    r.ring = ring;
+    own_bell = bell(argv[1], r.link.setup.me);
+    other_bell = bell(argv[1], 1 - r.link.setup.me);
+    tap = open_tap(argv[5]);
+    signal(SIGTERM, stop);
+    signal(SIGINT, stop);
+    run(&r.link);
+    detach(&r);
+    report(&r.link);
+    return r.link.counts.refusals || r.link.counts.stray;
 }

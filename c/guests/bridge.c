@@ -21,12 +21,13 @@ static const char *const states[] = {"RESET", "INIT", "READY", "RUN"};
 static volatile sig_atomic_t over, asked;
 
 struct bridge {
-    struct link link;
+    struct guest guest;
     struct doorbell bell;
     int tap;
-    uint32_t spin, idle, quiet, state, longest;
+    uint32_t spin, idle, quiet, state;
+    bool refused;
     double ticked, refused_at, allowed, counted_at;
-    uint64_t ticks, held, sessions, resets, from_tap, dropped, to_tap, lost, interrupts;
+    uint64_t ticks, held, resets, forgiven, from_tap, dropped, to_tap, lost, interrupts;
     size_t waiting; /* bytes of the frame that found no room yet */
     uint8_t frame[IVSHM_LONGEST];
 };
@@ -41,27 +42,28 @@ static void ask(int number) {
     asked = 1;
 }
 
-static void take(struct link *l, const uint8_t *frame, size_t length) {
-    struct bridge *b = l->context;
+static void take(struct guest *g, const uint8_t *frame, size_t length) {
+    struct bridge *b = g->context;
     if (write(b->tap, frame, length) == (ssize_t)length) b->to_tap++;
     else b->lost++;
 }
 
-static void ring(struct link *l, uint32_t peer, uint32_t vector) {
-    struct bridge *b = l->context;
+static void ring(struct guest *g, uint32_t peer, uint32_t vector) {
+    struct bridge *b = g->context;
     b->bell.registers[DOORBELL] = peer << 16 | vector;
 }
 
 static void write_counts(struct bridge *b, FILE *to) {
-    struct link *l = &b->link;
-    fprintf(to, "bridge %u: %s; sessions %" PRIu64 ", accepted %" PRIu64 ", delivered %" PRIu64 ", full %" PRIu64 ", stray %" PRIu64, l->me,
-            states[b->state], b->sessions, l->accepted, l->delivered, l->full, l->stray);
+    const ivshm_link *link = &b->guest.link;
+    const ivshm_link_counts *counts = &link->counts;
+    fprintf(to, "bridge %u: %s; sessions %" PRIu64 ", accepted %" PRIu64 ", delivered %" PRIu64 ", full %" PRIu64 ", stray %" PRIu64, link->setup.me,
+            states[b->state], counts->sessions, counts->accepted, counts->delivered, counts->full, counts->stray);
     fprintf(to, ", from the tap %" PRIu64 ", to the tap %" PRIu64 ", lost there %" PRIu64 ", dropped while down %" PRIu64, b->from_tap, b->to_tap, b->lost,
             b->dropped);
-    fprintf(to, ", ticks %" PRIu64 ", held back %" PRIu64 ", accesses %" PRIu64 ", rings %" PRIu64 ", interrupts %" PRIu64, b->ticks, b->held, l->accesses,
-            l->rings, b->interrupts);
-    fprintf(to, ", mended %" PRIu64 ", resets %" PRIu64 ", refused %" PRIu64 ":", l->mended, b->resets, l->refusals);
-    for (int i = 1; i < 8; i++) fprintf(to, " %s %" PRIu64, fields[i], l->refused[i]);
+    fprintf(to, ", ticks %" PRIu64 ", held back %" PRIu64 ", accesses %" PRIu64 ", rings %" PRIu64 ", interrupts %" PRIu64, b->ticks, b->held, counts->accesses,
+            counts->rings, b->interrupts);
+    fprintf(to, ", mended %" PRIu64 ", resets %" PRIu64 ", refused %" PRIu64 ":", b->guest.mended, b->resets, counts->refusals);
+    for (int i = 1; i < 8; i++) fprintf(to, " %s %" PRIu64, fields[i], counts->refused[i]);
     fprintf(to, "\n");
 }
 
@@ -90,13 +92,12 @@ static void set_carrier(struct bridge *b, int on) {
 
 /* What follows from the end's State, as it is by now. */
 static void follow(struct bridge *b) {
-    uint32_t state = view(&b->link).state, before = b->state;
+    uint32_t state = b->guest.link.state, before = b->state;
     b->state = state;
     if (before == IVSHM_INIT && state != IVSHM_INIT) b->allowed -= 1;
     if ((state == IVSHM_RUN) == (before == IVSHM_RUN)) return;
-    b->sessions += state == IVSHM_RUN;
     set_carrier(b, state == IVSHM_RUN);
-    fprintf(stderr, "bridge %u: %s at %.3f\n", b->link.me, states[state], now());
+    fprintf(stderr, "bridge %u: %s at %.3f\n", b->guest.link.setup.me, states[state], now());
 }
 
 /* May another session begin? */
@@ -110,12 +111,12 @@ static bool is_allowed(struct bridge *b, double time) {
 /* An end in INIT begins a session with its next Tick, if the other is there: that Tick is held back when there were too many. */
 static void tick(struct bridge *b, double time) {
     b->ticked = time;
-    mend(&b->link);
+    mend(&b->guest);
     if (!is_allowed(b, time) && b->state == IVSHM_INIT) {
         b->held++;
         return;
     }
-    call(&b->link, IVSHM_TICK);
+    must(ivshm_link_tick(&b->guest.link), "tick");
     b->ticks++;
     follow(b);
 }
@@ -123,10 +124,9 @@ static void tick(struct bridge *b, double time) {
 /* Takes what the other published; did anything come? */
 static bool receive(struct bridge *b) {
     if (b->state != IVSHM_RUN) return false;
-    uint64_t before = b->link.delivered;
-    call(&b->link, IVSHM_POLL);
+    uint32_t delivered = ivshm_link_poll(&b->guest.link, IVSHM_LINK_ALL);
     follow(b);
-    return b->link.delivered != before;
+    return delivered > 0;
 }
 
 /* The frame to be offered next is at hand; or there is none. Frames that can't be sent at all are dropped. */
@@ -135,7 +135,7 @@ static bool has_frame(struct bridge *b) {
         ssize_t length = read(b->tap, b->frame, sizeof b->frame);
         if (length <= 0) return false;
         b->from_tap++;
-        if (b->state != IVSHM_RUN || length < IVSHM_SHORTEST || length > b->longest) b->dropped++;
+        if (b->state != IVSHM_RUN || length < IVSHM_SHORTEST || length > b->guest.link.layout.longest_offer) b->dropped++;
         else b->waiting = (size_t)length;
     }
     return true;
@@ -146,7 +146,8 @@ static bool has_frame(struct bridge *b) {
 static bool send_some(struct bridge *b) {
     bool moved = false;
     for (int i = 0; i < 32 && has_frame(b); i++) {
-        uint32_t outcome = offer(&b->link, b->frame, b->waiting);
+        uint32_t outcome;
+        must(ivshm_link_send(&b->guest.link, b->frame, b->waiting, &outcome), "send");
         if (outcome == IVSHM_WAS_FULL) break;
         b->waiting = 0;
         if (outcome != IVSHM_ACCEPTED) {
@@ -161,16 +162,18 @@ static bool send_some(struct bridge *b) {
 
 /* An end that refused something stays in RESET until it is reset, some time later. */
 static void forgive(struct bridge *b, double time) {
-    ivshm_view told = view(&b->link);
-    if (!told.refused_field) return;
-    if (!b->refused_at) {
+    ivshm_link *link = &b->guest.link;
+    if (link->counts.refusals == b->forgiven) return;
+    if (!b->refused) {
+        b->refused = true;
         b->refused_at = time;
-        fprintf(stderr, "bridge %u: refused %s %" PRIu64 " at %.3f\n", b->link.me, fields[told.refused_field % 8], told.refused_value, time);
+        fprintf(stderr, "bridge %u: refused %s %" PRIu64 " at %.3f\n", link->setup.me, fields[link->refusal.field % 8], link->refusal.value, time);
     }
     if (time - b->refused_at < forgiven_after) return;
-    b->refused_at = 0;
+    b->refused = false;
+    b->forgiven = link->counts.refusals;
     b->resets++;
-    reset(&b->link);
+    must(ivshm_link_reset(link), "reset");
     follow(b);
 }
 
@@ -212,12 +215,12 @@ static void join(struct bridge *b, uint32_t me, size_t out, uint32_t mtu) {
         struct bar memory = open_doorbell(&b->bell, found.doorbell);
         if (b->bell.registers[OWN_NUMBER] != me) give_up("the doorbell is another peer's");
         if (count == 0) bars[count++] = memory;
-        b->link.ring = ring;
+        b->guest.ring = ring;
     }
-    b->link.context = b;
-    b->link.deliver = take;
-    map_peers(b->link.peers, bars, count, out, (bool[2]){me == 0, me == 1});
-    attach(&b->link, me, out, mtu);
+    b->guest.context = b;
+    b->guest.deliver = take;
+    map_peers(b->guest.peers, bars, count, out, (bool[2]){me == 0, me == 1});
+    attach(&b->guest, me, out, mtu);
     fprintf(stderr, "bridge %u: %s%s\n", me, count == 2 ? "apart" : "shared", found.doorbell[0] ? ", doorbells" : "");
 }
 
@@ -227,7 +230,6 @@ int main(int argc, char **argv) {
     join(&b, (uint32_t)strtoul(argv[1], NULL, 10), strtoul(argv[2], NULL, 10), (uint32_t)strtoul(argv[3], NULL, 10));
     b.spin = argc > 5 ? (uint32_t)strtoul(argv[5], NULL, 10) : 200;
     b.idle = argc > 6 ? (uint32_t)strtoul(argv[6], NULL, 10) : 100;
-    b.longest = view(&b.link).longest;
     b.allowed = sessions_at_once;
     b.counted_at = now();
     signal(SIGTERM, stop);
@@ -237,6 +239,6 @@ int main(int argc, char **argv) {
     run(&b);
     receive(&b);
     write_counts(&b, stderr);
-    detach(&b.link);
-    return b.link.stray != 0;
+    must(ivshm_link_close(&b.guest.link), "close");
+    return b.guest.link.counts.stray != 0;
 }

@@ -59,14 +59,14 @@ static inline void give_up(const char *why) {
 }
 
 static inline unsigned sysfs_number(const char *device, const char *name) {
-    char path[512];
-    unsigned number = 0;
+    char path[512], text[32];
+    unsigned long number = 0;
     snprintf(path, sizeof path, "%s/%s", device, name);
     FILE *file = fopen(path, "r");
     if (!file) return 0;
-    if (fscanf(file, "%x", &number) != 1) number = 0;
+    if (fgets(text, sizeof text, file)) number = strtoul(text, NULL, 16);
     fclose(file);
-    return number;
+    return (unsigned)number;
 }
 
 /* Both devices have the same numbers, but only the one with doorbells has a Base Address Register 1, where its vectors are. */

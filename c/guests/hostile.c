@@ -57,7 +57,7 @@ int main(int argc, char **argv) {
     if (argc != 5) return 2;
     const char *kind = argv[1];
     generator = strtoull(argv[4], NULL, 10) * 0x9e3779b97f4a7c15u + 1;
-    double end = now() + atof(argv[3]);
+    double end = now() + strtod(argv[3], NULL);
     if (!strcmp(kind, "rings")) return ring_until(end);
     int count = map_all((uint32_t)strtoul(argv[2], NULL, 10));
     while (now() < end) {

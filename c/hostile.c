@@ -23,7 +23,7 @@ int main(int argc, char **argv) {
     own_state = states + 1;
     his = states + TABLE / 4;
     own = states + TABLE / 4 + words;
-    double end = time_now() + atof(argv[3]);
+    double end = time_now() + strtod(argv[3], NULL);
     while (time_now() < end) session(end, (int)(draw() % KINDS), 20000);
     printf("hostile: %llu sessions, %llu rounds of stores\n", (unsigned long long)sessions, (unsigned long long)stores);
     return 0;

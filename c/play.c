@@ -64,7 +64,8 @@ static char *read_all(void)
         size += fread(text + size, 1, room - size - 1, stdin);
         if (size < room - 1)
             break;
-        text = realloc(text, room *= 2);
+        text = more(text, room, 1);
+        room *= 2;
     }
     if (!text)
         fail("out of memory");

@@ -4,6 +4,7 @@
  *   running FRAMES BYTES BOTH     so many frames of so many bytes from peer 0, and as many back where BOTH is 1
  *
  * It writes the lines of both ends' accesses, and on standard error the nanoseconds that the threads took. */
+#define _GNU_SOURCE
 #include <pthread.h>
 #include <stdatomic.h>
 #include <stdint.h>
@@ -23,7 +24,7 @@ static uint32_t frames, bytes, both;
 struct access { uint32_t kind, word, value; };
 
 struct end {
-  int me;
+  uint32_t me;
   uint32_t offered, freed, taken, offers, expects;
   struct access *list;
   size_t count, room;
@@ -38,9 +39,9 @@ static void note(struct end *end, uint32_t kind, uint32_t word, uint32_t value) 
   end->list[end->count++] = (struct access){kind, word, value};
 }
 
-static uint32_t look(int section, uint32_t word) { return atomic_load(&words[section][word]); }
+static uint32_t look(uint32_t section, uint32_t word) { return atomic_load(&words[section][word]); }
 
-static uint32_t load(struct end *end, int section, uint32_t word) {
+static uint32_t load(struct end *end, uint32_t section, uint32_t word) {
   uint32_t value = look(section, word);
   note(end, 'r', section * WORDS + word, value);
   return value;
@@ -70,7 +71,7 @@ static int offer(struct end *end) {
 
 /* the frames that are new: entry, descriptor and data of each, and its return */
 static int poll(struct end *end) {
-  int other = 1 - end->me;
+  uint32_t other = 1 - end->me;
   uint32_t index = look(other, AVAILABLE);
   if (index == end->taken) return 0;
   note(end, 'r', other * WORDS + AVAILABLE, index);
@@ -99,14 +100,14 @@ static void *drive(void *argument) {
 
 static void print(struct end *end) {
   for (size_t k = 0; k < end->count; k++)
-    printf("%c %d %u %u\n", end->list[k].kind, end->me, end->list[k].word, end->list[k].value);
+    printf("%c %u %u %u\n", (int)end->list[k].kind, end->me, end->list[k].word, end->list[k].value);
 }
 
 int main(int count, char **words_given) {
   if (count != 4) return 2;
-  frames = atoi(words_given[1]);
-  bytes = atoi(words_given[2]);
-  both = atoi(words_given[3]);
+  frames = (uint32_t)strtoul(words_given[1], NULL, 10);
+  bytes = (uint32_t)strtoul(words_given[2], NULL, 10);
+  both = (uint32_t)strtoul(words_given[3], NULL, 10);
   if (!frames || bytes < 14 || bytes > 4 * SLOT) return 2;
   struct end first = {.me = 0, .offers = frames, .expects = both ? frames : 0};
   struct end second = {.me = 1, .offers = both ? frames : 0, .expects = frames};

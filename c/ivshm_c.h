@@ -32,7 +32,8 @@
  *  2. An access is one load or one store of 32 bits of an aligned word, made once and in the order in which it was told: a store that was
  *     told before another access is visible before it. On x86 and ARM that is a sequentially consistent atomic access. A word holds its
  *     lowest byte first. Hand a read's value over as it was read; never read a word again. Some words may be read or written at once, as
- *     it stands at ivshm_end_took_reads; and the access tells which weaker order is enough, which is tested and not proved (docs/ORDERS.md).
+ *     it stands at ivshm_end_took_reads; and `order` says which weaker order is enough: docs/ORDERS.md has
+ *     what is proved of that, and over which memory.
  *  3. A handle is IVSHM_END_NONE, or what a call left there. It is never copied, and one call at a time has it. During a call it is null.
  *     One call may be made on one thread and the next on another, where a lock or the like orders them.
  *  4. Every other pointer is valid and aligned, and to memory that nothing else touches during the call. A pointer that comes with a
